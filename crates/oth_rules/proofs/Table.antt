@@ -1,0 +1,126 @@
+-- The tables of rays: the squares of each mask, in the ray's order, are the ray. The tables are computed.
+use Rattle.std.proofs.Common.{◌≡◌, ℕ, ◌<◌, Bool, true, false, ◌&&◌, ◌||◌, List, [], ◌∷◌, refl, ap, ◌∙◌}
+use Rattle.std.specs.Prelude.{bit_or, ◌==◌, slice_index_or}
+use Rattle.std.specs.List.{list_any}
+use Rattle.std.proofs.lemmas.Bool.{eqb-true, and_parts, agree_below, agree_below_at, false≢true}
+use Rattle.oth_rules.specs.Square.{Direction, Back, Stay, Forth, has, word_of, next, stepped, square_at, squares, directions, ray_from, ray, is_in}
+use Rattle.oth_rules.specs.Position.{Position}
+use Rattle.oth_rules.specs.Move.{outflanked, flipped_along}
+use Rattle.oth_rules.specs.Line.{rising, falling_below, falling}
+use Rattle.oth_rules.specs.declared.masks.TheConstants.{RISING, FALLING}
+use Rattle.oth_rules.proofs.Bits.{word_of-same}
+use Rattle.oth_rules.proofs.Words.{or_word}
+
+same_line : List ℕ → List ℕ → Bool
+same_line [] [] = true
+same_line [] (y ∷ ys) = false
+same_line (x ∷ xs) [] = false
+same_line (x ∷ xs) (y ∷ ys) = (x == y) && same_line xs ys
+
+same_line-is : (xs ys : List ℕ) → same_line xs ys ≡ true → xs ≡ ys
+unfolding same_line
+same_line-is [] [] e = refl
+same_line-is [] (y ∷ ys) e = absurd (false≢true e)
+same_line-is (x ∷ xs) [] e = absurd (false≢true e)
+same_line-is (x ∷ xs) (y ∷ ys) e =
+    let both = and_parts (x == y) (same_line xs ys) e in
+    ap (λ z. z ∷ xs) (eqb-true x y both.0) ∙ ap (λ zs. y ∷ zs) (same_line-is xs ys both.1)
+
+-- at each square, the mask of this index in a table is the ray in this direction
+is_ray : (ℕ → List ℕ) → List (List ℕ) → ℕ → Direction → ℕ → Bool
+is_ray in_order table i d s = same_line (in_order (slice_index_or (slice_index_or table s []) i 0)) (ray d s)
+
+outflanked_by : (in_order : ℕ → List ℕ) (table : List (List ℕ)) (i : ℕ) (d : Direction) (p : Position) (s : ℕ) (rays : List ℕ) (w : ℕ) → agree_below (is_ray in_order table i d) (λ _. true) 64 ≡ true → s < 64 →
+    rays ≡ slice_index_or table s [] → w ≡ word_of (is_in (outflanked p (in_order (slice_index_or rays i 0)))) → w ≡ word_of (is_in (flipped_along p s d))
+unfolding is_ray flipped_along
+outflanked_by in_order table i d p s rays w computed l r e =
+    e ∙ ap (λ xs. word_of (is_in (outflanked p (in_order (slice_index_or xs i 0))))) r
+    ∙ ap (λ xs. word_of (is_in (outflanked p xs)))
+    (same_line-is (in_order (slice_index_or (slice_index_or table s []) i 0)) (ray d s) (agree_below_at (is_ray in_order table i d) (λ _. true) 64 s computed l))
+
+north : agree_below (is_ray falling FALLING 0 (record { columns = Stay; rows = Back })) (λ _. true) 64 ≡ true
+unfolding is_ray same_line rising falling falling_below has squares ray ray_from next stepped square_at
+north = refl
+
+north_east : agree_below (is_ray falling FALLING 1 (record { columns = Forth; rows = Back })) (λ _. true) 64 ≡ true
+unfolding is_ray same_line rising falling falling_below has squares ray ray_from next stepped square_at
+north_east = refl
+
+east : agree_below (is_ray rising RISING 0 (record { columns = Forth; rows = Stay })) (λ _. true) 64 ≡ true
+unfolding is_ray same_line rising falling falling_below has squares ray ray_from next stepped square_at
+east = refl
+
+south_east : agree_below (is_ray rising RISING 1 (record { columns = Forth; rows = Forth })) (λ _. true) 64 ≡ true
+unfolding is_ray same_line rising falling falling_below has squares ray ray_from next stepped square_at
+south_east = refl
+
+south : agree_below (is_ray rising RISING 2 (record { columns = Stay; rows = Forth })) (λ _. true) 64 ≡ true
+unfolding is_ray same_line rising falling falling_below has squares ray ray_from next stepped square_at
+south = refl
+
+south_west : agree_below (is_ray rising RISING 3 (record { columns = Back; rows = Forth })) (λ _. true) 64 ≡ true
+unfolding is_ray same_line rising falling falling_below has squares ray ray_from next stepped square_at
+south_west = refl
+
+west : agree_below (is_ray falling FALLING 2 (record { columns = Back; rows = Stay })) (λ _. true) 64 ≡ true
+unfolding is_ray same_line rising falling falling_below has squares ray ray_from next stepped square_at
+west = refl
+
+north_west : agree_below (is_ray falling FALLING 3 (record { columns = Back; rows = Back })) (λ _. true) 64 ≡ true
+unfolding is_ray same_line rising falling falling_below has squares ray ray_from next stepped square_at
+north_west = refl
+
+or_eight : (a b c d e f g h : Bool) → (((((((a || b) || c) || d) || e) || f) || g) || h) ≡ (a || (b || (c || (d || (e || (f || (g || (h || false))))))))
+or_eight true b c d e f g h = refl
+or_eight false true c d e f g h = refl
+or_eight false false true d e f g h = refl
+or_eight false false false true e f g h = refl
+or_eight false false false false true f g h = refl
+or_eight false false false false false true g h = refl
+or_eight false false false false false false true h = refl
+or_eight false false false false false false false true = refl
+or_eight false false false false false false false false = refl
+
+or_words8 : (a b c d e f g h : ℕ) (A B C D E F G H : ℕ → Bool) → a ≡ word_of A → b ≡ word_of B → c ≡ word_of C → d ≡ word_of D → e ≡ word_of E → f ≡ word_of F → g ≡ word_of G → h ≡ word_of H →
+    bit_or (bit_or (bit_or (bit_or (bit_or (bit_or (bit_or a b) c) d) e) f) g) h ≡ word_of (λ q. A q || (B q || (C q || (D q || (E q || (F q || (G q || (H q || false))))))))
+or_words8 a b c d e f g h A B C D E F G H ea eb ec ed ee ef eg eh =
+    or_word (bit_or (bit_or (bit_or (bit_or (bit_or (bit_or a b) c) d) e) f) g) h (λ q. (((((A q || B q) || C q) || D q) || E q) || F q) || G q) H
+    (or_word (bit_or (bit_or (bit_or (bit_or (bit_or a b) c) d) e) f) g (λ q. ((((A q || B q) || C q) || D q) || E q) || F q) G
+    (or_word (bit_or (bit_or (bit_or (bit_or a b) c) d) e) f (λ q. (((A q || B q) || C q) || D q) || E q) F
+    (or_word (bit_or (bit_or (bit_or a b) c) d) e (λ q. ((A q || B q) || C q) || D q) E
+    (or_word (bit_or (bit_or a b) c) d (λ q. (A q || B q) || C q) D
+    (or_word (bit_or a b) c (λ q. A q || B q) C (or_word a b A B ea eb) ec) ed) ee) ef) eg) eh
+    ∙ word_of-same (λ q. ((((((A q || B q) || C q) || D q) || E q) || F q) || G q) || H q)
+    (λ q. A q || (B q || (C q || (D q || (E q || (F q || (G q || (H q || false))))))))
+    (λ q _. or_eight (A q) (B q) (C q) (D q) (E q) (F q) (G q) (H q))
+
+-- what is outflanked along the eight rays together
+pub all_rays : (p : Position) (s : ℕ) (up down : List ℕ) (a b c d e f g h : ℕ) → s < 64 → up ≡ slice_index_or RISING s [] → down ≡ slice_index_or FALLING s [] →
+    a ≡ word_of (is_in (outflanked p (falling (slice_index_or down 0 0)))) →
+    b ≡ word_of (is_in (outflanked p (falling (slice_index_or down 1 0)))) →
+    c ≡ word_of (is_in (outflanked p (rising (slice_index_or up 0 0)))) →
+    d ≡ word_of (is_in (outflanked p (rising (slice_index_or up 1 0)))) →
+    e ≡ word_of (is_in (outflanked p (rising (slice_index_or up 2 0)))) →
+    f ≡ word_of (is_in (outflanked p (rising (slice_index_or up 3 0)))) →
+    g ≡ word_of (is_in (outflanked p (falling (slice_index_or down 2 0)))) →
+    h ≡ word_of (is_in (outflanked p (falling (slice_index_or down 3 0)))) →
+    bit_or (bit_or (bit_or (bit_or (bit_or (bit_or (bit_or a b) c) d) e) f) g) h ≡ word_of (λ q. list_any (λ d. is_in (flipped_along p s d) q) directions)
+unfolding directions
+all_rays p s up down a b c d e f g h l u w ea eb ec ed ee ef eg eh =
+    or_words8 a b c d e f g h
+    (is_in (flipped_along p s (record { columns = Stay; rows = Back })))
+    (is_in (flipped_along p s (record { columns = Forth; rows = Back })))
+    (is_in (flipped_along p s (record { columns = Forth; rows = Stay })))
+    (is_in (flipped_along p s (record { columns = Forth; rows = Forth })))
+    (is_in (flipped_along p s (record { columns = Stay; rows = Forth })))
+    (is_in (flipped_along p s (record { columns = Back; rows = Forth })))
+    (is_in (flipped_along p s (record { columns = Back; rows = Stay })))
+    (is_in (flipped_along p s (record { columns = Back; rows = Back })))
+    (outflanked_by falling FALLING 0 (record { columns = Stay; rows = Back }) p s down a north l w ea)
+    (outflanked_by falling FALLING 1 (record { columns = Forth; rows = Back }) p s down b north_east l w eb)
+    (outflanked_by rising RISING 0 (record { columns = Forth; rows = Stay }) p s up c east l u ec)
+    (outflanked_by rising RISING 1 (record { columns = Forth; rows = Forth }) p s up d south_east l u ed)
+    (outflanked_by rising RISING 2 (record { columns = Stay; rows = Forth }) p s up e south l u ee)
+    (outflanked_by rising RISING 3 (record { columns = Back; rows = Forth }) p s up f south_west l u ef)
+    (outflanked_by falling FALLING 2 (record { columns = Back; rows = Stay }) p s down g west l w eg)
+    (outflanked_by falling FALLING 3 (record { columns = Back; rows = Back }) p s down h north_west l w eh)

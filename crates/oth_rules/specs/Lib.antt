@@ -1,0 +1,9 @@
+pub mod Square
+pub mod Position
+pub mod Move
+pub mod Score
+pub mod Symmetry
+pub mod Value
+pub mod Line
+pub mod Laws
+pub mod Exchange

@@ -1,0 +1,19 @@
+//! The rules of Othello over two words of discs: moves, flips, scores and symmetries, each equal to its
+//! definition over single squares.
+#![tactic(auto)]
+
+mod board;
+mod direction;
+pub mod laws;
+mod masks;
+mod scoring;
+mod square;
+mod sym;
+
+pub use board::{Board, Overlap};
+pub use scoring::Scoring;
+pub use square::Square;
+pub use sym::{Sym, map, unmap};
+
+#[cfg(test)]
+mod tests;
