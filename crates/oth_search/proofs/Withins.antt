@@ -1,0 +1,229 @@
+-- A loop over the replies with a window of any width (a node on the principal variation): what it keeps, and what follows.
+use Rattle.std.proofs.Common.{◌≡◌, ◌⊎◌, inl, inr, ⊎_elim, ℕ, true, false, arith, sym, ◌∙◌, subst, refl, w8, to_z, of_z}
+use Rattle.std.specs.Prelude.{ℤ, pos, negsuc, neg_ℤ, ◌-ℤ◌, ◌≤ℤ◌, ◌<ℤ◌}
+use Rattle.std.proofs.lemmas.Int.{ints, by_lt_z}
+use Rattle.oth_rules.specs.declared.scoring.Scoring.{Scoring}
+use Rattle.oth_rules.specs.Position.{Position, pass}
+use Rattle.oth_rules.specs.Move.{can_move, after}
+use Rattle.oth_rules.specs.Score.{score_of}
+use Rattle.oth_rules.specs.Value.{value}
+use Rattle.oth_rules.specs.Laws.{IsLegal, IsScore}
+use Rattle.oth_rules.proofs.SearchLaws.{value-move_bound, value-pass, value-over, IsScore-score_of}
+use Rattle.oth_search.specs.Bound.{BoundsAt, WithinAt, IsInner, IsInterval, Encloses, Decides, IsOpen, IsWindow}
+use Rattle.oth_search.proofs.SquareSets.{Takes}
+use Rattle.oth_search.proofs.Lasts.{IsGreater}
+use Rattle.oth_search.proofs.Replies.{NoneAbove, NoneAbove-next, NoneAbove-end}
+
+pub WithinAt-negated : (v alpha beta low high r s : ℤ) → low ≡ neg_ℤ beta → high ≡ neg_ℤ alpha → r ≡ neg_ℤ s → WithinAt v low high s → WithinAt (neg_ℤ v) alpha beta r
+WithinAt-negated v alpha beta low high r s e f k w = record {
+  score = record { low = omega (arith, ints, w.score.high); high = omega (arith, ints, w.score.low) };
+  above = λ h. let m : low <ℤ s = omega (arith, ints) in omega (arith, ints, w.below m);
+  below = λ h. let m : s <ℤ high = omega (arith, ints) in omega (arith, ints, w.above m);
+}
+
+-- a null window tells enough where its bound lies on one side of the window
+pub WithinAt-probe : (v alpha beta r : ℤ) → BoundsAt v alpha r → (r ≤ℤ alpha) ⊎ (beta ≤ℤ r) → alpha <ℤ beta → WithinAt v alpha beta r
+WithinAt-probe v alpha beta r b side wide = record {
+  score = b.score;
+  above = λ h. ⊎_elim (λ low. b.fails_low low) (λ high. absurd (omega (arith, ints, high))) side;
+  below = λ h. b.fails_high h;
+}
+
+pub WithinAt-same : (v w alpha beta low high r s : ℤ) → v ≡ w → alpha ≡ low → beta ≡ high → r ≡ s → WithinAt w low high s → WithinAt v alpha beta r
+WithinAt-same v w alpha beta low high r s e f k m h = rw (e, f, k, m) h
+
+-- what the loop keeps: the best is the value if it is above alpha and no other move gives more
+pub record WithinLoop (g : Scoring) (p : Position) (alpha beta : ℤ) (left : ℕ → Type 0) (best : ℤ) : Type 0 where
+  pub score : IsScore best
+  pub in_reach : best <ℤ beta
+  pub reached : alpha <ℤ best → best ≤ℤ value (score_of g) p
+  pub replies : NoneAbove g p left best
+
+pub WithinLoop-start : (g : Scoring) (p : Position) (alpha beta : ℤ) (left : ℕ → Type 0) (best : ℤ) → best ≡ negsuc 63 → IsInner alpha beta → NoneAbove g p left best → WithinLoop g p alpha beta left best
+WithinLoop-start g p alpha beta left best e w n = record {
+  score = record { low = omega (arith, ints); high = omega (arith, ints) };
+  in_reach = omega (arith, ints, w.low, w.ordered);
+  reached = λ h. absurd (omega (arith, ints, w.low));
+  replies = n;
+}
+
+-- what a reply above the lower end gives is at most the value
+reply_reached : (g : Scoring) (p : Position) (s : ℕ) (low beta r : ℤ) → IsLegal p s → WithinAt (neg_ℤ (value (score_of g) (after p s))) low beta r → low <ℤ r → r ≤ℤ value (score_of g) p
+reply_reached g p s low beta r legal w h = let gives = w.below h in let move = value-move_bound (score_of g) p s legal in omega (arith, ints)
+
+pub WithinLoop-next : (g : Scoring) (p : Position) (alpha beta : ℤ) (left : ℕ → Type 0) (s : ℕ) (rest : ℕ → Type 0) (best low r next : ℤ) → WithinLoop g p alpha beta left best → Takes left s rest → WithinAt (neg_ℤ (value (score_of g) (after p s))) low beta r → IsGreater alpha best low → r <ℤ beta → IsGreater best r next → WithinLoop g p alpha beta rest next
+WithinLoop-next g p alpha beta left s rest best low r next l k w from below most = record {
+  score = ⊎_elim (λ e. subst IsScore (sym e) l.score) (λ e. subst IsScore (sym e) w.score) most.one;
+  in_reach = ⊎_elim (λ e. omega (arith, ints, e, l.in_reach)) (λ e. omega (arith, ints, e)) most.one;
+  reached = λ h. ⊎_elim (λ e. old e h) (λ e. new e h) most.one;
+  replies = NoneAbove-next g p left s rest best next l.replies k most.left (let gives = w.above below in omega (arith, ints, gives, most.right));
+}
+  where
+    old : next ≡ best → alpha <ℤ next → next ≤ℤ value (score_of g) p
+    old e h = let reached = l.reached (omega (arith, ints, e, h)) in omega (arith, ints, e, reached)
+
+    new : next ≡ r → alpha <ℤ next → next ≤ℤ value (score_of g) p
+    new e h = by_lt_z best r
+        (λ better. let within : low <ℤ r = ⊎_elim (λ f. omega (arith, ints, e, f, h)) (λ f. omega (arith, ints, f, better)) from.one in
+        let reached = reply_reached g p s low beta r (l.replies.untried s k.member) w within in omega (arith, ints, e, reached))
+        (λ no_better. old (omega (arith, ints, e, no_better, most.left)) h)
+
+-- a reply at or above beta ends the loop
+pub WithinAt-cut : (g : Scoring) (p : Position) (alpha beta : ℤ) (left : ℕ → Type 0) (s : ℕ) (best low r : ℤ) → WithinLoop g p alpha beta left best → left s → WithinAt (neg_ℤ (value (score_of g) (after p s))) low beta r → IsGreater alpha best low → IsInner alpha beta → beta ≤ℤ r → WithinAt (value (score_of g) p) alpha beta r
+WithinAt-cut g p alpha beta left s best low r l h w from inner out =
+    let above : low <ℤ r = ⊎_elim (λ f. omega (arith, ints, f, inner.ordered, out)) (λ f. omega (arith, ints, f, l.in_reach, out)) from.one in
+    let reached = reply_reached g p s low beta r (l.replies.untried s h) w above in
+    record { score = w.score; above = λ k. absurd (omega (arith, ints, k, out)); below = λ _. reached }
+
+pub WithinAt-end : (g : Scoring) (p : Position) (alpha beta : ℤ) (left : ℕ → Type 0) (best : ℤ) → WithinLoop g p alpha beta left best → ((s : ℕ) → left s → ⊥) → can_move p ≡ true → WithinAt (value (score_of g) p) alpha beta best
+WithinAt-end g p alpha beta left best l none some = record {
+  score = l.score;
+  above = λ _. NoneAbove-end g p left best l.replies none some;
+  below = l.reached;
+}
+
+-- the window of a later move
+pub IsInner-next : (alpha beta best low : ℤ) → IsInner alpha beta → best <ℤ beta → IsGreater alpha best low → IsInner low beta
+IsInner-next alpha beta best low w wide from = record {
+  low = omega (arith, ints, w.low, from.left);
+  ordered = ⊎_elim (λ f. omega (arith, ints, f, w.ordered)) (λ f. omega (arith, ints, f, wide)) from.one;
+  high = w.high;
+}
+
+pub IsInner-negated : (alpha beta low high : ℤ) → low ≡ neg_ℤ beta → high ≡ neg_ℤ alpha → IsInner alpha beta → IsInner low high
+IsInner-negated alpha beta low high e f w = record {
+  low = omega (arith, ints, e, w.high);
+  ordered = omega (arith, ints, e, f, w.ordered);
+  high = omega (arith, ints, f, w.low);
+}
+
+pub IsInner-same : (alpha beta low high : ℤ) → low ≡ alpha → high ≡ beta → IsInner alpha beta → IsInner low high
+IsInner-same alpha beta low high e f w = rw (e, f) w
+
+-- a forced pass
+pub WithinAt-pass : (g : Scoring) (p q : Position) (alpha beta low high r s : ℤ) → q ≡ pass p → can_move p ≡ false → can_move q ≡ true → low ≡ neg_ℤ beta → high ≡ neg_ℤ alpha → r ≡ neg_ℤ s → WithinAt (value (score_of g) q) low high s → WithinAt (value (score_of g) p) alpha beta r
+WithinAt-pass g p q alpha beta low high r s is none some e f k w =
+    let turn = value-pass (score_of g) p none (rw is at some) in
+    let bound = WithinAt-negated (value (score_of g) q) alpha beta low high r s e f k w in
+    rw (turn, ← is) bound
+
+pub WithinAt-over : (g : Scoring) (p q : Position) (alpha beta r : ℤ) → q ≡ pass p → can_move p ≡ false → can_move q ≡ false → r ≡ score_of g p → WithinAt (value (score_of g) p) alpha beta r
+WithinAt-over g p q alpha beta r is none over e =
+    let v = value-over (score_of g) p none (rw is at over) in
+    record {
+      score = subst IsScore (sym e) (IsScore-score_of g p);
+      above = λ _. omega (arith, ints, e, v);
+      below = λ _. omega (arith, ints, e, v);
+    }
+
+-- ---- what a search with a window tells of a board with known bounds
+
+-- the window, cut to the known bounds
+pub IsInner-cut : (lower upper alpha beta low high : ℤ) → IsInterval lower upper → IsOpen lower upper alpha beta → IsWindow alpha beta → IsGreater alpha lower low → (high ≡ beta) ⊎ (high ≡ upper) → high ≤ℤ upper → IsInner low high
+IsInner-cut lower upper alpha beta low high i o w from to most = record {
+  low = omega (arith, ints, i.low, from.right);
+  ordered = ⊎_elim
+      (λ e. ⊎_elim (λ f. omega (arith, ints, e, f, w.ordered)) (λ f. omega (arith, ints, e, f, o.above)) to)
+      (λ e. ⊎_elim (λ f. omega (arith, ints, e, f, o.below)) (λ f. omega (arith, ints, e, f, o.wide)) to)
+      from.one;
+  high = omega (arith, ints, most, i.high);
+}
+
+-- a bound within the window of what the child gives, at the move's square
+pub WithinAt-reply : (g : Scoring) (p q : Position) (s : ℕ) (alpha beta low high r : ℤ) → q ≡ after p s → alpha ≡ low → beta ≡ high → WithinAt (neg_ℤ (value (score_of g) q)) low high r → WithinAt (neg_ℤ (value (score_of g) (after p s))) alpha beta r
+WithinAt-reply g p q s alpha beta low high r e f h w = rw (f, h, ← e) w
+
+pub WithinLoop-same : (g : Scoring) (p : Position) (alpha beta : ℤ) (left : ℕ → Type 0) (best t : ℤ) → best ≡ t → WithinLoop g p alpha beta left t → WithinLoop g p alpha beta left best
+WithinLoop-same g p alpha beta left best t e l = rw (e) l
+
+-- the known bounds after a search that lies below, above or inside the window
+
+pub record Narrowed (v lower upper alpha beta : ℤ) : Type 0 where
+  pub interval : IsInterval lower upper
+  pub encloses : Encloses lower upper v
+  pub decides : Decides lower upper alpha beta
+
+pub Narrowed-below : (v alpha beta lower upper low high found f : ℤ) → f ≡ found → IsInterval lower upper → Encloses lower upper v → WithinAt v low high found → found ≤ℤ low → low <ℤ high → IsGreater alpha lower low → Narrowed v lower f alpha beta
+Narrowed-below v alpha beta lower upper low high found f same i e w below open_ from =
+    let most : v ≤ℤ found = w.above (omega (arith, ints, below, open_)) in
+    let least = e.below in
+    rw (same) (record {
+      interval = record { low = i.low; ordered = omega (arith, ints, most, least); high = w.score.high };
+      encloses = record { below = least; above = most };
+      decides = ⊎_elim
+          (λ h. inr (inr (omega (arith, ints, h, below))))
+          (λ h. inl (omega (arith, ints, h, below, most, least)))
+          from.one;
+    })
+
+pub Narrowed-above : (v alpha beta lower upper low high found f : ℤ) → f ≡ found → IsInterval lower upper → Encloses lower upper v → WithinAt v low high found → high ≤ℤ found → low <ℤ high → (high ≡ beta) ⊎ (high ≡ upper) → Narrowed v f upper alpha beta
+Narrowed-above v alpha beta lower upper low high found f same i e w above open_ to =
+    let least : found ≤ℤ v = w.below (omega (arith, ints, above, open_)) in
+    let most = e.above in
+    rw (same) (record {
+      interval = record { low = w.score.low; ordered = omega (arith, ints, most, least); high = i.high };
+      encloses = record { below = least; above = most };
+      decides = ⊎_elim
+          (λ h. inr (inl (omega (arith, ints, h, above))))
+          (λ h. inl (omega (arith, ints, h, above, most, least)))
+          to;
+    })
+
+pub Narrowed-inside : (v alpha beta low high found f : ℤ) → f ≡ found → WithinAt v low high found → low <ℤ found → found <ℤ high → Narrowed v f f alpha beta
+Narrowed-inside v alpha beta low high found f same w above below =
+    let least = w.below above in
+    let most = w.above below in
+    rw (same) (record {
+      interval = record { low = w.score.low; ordered = omega (arith, ints); high = w.score.high };
+      encloses = record { below = least; above = most };
+      decides = inl refl;
+    })
+
+-- a value that a probe did not find above its threshold
+pub below_limit : (v lower upper limit beta : ℤ) → Encloses lower upper v → Decides lower upper limit beta → beta ≡ limit -ℤ negsuc 0 → lower ≤ℤ limit → v ≤ℤ limit
+below_limit v lower upper limit beta e d is low =
+    ⊎_elim
+    (λ one. omega (arith, ints, one, e.above, low))
+    (λ out. ⊎_elim (λ h. absurd (omega (arith, ints, h, low, is))) (λ h. omega (arith, ints, h, e.above)) out)
+    d
+
+pub Encloses-exactly : (v limit lower upper least : ℤ) → lower ≡ limit → upper ≡ limit → limit ≤ℤ least → least ≤ℤ v → v ≤ℤ limit → Encloses lower upper v
+Encloses-exactly v limit lower upper least e f at below above = record { below = omega (arith, ints, e, at, below); above = omega (arith, ints, f, above) }
+
+pub Decides-wider : (v lower upper limit alpha beta wide low : ℤ) → Encloses lower upper v → Decides lower upper alpha beta → beta ≡ limit → alpha ≡ low → v <ℤ limit → Decides lower upper low wide
+Decides-wider v lower upper limit alpha beta wide low e d is same less =
+    ⊎_elim inl (λ out. ⊎_elim (λ h. absurd (omega (arith, ints, h, is, e.below, less))) (λ h. inr (inr (omega (arith, ints, h, same)))) out) d
+
+pub Decides-same : (lower upper alpha beta low high : ℤ) → low ≡ alpha → high ≡ beta → Decides lower upper low high → Decides lower upper alpha beta
+Decides-same lower upper alpha beta low high e f d = rw (← e, ← f) d
+
+pub Narrowed-same : (v lower upper alpha beta l u : ℤ) → l ≡ lower → u ≡ upper → Narrowed v lower upper alpha beta → Narrowed v l u alpha beta
+Narrowed-same v lower upper alpha beta l u e f n = rw (e, f) n
+
+-- a value that a probe found below its upper end
+pub less_limit : (v lower upper limit alpha beta : ℤ) → Encloses lower upper v → Decides lower upper alpha beta → alpha ≡ limit -ℤ pos 1 → beta ≡ limit → lower <ℤ limit → v <ℤ limit
+less_limit v lower upper limit alpha beta e d is same low =
+    ⊎_elim
+    (λ one. omega (arith, ints, one, e.above, low))
+    (λ out. ⊎_elim (λ h. absurd (omega (arith, ints, h, low, same))) (λ h. omega (arith, ints, h, e.above, is)) out)
+    d
+
+pub one-same : (z x y x' y' : ℤ) → x' ≡ x → y' ≡ y → (z ≡ x') ⊎ (z ≡ y') → (z ≡ x) ⊎ (z ≡ y)
+one-same z x y x' y' e f one = ⊎_elim (λ h. inl (h ∙ e)) (λ h. inr (h ∙ f)) one
+
+-- a search above a bound that a probe found inside the window
+pub WithinAt-above : (v alpha beta found low r m : ℤ) → BoundsAt v alpha found → alpha <ℤ found → low ≡ found → WithinAt v low beta r → IsGreater found r m → WithinAt v alpha beta m
+WithinAt-above v alpha beta found low r m b above same w most = record {
+  score = ⊎_elim (λ e. subst IsScore (sym e) b.score) (λ e. subst IsScore (sym e) w.score) most.one;
+  above = λ h. let bound = w.above (omega (arith, ints, h, most.right)) in omega (arith, ints, bound, most.right);
+  below = λ h. ⊎_elim
+      (λ e. let least = b.fails_high above in omega (arith, ints, e, least))
+      (λ e. by_lt_z found r
+      (λ better. let least = w.below (omega (arith, ints, better, same)) in omega (arith, ints, e, least))
+      (λ no_better. let least = b.fails_high above in omega (arith, ints, e, no_better, least)))
+      most.one;
+}
+
+-- the threshold of a reply, as it is computed
+pub reply_threshold : (alpha beta : ℤ) → IsInner alpha beta → to_z w8 (of_z w8 (to_z w8 (of_z w8 (pos 0 -ℤ to_z w8 (of_z w8 alpha))) -ℤ pos 1)) ≡ neg_ℤ alpha -ℤ pos 1
+reply_threshold alpha beta w = let low = w.low in let ordered = w.ordered in let high = w.high in omega (arith, ints)

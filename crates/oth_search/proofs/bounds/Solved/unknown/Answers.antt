@@ -1,0 +1,6 @@
+use Rattle.oth_search.proofs.Enclosing.{Encloses-all}
+use Rattle.oth_search.proofs.bounds.Solved.unknown.Goals as goal
+
+pub invariant_of-result : goal.invariant_of-result
+invariant_of-result c =
+    record { encloses = Encloses-all c.args.scoring c.args.board _ _ c.all.ensures.lower c.all.ensures.upper }

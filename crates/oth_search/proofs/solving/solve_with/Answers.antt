@@ -1,0 +1,24 @@
+use Rattle.std.proofs.Common.{ap, refl, sym, ◌∙◌}
+use Rattle.oth_rules.specs.Move.{can_move}
+use Rattle.oth_rules.proofs.SearchLaws.{is_over-false}
+use Rattle.oth_search.proofs.Replies.{can_move-from_moves, can_move-from_none, can_move-after_pass}
+use Rattle.oth_search.proofs.solving.solve_with.Goals as goal
+
+pub solve_moves-passed-requires : goal.solve_moves-passed-requires
+solve_moves-passed-requires g c =
+    ap can_move c.unknown.ensures.board
+    ∙ can_move-after_pass c.args.board _ c.pass.ensures
+    (can_move-from_none c.args.board _ c.moves.ensures c.if-moves-eq0.true)
+    (is_over-false c.args.board (sym c.is_over.ensures ∙ c.if-is_over.false))
+
+pub before_pass-requires-clause-none : goal.before_pass-requires-clause-none
+before_pass-requires-clause-none g c = can_move-from_none c.args.board _ c.moves.ensures c.if-moves-eq0.true
+
+pub before_pass-requires-clause-some : goal.before_pass-requires-clause-some
+before_pass-requires-clause-some g c =
+    can_move-after_pass c.args.board _ refl
+    (can_move-from_none c.args.board _ c.moves.ensures c.if-moves-eq0.true)
+    (is_over-false c.args.board (sym c.is_over.ensures ∙ c.if-is_over.false))
+
+pub solve_moves-requires : goal.solve_moves-requires
+solve_moves-requires g c = ap can_move c.unknown-2.ensures.board ∙ can_move-from_moves c.args.board _ c.moves.ensures c.if-moves-eq0.false

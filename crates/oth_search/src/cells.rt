@@ -1,0 +1,42 @@
+ghost use Rattle.std.specs.Prelude.{◌≡◌, IfSome, IsNone};
+ghost use Rattle.oth_rules.specs.Symmetry.{IsCanonical};
+
+use crate::entry::Entry;
+use oth_rules::{Board, Scoring};
+
+/// Where a search keeps what it found. Nothing is promised of what is kept, but that `look` gives only an entry of the board
+/// and scoring that it is asked for.
+pub trait Cells {
+    /// What no call changes, as the table on which the cells stand.
+    ghost Fixed: { Type 0 };
+
+    ghost fixed: { Self → Fixed };
+
+    /// An entry of a canonical board by the asked scoring, if one is kept.
+    fn look(&mut self, board: &Board, scoring: Scoring) -> Option<Entry>
+        requires { IsCanonical board.now }
+        ensures asked { IfSome result (λ e. (e.board ≡ board.now) × (e.scoring ≡ scoring)) }
+        ensures fixed { fixed self.new ≡ fixed self.old };
+
+    /// Offers an entry. The cells are free to drop it.
+    fn put(&mut self, entry: &Entry)
+        ensures fixed { fixed self.new ≡ fixed self.old };
+}
+
+/// Cells that keep nothing: each look is `None`.
+#[derive(Clone, Copy)]
+pub struct NoCells;
+
+impl Cells for NoCells {
+    ghost Fixed = { Unit {0} };
+
+    ghost fixed = { λ c. tt };
+
+    fn look(&mut self, _board: &Board, _scoring: Scoring) -> Option<Entry>
+        ensures none { IsNone result }
+    {
+        None
+    }
+
+    fn put(&mut self, _entry: &Entry) {}
+}

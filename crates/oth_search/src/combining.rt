@@ -1,0 +1,82 @@
+//! Bounds of a board by bounds of boards below it.
+ghost use Rattle.std.specs.Prelude.{◌≡◌, true, false};
+ghost use Rattle.oth_rules.specs.Position.{pass};
+ghost use Rattle.oth_rules.specs.Move.{can_move};
+
+use crate::bounds::{Interval, Solved};
+use crate::ordering::order;
+use crate::searching::greater;
+use oth_rules::{Board, Scoring};
+
+/// What these tell of the board itself.
+pub fn known_of(board: Board, known: &[Solved], scoring: Scoring) -> Solved
+    ensures board { result.board ≡ board }
+    ensures scoring { result.scoring ≡ scoring }
+{
+    for solved in known {
+        if solved.board == board && solved.scoring == scoring {
+            return *solved;
+        }
+    }
+    Solved::unknown(board, scoring)
+}
+
+/// What these tell of the board by the boards so many plies below it. A forced pass is no ply.
+#[cycle(combining)]
+pub fn known_below(board: Board, plies: u8, known: &[Solved], scoring: Scoring) -> Solved
+    ensures board { result.board ≡ board }
+    ensures scoring { result.scoring ≡ scoring }
+{
+    if board.moves() != 0 {
+        return known_by_moves(board, plies, known, scoring);
+    }
+    let passed = board.pass();
+    if passed.moves() != 0 {
+        return turned(board, known_by_moves(passed, plies, known, scoring));
+    }
+    known_of(board, known, scoring)
+}
+
+/// The same, where the mover has a move.
+#[cycle(combining)]
+fn known_by_moves(board: Board, plies: u8, known: &[Solved], scoring: Scoring) -> Solved
+    requires { can_move board ≡ true }
+    ensures board { result.board ≡ board }
+    ensures scoring { result.scoring ≡ scoring }
+{
+    if plies == 0 {
+        return known_of(board, known, scoring);
+    }
+    let mut lower = -64;
+    let mut upper = -64;
+    let squares = order(&board);
+    for square in squares.as_slice() {
+        let child = board.play_legal(*square);
+        let reply = known_below(child, plies - 1, known, scoring).interval;
+        lower = greater(lower, -reply.upper);
+        upper = greater(upper, -reply.lower);
+    }
+    Solved {
+        board,
+        scoring,
+        interval: Interval { lower, upper },
+    }
+}
+
+/// The bounds of a board whose mover must pass.
+fn turned(board: Board, passed: Solved) -> Solved
+    requires passed { passed.board ≡ pass board }
+    requires none { can_move board ≡ false }
+    requires some { can_move (pass board) ≡ true }
+    ensures board { result.board ≡ board }
+    ensures scoring { result.scoring ≡ passed.scoring }
+{
+    Solved {
+        board,
+        scoring: passed.scoring,
+        interval: Interval {
+            lower: -passed.interval.upper,
+            upper: -passed.interval.lower,
+        },
+    }
+}

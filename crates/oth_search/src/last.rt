@@ -1,0 +1,270 @@
+//! Searches of boards with at most four empty squares, square by square.
+ghost use Rattle.std.specs.Prelude.{◌≡◌, ◌<◌, ℕ, List, [], ◌∷◌, IfSome};
+ghost use Rattle.oth_rules.specs.Square.{word_of};
+ghost use Rattle.oth_rules.specs.Position.{is_empty};
+ghost use Rattle.oth_rules.specs.Score.{score_of};
+ghost use Rattle.oth_rules.specs.declared.scoring.Scoring.{Scoring as ScoringBy};
+ghost use Rattle.oth_rules.specs.Value.{value};
+ghost use Rattle.oth_search.specs.Bound.{BoundsAt, IsThreshold};
+ghost use Rattle.oth_search.specs.Lasts.{Leaves, GivesAt, MovesAt};
+
+use crate::searching::greater;
+use crate::squares::{flips_at, odd_quadrants, preferred, without};
+use oth_rules::{Board, Scoring, Square};
+
+/// Less than each score: there is no move.
+const NO_MOVE: i8 = -65;
+
+/// A bound of the value, where at most four squares are empty.
+pub fn probe_last(board: Board, alpha: i8, scoring: Scoring) -> Option<i8>
+    requires { IsThreshold alpha }
+    ensures { IfSome result (λ r. BoundsAt (value (score_of scoring) board) alpha r) }
+{
+    let rest = board.empty_squares();
+    if rest == 0 {
+        return Some(board.final_score(scoring));
+    }
+    let odd = odd_quadrants(rest);
+    let a = preferred(rest, odd);
+    let rest = without(rest, a);
+    if rest == 0 {
+        return Some(last_one(board, a, scoring));
+    }
+    let b = preferred(rest, odd);
+    let rest = without(rest, b);
+    if rest == 0 {
+        return Some(last_two(board, alpha, a, b, scoring));
+    }
+    let c = preferred(rest, odd);
+    let rest = without(rest, c);
+    if rest == 0 {
+        return Some(last_three(board, alpha, a, b, c, scoring));
+    }
+    let d = preferred(rest, odd);
+    if without(rest, d) == 0 {
+        return Some(last_four(board, alpha, a, b, c, d, scoring));
+    }
+    None
+}
+
+fn last_one(board: Board, a: Square, scoring: Scoring) -> i8
+    requires on_board { a < 64 }
+    requires last { Leaves board (a ∷ []) }
+    ensures { result ≡ value (score_of scoring) board }
+{
+    let flips = flips_at(&board, a);
+    if flips != 0 {
+        return -full_score(&board.play_flipped(a, flips));
+    }
+    let passed = board.pass();
+    let flips = flips_at(&passed, a);
+    if flips != 0 {
+        return full_score(&passed.play_flipped(a, flips));
+    }
+    board.final_score(scoring)
+}
+
+/// The score of a full board, which is the same by each scoring.
+fn full_score(board: &Board) -> i8
+    requires { Leaves board.now [] }
+    ensures { (g : ScoringBy) → result ≡ score_of g board.now }
+{
+    let half = board.own().count_ones() as i8 - 32;
+    half + half
+}
+
+fn last_two(board: Board, alpha: i8, a: Square, b: Square, scoring: Scoring) -> i8
+    requires threshold { IsThreshold alpha }
+    requires a_on_board { a < 64 }
+    requires b_on_board { b < 64 }
+    requires last { Leaves board (a ∷ b ∷ []) }
+    ensures { BoundsAt (value (score_of scoring) board) alpha result }
+{
+    let found = moves_two(board, alpha, a, b, scoring);
+    if found != NO_MOVE {
+        return found;
+    }
+    let passed = board.pass();
+    let found = moves_two(passed, -alpha - 1, a, b, scoring);
+    if found != NO_MOVE {
+        return -found;
+    }
+    board.final_score(scoring)
+}
+
+fn moves_two(board: Board, alpha: i8, a: Square, b: Square, scoring: Scoring) -> i8
+    requires threshold { IsThreshold alpha }
+    requires a_on_board { a < 64 }
+    requires b_on_board { b < 64 }
+    requires last { Leaves board (a ∷ b ∷ []) }
+    ensures { MovesAt (score_of scoring) board alpha result }
+{
+    let best = reply_one(board, alpha, a, b, scoring);
+    if best > alpha {
+        return best;
+    }
+    greater(best, reply_one(board, alpha, b, a, scoring))
+}
+
+/// A move to `square`, with one more empty square.
+fn reply_one(board: Board, alpha: i8, square: Square, a: Square, scoring: Scoring) -> i8
+    requires threshold { IsThreshold alpha }
+    requires on_board { square < 64 }
+    requires a_on_board { a < 64 }
+    requires last { Leaves board (square ∷ a ∷ []) }
+    ensures { GivesAt (score_of scoring) board square alpha result }
+{
+    let flips = flips_at(&board, square);
+    if flips == 0 {
+        return NO_MOVE;
+    }
+    -last_one(board.play_flipped(square, flips), a, scoring)
+}
+
+fn last_three(board: Board, alpha: i8, a: Square, b: Square, c: Square, scoring: Scoring) -> i8
+    requires threshold { IsThreshold alpha }
+    requires a_on_board { a < 64 }
+    requires b_on_board { b < 64 }
+    requires c_on_board { c < 64 }
+    requires last { Leaves board (a ∷ b ∷ c ∷ []) }
+    ensures { BoundsAt (value (score_of scoring) board) alpha result }
+{
+    let found = moves_three(board, alpha, a, b, c, scoring);
+    if found != NO_MOVE {
+        return found;
+    }
+    let passed = board.pass();
+    let found = moves_three(passed, -alpha - 1, a, b, c, scoring);
+    if found != NO_MOVE {
+        return -found;
+    }
+    board.final_score(scoring)
+}
+
+fn moves_three(board: Board, alpha: i8, a: Square, b: Square, c: Square, scoring: Scoring) -> i8
+    requires threshold { IsThreshold alpha }
+    requires a_on_board { a < 64 }
+    requires b_on_board { b < 64 }
+    requires c_on_board { c < 64 }
+    requires last { Leaves board (a ∷ b ∷ c ∷ []) }
+    ensures { MovesAt (score_of scoring) board alpha result }
+{
+    let best = reply_two(board, alpha, a, b, c, scoring);
+    if best > alpha {
+        return best;
+    }
+    let best = greater(best, reply_two(board, alpha, b, a, c, scoring));
+    if best > alpha {
+        return best;
+    }
+    greater(best, reply_two(board, alpha, c, a, b, scoring))
+}
+
+/// A move to `square`, with two more empty squares.
+fn reply_two(board: Board, alpha: i8, square: Square, a: Square, b: Square, scoring: Scoring) -> i8
+    requires threshold { IsThreshold alpha }
+    requires on_board { square < 64 }
+    requires a_on_board { a < 64 }
+    requires b_on_board { b < 64 }
+    requires last { Leaves board (square ∷ a ∷ b ∷ []) }
+    ensures { GivesAt (score_of scoring) board square alpha result }
+{
+    let flips = flips_at(&board, square);
+    if flips == 0 {
+        return NO_MOVE;
+    }
+    -last_two(board.play_flipped(square, flips), -alpha - 1, a, b, scoring)
+}
+
+fn last_four(
+    board: Board,
+    alpha: i8,
+    a: Square,
+    b: Square,
+    c: Square,
+    d: Square,
+    scoring: Scoring,
+) -> i8
+    requires threshold { IsThreshold alpha }
+    requires a_on_board { a < 64 }
+    requires b_on_board { b < 64 }
+    requires c_on_board { c < 64 }
+    requires d_on_board { d < 64 }
+    requires last { Leaves board (a ∷ b ∷ c ∷ d ∷ []) }
+    ensures { BoundsAt (value (score_of scoring) board) alpha result }
+{
+    let found = moves_four(board, alpha, a, b, c, d, scoring);
+    if found != NO_MOVE {
+        return found;
+    }
+    let passed = board.pass();
+    let found = moves_four(passed, -alpha - 1, a, b, c, d, scoring);
+    if found != NO_MOVE {
+        return -found;
+    }
+    board.final_score(scoring)
+}
+
+fn moves_four(
+    board: Board,
+    alpha: i8,
+    a: Square,
+    b: Square,
+    c: Square,
+    d: Square,
+    scoring: Scoring,
+) -> i8
+    requires threshold { IsThreshold alpha }
+    requires a_on_board { a < 64 }
+    requires b_on_board { b < 64 }
+    requires c_on_board { c < 64 }
+    requires d_on_board { d < 64 }
+    requires last { Leaves board (a ∷ b ∷ c ∷ d ∷ []) }
+    ensures { MovesAt (score_of scoring) board alpha result }
+{
+    let best = reply_three(board, alpha, a, b, c, d, scoring);
+    if best > alpha {
+        return best;
+    }
+    let best = greater(best, reply_three(board, alpha, b, a, c, d, scoring));
+    if best > alpha {
+        return best;
+    }
+    let best = greater(best, reply_three(board, alpha, c, a, b, d, scoring));
+    if best > alpha {
+        return best;
+    }
+    greater(best, reply_three(board, alpha, d, a, b, c, scoring))
+}
+
+/// A move to `square`, with three more empty squares.
+fn reply_three(
+    board: Board,
+    alpha: i8,
+    square: Square,
+    a: Square,
+    b: Square,
+    c: Square,
+    scoring: Scoring,
+) -> i8
+    requires threshold { IsThreshold alpha }
+    requires on_board { square < 64 }
+    requires a_on_board { a < 64 }
+    requires b_on_board { b < 64 }
+    requires c_on_board { c < 64 }
+    requires last { Leaves board (square ∷ a ∷ b ∷ c ∷ []) }
+    ensures { GivesAt (score_of scoring) board square alpha result }
+{
+    let flips = flips_at(&board, square);
+    if flips == 0 {
+        return NO_MOVE;
+    }
+    -last_three(
+        board.play_flipped(square, flips),
+        -alpha - 1,
+        a,
+        b,
+        c,
+        scoring,
+    )
+}

@@ -1,0 +1,33 @@
+//! The search: windows, the order of moves, and values that are true by construction.
+#![tactic(auto)]
+
+mod answer;
+mod bounds;
+mod candidate;
+mod cells;
+mod combining;
+mod deep;
+mod entry;
+mod kind;
+mod last;
+mod lifting;
+mod ordering;
+mod probe;
+mod searching;
+mod solving;
+mod squares;
+mod window;
+
+pub use answer::Answer;
+pub use bounds::{Interval, Solved};
+pub use cells::{Cells, NoCells};
+pub use combining::{known_below, known_of};
+pub use entry::Entry;
+pub use kind::Kind;
+pub use lifting::NotChild;
+pub use ordering::order;
+pub use searching::search;
+pub use solving::{TooManyEmpties, before_pass, ended, solve_alone, solve_moves, solve_with};
+
+#[cfg(test)]
+mod tests;

@@ -1,0 +1,122 @@
+ghost use Rattle.std.specs.Prelude.{◌≡◌, ℕ, ℤ, ◌<◌, neg_ℤ, pos, true, ◌⊎◌, ◌≤ℤ◌, ◌<ℤ◌};
+ghost use Rattle.oth_rules.specs.Position.{pass};
+ghost use Rattle.oth_rules.specs.Move.{can_move};
+ghost use Rattle.oth_rules.specs.Score.{score_of};
+ghost use Rattle.oth_rules.specs.Value.{value};
+ghost use Rattle.oth_rules.specs.Symmetry.{canonical, IsCanonical};
+ghost use Rattle.oth_search.specs.Bound.{BoundsAt, IsThreshold, IsWindow, Encloses, Decides, IsOpen, Splits};
+
+use crate::answer::Answer;
+use crate::bounds::{Interval, Solved};
+use crate::cells::Cells;
+use crate::deep::known;
+use crate::entry::Entry;
+use crate::window::search_window;
+use oth_rules::{Board, Scoring};
+
+/// Bounds of the value of the board that decide the window `alpha..beta`, `-65 <= alpha < beta <= 65`: they are one number, or
+/// the lower is at least `beta`, or the upper at most `alpha`. Unless the board is over it is first looked up in its canonical
+/// form, and what was found is put unless the entry decided.
+pub fn search<C: Cells>(
+    board: &Board,
+    alpha: i8,
+    beta: i8,
+    cells: &mut C,
+    scoring: Scoring,
+) -> Interval
+    requires { IsWindow alpha beta }
+    ensures encloses { Encloses result.lower result.upper (value (score_of scoring) board.now) }
+    ensures decides { Decides result.lower result.upper alpha beta }
+    ensures fixed { C.fixed cells.new ≡ C.fixed cells.old }
+{
+    if board.is_over() {
+        return Interval::exactly(board.final_score(scoring));
+    }
+    let found = known(&board.canonical().0, cells, scoring);
+    if found.interval.decides(alpha, beta) {
+        return found.interval;
+    }
+    let solved = narrow(*board, found, alpha, beta, cells);
+    let interval = solved.interval;
+    cells.put(&Entry::canonical(&solved));
+    interval
+}
+
+impl Solved {
+    /// The board with the bounds that `search` finds.
+    pub fn by_search<C: Cells>(
+        board: &Board,
+        alpha: i8,
+        beta: i8,
+        cells: &mut C,
+        scoring: Scoring,
+    ) -> Solved
+        requires { IsWindow alpha beta }
+        ensures board { result.board ≡ board.now }
+        ensures scoring { result.scoring ≡ scoring }
+        ensures decides { Decides result.interval.lower result.interval.upper alpha beta }
+        ensures fixed { C.fixed cells.new ≡ C.fixed cells.old }
+    {
+        let interval = search(board, alpha, beta, cells, scoring);
+        Solved {
+            board: *board,
+            scoring,
+            interval,
+        }
+    }
+
+    /// The board of an answer with its score as both bounds.
+    pub fn of_answer(answer: &Answer) -> Solved
+        ensures board { result.board ≡ answer.now.board }
+        ensures scoring { result.scoring ≡ answer.now.scoring }
+        ensures lower { result.interval.lower ≡ answer.now.score }
+        ensures upper { result.interval.upper ≡ answer.now.score }
+    {
+        Solved {
+            board: answer.board,
+            scoring: answer.scoring,
+            interval: Interval::exactly(answer.score),
+        }
+    }
+}
+
+/// Narrows what is known of the canonical image until it decides the window, by a search of the board.
+fn narrow<C: Cells>(board: Board, known: Solved, alpha: i8, beta: i8, cells: &mut C) -> Solved
+    requires window { IsWindow alpha beta }
+    requires open { IsOpen known.interval.lower known.interval.upper alpha beta }
+    requires image { known.board ≡ canonical board }
+    ensures board { result.board ≡ known.board }
+    ensures scoring { result.scoring ≡ known.scoring }
+    ensures decides { Decides result.interval.lower result.interval.upper alpha beta }
+    ensures fixed { C.fixed cells.new ≡ C.fixed cells.old }
+{
+    let low = greater(alpha, known.interval.lower);
+    let high = lesser(beta, known.interval.upper);
+    let found = search_window(board, low, high, cells, known.scoring);
+    if found <= low {
+        return Solved::between(known.board, known.scoring, known.interval.lower, found);
+    }
+    if found >= high {
+        return Solved::between(known.board, known.scoring, found, known.interval.upper);
+    }
+    Solved::between(known.board, known.scoring, found, found)
+}
+
+/// The greater of two scores.
+pub fn greater(a: i8, b: i8) -> i8
+    ensures left { a ≤ℤ result }
+    ensures right { b ≤ℤ result }
+    ensures one { (result ≡ a) ⊎ (result ≡ b) }
+    ensures least { (z : ℤ) → a <ℤ z → b <ℤ z → result <ℤ z }
+{
+    if a > b { a } else { b }
+}
+
+fn lesser(a: i8, b: i8) -> i8
+    ensures left { result ≤ℤ a }
+    ensures right { result ≤ℤ b }
+    ensures one { (result ≡ a) ⊎ (result ≡ b) }
+    ensures greatest { (z : ℤ) → z <ℤ a → z <ℤ b → z <ℤ result }
+{
+    if a < b { a } else { b }
+}

@@ -1,0 +1,181 @@
+//! The score and all best moves of a board.
+ghost use Rattle.std.specs.Prelude.{◌≡◌, ◌<◌, ◌↔◌, negsuc, pos, ◌+ℤ◌, ◌≤ℤ◌, true, false, IsErr, IfOk, IfErr};
+ghost use Rattle.oth_rules.specs.Position.{empty_count, pass};
+ghost use Rattle.oth_rules.specs.Move.{can_move, is_over};
+ghost use Rattle.oth_rules.specs.Score.{score_of};
+ghost use Rattle.oth_rules.specs.Value.{value};
+ghost use Rattle.oth_rules.specs.Laws.{IsScore};
+ghost use Rattle.oth_search.specs.Bound.{Encloses, Decides};
+
+use crate::answer::Answer;
+use crate::bounds::{Interval, Solved};
+use crate::cells::{Cells, NoCells};
+use crate::combining::known_of;
+use crate::kind::Kind;
+use crate::ordering::order;
+use crate::searching::search;
+use crate::squares::with;
+use oth_rules::{Board, Scoring};
+
+/// Refusal 1: a board with more empty squares than are solved, with their number.
+#[derive(Clone, Copy, PartialEq, Eq, Debug)]
+pub struct TooManyEmpties {
+    pub empties: u8,
+}
+
+/// The most empty squares of a board that is solved.
+pub const MOST_EMPTIES: u8 = 30;
+
+/// The score and all best moves of a board of at most 30 empty squares, by the caller's thread alone.
+pub fn solve_alone(board: &Board, scoring: Scoring) -> Result<Answer, TooManyEmpties>
+    ensures refused { IsErr result ↔ (30 < empty_count board.now) }
+    ensures counted { IfErr result (λ e. e.empties ≡ empty_count board.now) }
+    ensures solved { IfOk result (λ a. (a.board ≡ board.now) × (a.scoring ≡ scoring)) }
+{
+    let empties = board.empties();
+    if empties > MOST_EMPTIES {
+        return Err(TooManyEmpties { empties });
+    }
+    Ok(solve_with(*board, &mut NoCells, scoring))
+}
+
+/// The answer of a board, by a search over the cells.
+pub fn solve_with<C: Cells>(board: Board, cells: &mut C, scoring: Scoring) -> Answer
+    ensures board { result.board ≡ board }
+    ensures scoring { result.scoring ≡ scoring }
+    ensures fixed { C.fixed cells.new ≡ C.fixed cells.old }
+{
+    if board.is_over() {
+        return ended(board, scoring);
+    }
+    if board.moves() == 0 {
+        let passed = solve_moves(Solved::unknown(board.pass(), scoring), &[], cells);
+        return before_pass(board, passed);
+    }
+    solve_moves(Solved::unknown(board, scoring), &[], cells)
+}
+
+/// The answer of a board that is over.
+pub fn ended(board: Board, scoring: Scoring) -> Answer
+    requires { is_over board ≡ true }
+    ensures board { result.board ≡ board }
+    ensures scoring { result.scoring ≡ scoring }
+{
+    Answer {
+        board,
+        scoring,
+        score: board.final_score(scoring),
+        best: 0,
+        kind: Kind::End,
+    }
+}
+
+/// The answer of a board whose mover must pass, by that of the board after the pass.
+pub fn before_pass(board: Board, passed: Answer) -> Answer
+    requires passed { passed.board ≡ pass board }
+    requires none { can_move board ≡ false }
+    requires some { can_move (pass board) ≡ true }
+    ensures board { result.board ≡ board }
+    ensures scoring { result.scoring ≡ passed.scoring }
+{
+    Answer {
+        board,
+        scoring: passed.scoring,
+        score: -passed.score,
+        best: 0,
+        kind: Kind::Pass,
+    }
+}
+
+/// The answer of a root whose mover has a move. The score starts at the root's lower bound, and only moves that reach it are
+/// searched to the end. `known` may tell of the boards after the root's moves: such a board is searched only where that leaves
+/// open whether its move is exact or worse than the score.
+pub fn solve_moves<C: Cells>(root: Solved, known: &[Solved], cells: &mut C) -> Answer
+    requires { can_move root.board ≡ true }
+    ensures board { result.board ≡ root.board }
+    ensures scoring { result.scoring ≡ root.scoring }
+    ensures fixed { C.fixed cells.new ≡ C.fixed cells.old }
+{
+    let mut score = root.interval.lower;
+    let mut best = 0;
+    let squares = order(&root.board);
+    for square in squares.as_slice() {
+        let child = root.board.play_legal(*square);
+        let reply = reply_below(&child, -score, known, cells, root.scoring);
+        if reply.lower > -score {
+            continue;
+        }
+        if -reply.lower > score {
+            score = -reply.lower;
+            best = with(0, *square);
+        } else {
+            best = with(best, *square);
+        }
+    }
+    Answer {
+        board: root.board,
+        scoring: root.scoring,
+        score,
+        best,
+        kind: Kind::Move,
+    }
+}
+
+/// The value of a board, or a lower bound of it above the limit: by what is known, or else by a search.
+fn reply_below<C: Cells>(
+    board: &Board,
+    limit: i8,
+    known: &[Solved],
+    cells: &mut C,
+    scoring: Scoring,
+) -> Interval
+    requires { IsScore limit }
+    ensures encloses { Encloses result.lower result.upper (value (score_of scoring) board.now) }
+    ensures decides { Decides result.lower result.upper (negsuc 64) (limit +ℤ pos 1) }
+    ensures fixed { C.fixed cells.new ≡ C.fixed cells.old }
+{
+    let told = known_of(*board, known, scoring);
+    if told.interval.decides(-65, limit + 1) {
+        return told.interval;
+    }
+    at_most(board, limit, cells, scoring)
+}
+
+/// The value of a board, or a lower bound of it above the limit: at most two probes, and a search only where it is below.
+fn at_most<C: Cells>(board: &Board, limit: i8, cells: &mut C, scoring: Scoring) -> Interval
+    requires { IsScore limit }
+    ensures encloses { Encloses result.lower result.upper (value (score_of scoring) board.now) }
+    ensures decides { Decides result.lower result.upper (negsuc 64) (limit +ℤ pos 1) }
+    ensures fixed { C.fixed cells.new ≡ C.fixed cells.old }
+{
+    if limit == 64 {
+        return search(board, -65, 65, cells, scoring);
+    }
+    let above = search(board, limit, limit + 1, cells, scoring);
+    if above.lower > limit {
+        return above;
+    }
+    if above.upper < limit {
+        return exact_below(board, above.upper, cells, scoring);
+    }
+    let below = search(board, limit - 1, limit, cells, scoring);
+    if below.lower >= limit {
+        return Interval::exactly(limit);
+    }
+    exact_below(board, below.upper, cells, scoring)
+}
+
+/// The value of a board that is at most `most`.
+fn exact_below<C: Cells>(board: &Board, most: i8, cells: &mut C, scoring: Scoring) -> Interval
+    requires score { IsScore most }
+    requires most { value (score_of scoring) board.now ≤ℤ most }
+    ensures encloses { Encloses result.lower result.upper (value (score_of scoring) board.now) }
+    ensures exact { result.lower ≡ result.upper }
+    ensures fixed { C.fixed cells.new ≡ C.fixed cells.old }
+{
+    let rest = search(board, -65, most, cells, scoring);
+    if rest.lower >= most {
+        return Interval::exactly(most);
+    }
+    rest
+}

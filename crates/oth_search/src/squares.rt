@@ -1,0 +1,75 @@
+//! Sets of squares, as words.
+ghost use Rattle.std.specs.Prelude.{IsTrue, ◌≡◌, ◌≢◌, ◌↔◌, ℕ, ◌<◌, ◌≤◌, true, false};
+ghost use Rattle.oth_rules.specs.Square.{word_of};
+ghost use Rattle.oth_rules.specs.Position.{is_empty};
+ghost use Rattle.oth_rules.specs.Move.{is_flipped};
+ghost use Rattle.oth_rules.specs.Laws.{IsLegal};
+ghost use Rattle.oth_search.specs.Squares.{In, Without, With};
+
+use oth_rules::{Board, Square};
+
+/// The least square of a set of squares.
+pub fn first(set: u64) -> Square
+    requires { set ≢ 0 }
+    ensures member { In set result }
+    ensures least { (s : ℕ) → In set s → result ≤ s }
+{
+    Square::first_of(set)
+}
+
+/// A square of the set: the least of those that are early, or else the least.
+pub fn preferred(set: u64, early: u64) -> Square
+    requires { set ≢ 0 }
+    ensures { In set result }
+{
+    let both = set & early;
+    if both != 0 {
+        return Square::first_of(both);
+    }
+    Square::first_of(set)
+}
+
+/// The quarters of the board, of 16 squares each.
+const QUADRANTS: [u64; 4] = [
+    0x0000_0000_0f0f_0f0f,
+    0x0000_0000_f0f0_f0f0,
+    0x0f0f_0f0f_0000_0000,
+    0xf0f0_f0f0_0000_0000,
+];
+
+/// The quarters of the board with an odd number of these squares. Who moves into such a quarter tends to move last there.
+pub fn odd_quadrants(set: u64) -> u64 {
+    let mut odd = 0;
+    for quadrant in QUADRANTS {
+        if (set & quadrant).count_ones() % 2 == 1 {
+            odd |= quadrant;
+        }
+    }
+    odd
+}
+
+/// The set without a square of it.
+pub fn without(set: u64, square: Square) -> u64
+    requires { In set square }
+    ensures fewer { result < set }
+    ensures rest { Without set square result }
+{
+    set & !square.word()
+}
+
+/// The set and a square.
+pub fn with(set: u64, square: Square) -> u64
+    ensures { With set square result }
+{
+    set | square.word()
+}
+
+/// What a move to an empty square flips: nothing exactly if it is not legal.
+pub fn flips_at(board: &Board, square: Square) -> u64
+    requires on_board { square < 64 }
+    requires empty { IsTrue (is_empty board.now square) }
+    ensures value { result ≡ word_of (is_flipped board.now square) }
+    ensures legal { (result ≢ 0) ↔ IsLegal board.now square }
+{
+    board.flips_of_empty(square)
+}

@@ -1,0 +1,242 @@
+//! The worked boards, and what no clause says of looking up and putting.
+ghost use Rattle.std.specs.Prelude.{◌≡◌, IfSome};
+
+use crate::{
+    Cells, Entry, Kind, NoCells, Solved, TooManyEmpties, known_below, search, solve_alone,
+};
+use oth_rules::{Board, Scoring, Square};
+use std::test::Fail;
+
+/// The board with row 1 `--OXOOO-` and all else `O`, seen by `X`.
+const A: [u64; 2] = [0x8, 0xffff_ffff_ffff_ff74];
+
+/// A board by own and opposing discs, with its score and all best moves.
+type Row = (u64, u64, i8, u64, Kind);
+
+fn answers(row: Row, scoring: Scoring) -> bool {
+    let (own, opp, score, best, kind) = row;
+    let Ok(board) = Board::of(own, opp) else {
+        return false;
+    };
+    match solve_alone(&board, scoring) {
+        Ok(answer) => {
+            answer.board == board
+                && answer.score == score
+                && answer.best == best
+                && answer.kind == kind
+        }
+        Err(_) => false,
+    }
+}
+
+#[test]
+fn solves_the_worked_boards(rt: HostRuntime) -> Result<(), Fail> {
+    let full = u64::MAX;
+    for row in [
+        (full, 0, 64, 0, Kind::End),
+        (0, full, -64, 0, Kind::End),
+        (!(1 << 63), 0, 64, 0, Kind::End),
+        (
+            0x7fbf_8181_8181_81fe,
+            0x0040_7e7e_7e7e_7e00,
+            0,
+            0,
+            Kind::End,
+        ),
+        (!3, 2, 64, 1, Kind::Move),
+        (2, !3, -64, 0, Kind::Pass),
+        (!0xc3, 0x42, 64, 0x81, Kind::Move),
+        (1 << 7, !0x8081, -48, 1, Kind::Move),
+        (A[0], A[1], -50, 0x80, Kind::Move),
+        (A[1], A[0], 50, 0, Kind::Pass),
+        (0x10, 0xffff_ffff_ffff_ff2e, -50, 1, Kind::Move),
+        (0x10 << 56, 0x2eff_ffff_ffff_ffff, -50, 1 << 56, Kind::Move),
+        (!0x0303, 0x0202, 64, 0x0101, Kind::Move),
+        (!0x3fff_ffff, 0, 64, 0, Kind::End),
+    ] {
+        assert!(rt; answers(row, Scoring::Winner), "own {:x}", row.0);
+    }
+    for row in [
+        (!(1 << 63), 0, 63, 0, Kind::End),
+        (
+            0x7fbf_8181_8181_81fe,
+            0x0040_7e7e_7e7e_7e00,
+            0,
+            0,
+            Kind::End,
+        ),
+        (!0xc3, 0x42, 64, 0x81, Kind::Move),
+        (1 << 7, !0x8081, -47, 1, Kind::Move),
+        (A[0], A[1], -49, 0x80, Kind::Move),
+        (A[1], A[0], 49, 0, Kind::Pass),
+        (0x10, 0xffff_ffff_ffff_ff2e, -49, 1, Kind::Move),
+        (0x10 << 56, 0x2eff_ffff_ffff_ffff, -49, 1 << 56, Kind::Move),
+        (!0x0303, 0x0202, 64, 0x0100, Kind::Move),
+        (!0x3fff_ffff, 0, 34, 0, Kind::End),
+    ] {
+        assert!(rt; answers(row, Scoring::Discs), "own {:x} by discs", row.0);
+    }
+    Ok(())
+}
+
+#[test]
+fn refuses_31_empties(rt: HostRuntime) -> Result<(), Fail> {
+    let Ok(board) = Board::of(!0x7fff_ffff, 0) else {
+        panic!(rt; "no board")
+    };
+    for scoring in [Scoring::Winner, Scoring::Discs] {
+        match solve_alone(&board, scoring) {
+            Ok(_) => panic!(rt; "31 empty squares are solved"),
+            Err(refusal) => assert!(rt; refusal == TooManyEmpties { empties: 31 }),
+        }
+    }
+    Ok(())
+}
+
+/// From the start the least-numbered legal move is played, with passes where forced, until so few squares are empty.
+fn least_line(empties: u8) -> Option<Board> {
+    let mut board = Board::of(1 << 28 | 1 << 35, 1 << 27 | 1 << 36).ok()?;
+    for _ in 0..100 {
+        if board.empties() <= empties || board.is_over() {
+            break;
+        }
+        if board.moves() == 0 {
+            board = board.pass();
+        }
+        let square = Square::of(board.moves().trailing_zeros() as u8)?;
+        board = board.play(square)?;
+    }
+    Some(board)
+}
+
+#[test]
+fn agrees_with_the_whole_tree(rt: HostRuntime) -> Result<(), Fail> {
+    let Some(board) = least_line(10) else {
+        panic!(rt; "no line")
+    };
+    for scoring in [Scoring::Winner, Scoring::Discs] {
+        match solve_alone(&board, scoring) {
+            Ok(answer) => assert!(rt; answer.score == board.plain_score(scoring)),
+            Err(_) => panic!(rt; "not solved"),
+        }
+    }
+    Ok(())
+}
+
+#[test]
+fn ends_at_16_empties(rt: HostRuntime) -> Result<(), Fail> {
+    let Some(board) = least_line(16) else {
+        panic!(rt; "no line")
+    };
+    assert!(rt; board.empties() == 16);
+    for scoring in [Scoring::Winner, Scoring::Discs] {
+        assert!(rt; matches!(solve_alone(&board, scoring), Ok(_)));
+    }
+    Ok(())
+}
+
+/// Keeps what it was last put, and counts the calls.
+#[derive(Drop)]
+struct Kept {
+    entry: Option<Entry>,
+    looks: u32,
+    puts: u32,
+}
+
+impl Cells for Kept {
+    ghost Fixed = { Unit {0} };
+
+    ghost fixed = { λ c. tt };
+
+    fn look(&mut self, board: &Board, scoring: Scoring) -> Option<Entry> {
+        self.looks = self.looks.wrapping_add(1);
+        let entry = self.entry?;
+        if entry.board() == *board && entry.scoring() == scoring {
+            return Some(entry);
+        }
+        None
+    }
+
+    fn put(&mut self, entry: &Entry) {
+        self.puts = self.puts.wrapping_add(1);
+        self.entry = Some(*entry);
+    }
+}
+
+#[test]
+fn decides_each_window(rt: HostRuntime) -> Result<(), Fail> {
+    let Ok(board) = Board::of(A[0], A[1]) else {
+        panic!(rt; "no board")
+    };
+    let exact = search(&board, -65, 65, &mut NoCells, Scoring::Winner);
+    assert!(rt; exact.lower == -50 && exact.upper == -50);
+    let above = search(&board, -51, -50, &mut NoCells, Scoring::Winner);
+    assert!(rt; above.lower == -50);
+    let below = search(&board, -50, 0, &mut NoCells, Scoring::Winner);
+    assert!(rt; below.upper == -50);
+    Ok(())
+}
+
+#[test]
+fn looks_up_and_puts(rt: HostRuntime) -> Result<(), Fail> {
+    let Ok(board) = Board::of(A[0], A[1]) else {
+        panic!(rt; "no board")
+    };
+    let mut cells = Kept {
+        entry: None,
+        looks: 0,
+        puts: 0,
+    };
+    let first = search(&board, -65, 65, &mut cells, Scoring::Winner);
+    assert!(rt; first.lower == -50 && first.upper == -50);
+    assert!(rt; cells.looks == 1 && cells.puts == 1);
+    let Some(entry) = cells.entry else {
+        panic!(rt; "nothing is kept")
+    };
+    assert!(rt; entry.board() == board && entry.words()[2] == 3598);
+    let second = search(&board, -65, 65, &mut cells, Scoring::Winner);
+    assert!(rt; second.lower == -50 && second.upper == -50);
+    assert!(rt; cells.looks == 2 && cells.puts == 1);
+    Ok(())
+}
+
+#[test]
+fn packs_bounds(rt: HostRuntime) -> Result<(), Fail> {
+    let Ok(board) = Board::of(A[0], A[1]) else {
+        panic!(rt; "no board")
+    };
+    let solved = Solved::by_search(&board, -65, 65, &mut NoCells, Scoring::Winner);
+    for (lower, upper, packed) in [
+        (-64, -50, 3584),
+        (-50, -50, 3598),
+        (-50, 64, 32782),
+        (-64, 64, 32768),
+    ] {
+        let Some(wider) = solved.widen(lower, upper) else {
+            panic!(rt; "{lower}..{upper} does not contain the value")
+        };
+        assert!(rt;
+            Entry::of(&wider).words() == [A[0], A[1], packed],
+            "{lower}..{upper}"
+        );
+    }
+    Ok(())
+}
+
+#[test]
+fn combines_what_is_known(rt: HostRuntime) -> Result<(), Fail> {
+    let (Ok(root), Ok(first), Ok(second)) = (
+        Board::of(A[0], A[1]),
+        Board::of(0xffff_ffff_ffff_ff70, 0xe),
+        Board::of(0xf8, 0xffff_ffff_ffff_ff04),
+    ) else {
+        panic!(rt; "no boards")
+    };
+    let known = [
+        Solved::by_search(&first, -65, 65, &mut NoCells, Scoring::Winner),
+        Solved::by_search(&second, -65, 65, &mut NoCells, Scoring::Winner),
+    ];
+    let combined = known_below(root, 1, &known, Scoring::Winner).interval;
+    assert!(rt; combined.lower == -50 && combined.upper == -50);
+    Ok(())
+}
