@@ -1,0 +1,9 @@
+pub mod Histories
+pub mod Keeps
+pub mod Moves
+pub mod Allowed
+pub mod Seats
+pub mod Cuts
+pub mod Alones
+pub mod Choices
+pub mod Found

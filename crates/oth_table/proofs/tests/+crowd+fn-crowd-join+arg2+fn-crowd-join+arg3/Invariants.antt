@@ -1,0 +1,10 @@
+use Rattle.oth_table.proofs.tests.+crowd+fn-crowd-join+arg2+fn-crowd-join+arg3.Given as goal
+
+abbrev pub decreases-crowd : goal.decreases-crowd
+decreases-crowd g l = l.threads
+
+abbrev pub decreases-join+arg2 : goal.decreases-join+arg2
+decreases-join+arg2 g l = l.half
+
+abbrev pub decreases-join+arg3 : goal.decreases-join+arg3
+decreases-join+arg3 g l = l.rest

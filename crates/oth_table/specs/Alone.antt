@@ -1,0 +1,38 @@
+-- A seat that never made another. It is the first, and whatever it has seen is its own.
+--     IsAlone h         the history h has no event but those of the first seat, which made no other and has no claim
+--     LooksAlone, PutsAlone, CountsAlone      no call of that seat meets another, and it stays alone
+use Rattle.std.specs.Prelude.{◌≡◌, ◌≢◌, ℕ, List, [], ◌∷◌, None}
+use Rattle.oth_table.specs.declared.history.Terms.{Terms}
+use Rattle.oth_table.specs.History.{owner, author, IsLegal, Since}
+use Rattle.oth_table.specs.Calls.{Looks, Puts}
+use Rattle.oth_search.specs.Entries.{Bounded}
+use Rattle.oth_table.specs.declared.history.Event.{Event}
+use Rattle.oth_table.specs.declared.history.Event.TheVariants.{Made}
+use Rattle.oth_table.specs.declared.table.Look.{Look}
+use Rattle.oth_table.specs.declared.table.Look.TheVariants.{Busy}
+use Rattle.oth_table.specs.declared.table.Put.{Put}
+use Rattle.oth_table.specs.declared.table.Put.TheVariants.{Skipped}
+
+-- no event but those of the first seat, which made no other
+abbrev pub IsOwn : List Event → Type 0
+IsOwn [] = Unit {0}
+IsOwn (Made s t ∷ h) = ⊥
+IsOwn (e ∷ h) = (author e ≡ []) × IsOwn h
+
+abbrev pub IsAlone : List Event → Type 0
+IsAlone h = IsOwn h × ((c : ℕ) → owner c h ≡ None)
+
+-- a look of a seat that is alone isn't busy, and leaves it alone
+abbrev pub LooksAlone : Type 0
+LooksAlone = (terms : Terms) (c : ℕ) (earlier later : List Event) (found : Look)
+    → IsAlone earlier → Looks terms [] earlier later c found → IsAlone later × (found ≢ Busy)
+
+-- a put of a seat that is alone isn't skipped, and leaves it alone
+abbrev pub PutsAlone : Type 0
+PutsAlone = (terms : Terms) (c : ℕ) (earlier later : List Event) (given : Bounded) (did : Put)
+    → IsAlone earlier → Puts terms [] earlier later c given did → IsAlone later × (did ≢ Skipped)
+
+-- a seat that is alone and asks how often a cell was published sees nothing new
+abbrev pub CountsAlone : Type 0
+CountsAlone = (terms : Terms) (earlier later : List Event)
+    → IsAlone earlier → IsLegal terms later → Since [] earlier later → IsAlone later

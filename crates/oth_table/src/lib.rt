@@ -1,0 +1,18 @@
+//! A table of entries without locks, which threads share.
+#![tactic(auto)]
+
+mod cells;
+mod choice;
+mod history;
+mod laws;
+mod rule;
+mod table;
+#[cfg(test)]
+mod tests;
+
+pub use cells::TableCells;
+pub use choice::{pick, place, second};
+pub use history::{Event, Limits, Name, Stage, Terms, View, Why};
+pub use laws::alone;
+pub use rule::OneHistory;
+pub use table::{Look, Put, SharedTable, TableError, TableSeat};
