@@ -1,0 +1,11 @@
+pub mod DeviceLemmas
+pub mod DiscLemmas
+pub mod FaultLemmas
+pub mod ReadingLemmas
+pub mod NameLemmas
+pub mod SquareLemmas
+pub mod ReportLemmas
+pub mod KeptLemmas
+pub mod PairLemmas
+pub mod TranscriptLemmas
+pub mod OneLineLemmas

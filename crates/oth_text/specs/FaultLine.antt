@@ -1,0 +1,21 @@
+-- The lines that are printed of faults.
+use Rattle.std.specs.Prelude.{ℕ, List, ◌++◌, codes, decimal}
+use Rattle.oth_text.specs.declared.fault.LineFault.{LineFault}
+use Rattle.oth_text.specs.declared.fault.LineFault.TheVariants.{Length, BadCell, Space, Mover, Empties}
+use Rattle.oth_text.specs.declared.fault.TranscriptFault.{TranscriptFault}
+use Rattle.oth_text.specs.declared.fault.TranscriptFault.TheVariants.{OddLength, BadPair, Illegal, Over}
+
+-- of a line that is no board line, or whose board has too many empty squares
+abbrev pub fault_line_of : LineFault → List ℕ
+fault_line_of Length = codes "error 1"
+fault_line_of (BadCell place) = codes "error 2 at " ++ decimal place
+fault_line_of Space = codes "error 3"
+fault_line_of Mover = codes "error 4"
+fault_line_of (Empties count) = codes "error 5 " ++ decimal count
+
+-- of a line that is no transcript
+abbrev pub transcript_fault_line_of : TranscriptFault → List ℕ
+transcript_fault_line_of OddLength = codes "error 1"
+transcript_fault_line_of (BadPair pair) = codes "error 2 at " ++ decimal pair
+transcript_fault_line_of (Illegal pair) = codes "error 3 at " ++ decimal pair
+transcript_fault_line_of (Over pair) = codes "error 4 at " ++ decimal pair

@@ -1,0 +1,78 @@
+//! Board lines that are read in parts.
+
+ghost use Rattle.std.specs.Prelude.{◌≡◌, ℕ, List, [], ◌++◌};
+ghost use Rattle.oth_text.specs.BoardLine.{KeepsLine, reading, solvable_reading};
+ghost use Rattle.oth_text.specs.Transcript.{is_nil};
+
+use crate::board_line::{BOARD_LINE_LEN, read_board, read_solvable};
+use crate::fault::LineFault;
+use crate::position::Position;
+use arrayvec::ArrayVec;
+use std::marker::Model;
+
+// One byte more than a board line has.
+const KEPT_LEN: usize = 67;
+
+/// A line of any length that is read in parts, of which as much is kept as tells whether it is a board line: its first
+/// 67 bytes.
+#[derive(Drop)]
+pub struct BoardReader {
+    kept: ArrayVec<u8, KEPT_LEN>,
+}
+
+impl Model for BoardReader {
+    ghost use Rattle.std.specs.Prelude.{List, ℕ, ◌≤◌, length};
+
+    ghost Value = { List ℕ };
+
+    ghost view = { λ r. r.kept.items };
+
+    ghost invariant = { λ r. length r.kept.items ≤ 67 };
+}
+
+impl BoardReader {
+    /// The reader before the first byte of a line.
+    pub fn new() -> Self
+        ensures { KeepsLine result [] }
+    {
+        BoardReader {
+            kept: ArrayVec::new(),
+        }
+    }
+
+    /// Forgets what was read: another line begins.
+    pub fn clear(&mut self)
+        ensures { KeepsLine self.new [] }
+    {
+        self.kept.clear();
+    }
+
+    /// Takes the next bytes of the line.
+    pub fn push(&mut self, bytes: &[u8])
+        ensures { (line : List ℕ) → KeepsLine self.old line → KeepsLine self.new (line ++ bytes.now) }
+    {
+        let count = self.kept.remaining_capacity().min(bytes.len());
+        self.kept.try_extend_from_slice(&bytes[..count]).unwrap();
+    }
+
+    /// Whether no byte was taken.
+    pub fn is_empty(&self) -> bool
+        ensures { (line : List ℕ) → KeepsLine self.now line → result ≡ is_nil line }
+    {
+        self.kept.is_empty()
+    }
+
+    /// The reading of the whole line, as `read_board` gives it.
+    pub fn read(&self) -> Result<Position, LineFault>
+        ensures { (line : List ℕ) → KeepsLine self.now line → result ≡ reading line }
+    {
+        read_board(self.kept.as_slice())
+    }
+
+    /// The reading of the whole line, as `read_solvable` gives it.
+    pub fn read_solvable(&self) -> Result<Position, LineFault>
+        ensures { (line : List ℕ) → KeepsLine self.now line → result ≡ solvable_reading line }
+    {
+        read_solvable(self.kept.as_slice())
+    }
+}

@@ -1,0 +1,191 @@
+//! Transcripts: the names of moves, one after the other, from the start of a game.
+
+ghost use Rattle.std.specs.Prelude.{◌≡◌, ◌+◌, ◌≤◌, ◌<◌, ◌↔◌, ℕ, List, [], ◌∷◌, ◌++◌, Option, None, Some, Ok, Err, IfOk, IfErr, SomeIff, IsTrue};
+ghost use Rattle.oth_rules.specs.Position.{empty_count};
+ghost use Rattle.oth_text.specs.declared.position.Position.{Position as PositionReached};
+ghost use Rattle.oth_text.specs.declared.fault.TranscriptFault.{TranscriptFault as Fault};
+ghost use Rattle.oth_text.specs.Transcript.{IsTranscript, IsTranscriptFault, MovesUnlessOver, Reached, StandsFor, after_move, is_nil, is_square_name, pair_fault, square_of, transcript_reading, with_forced_pass};
+
+use crate::fault::TranscriptFault;
+use crate::position::Position;
+use oth_rules::Square;
+use std::marker::Model;
+
+/// A transcript that is read in parts, of any length and in a fixed space. It keeps the position that the pairs so far
+/// lead to, or their first fault.
+#[derive(Clone, Copy, Debug, PartialEq, Eq)]
+pub struct TranscriptReader {
+    position: Position,
+    next_pair: u8,
+    fault: Option<TranscriptFault>,
+    pending: Option<u8>,
+    is_empty: bool,
+}
+
+impl Model for TranscriptReader {
+    ghost use Rattle.std.specs.Prelude.{◌+◌, ◌≤◌};
+    ghost use Rattle.oth_rules.specs.Position.{empty_count};
+    ghost use Rattle.oth_text.specs.Transcript.{Reached};
+
+    ghost Value = { Reached };
+
+    ghost view = { λ r. record { position = r.position; next_pair = r.next_pair; fault = r.fault; pending = r.pending; is_empty = r.is_empty } };
+
+    // Each move takes an empty square.
+    ghost invariant = { λ r. r.next_pair + empty_count r.position.board ≤ 61 };
+
+    ghost inverse = { λ v. record { position = v.position; next_pair = v.next_pair; fault = v.fault; pending = v.pending; is_empty = v.is_empty } };
+}
+
+impl TranscriptReader {
+    /// The reader before the first byte of a transcript.
+    pub fn new() -> Self
+        ensures { StandsFor result [] }
+    {
+        TranscriptReader {
+            position: Position::start(),
+            next_pair: 1,
+            fault: None,
+            pending: None,
+            is_empty: true,
+        }
+    }
+
+    /// Forgets what was read: another transcript begins.
+    pub fn clear(&mut self)
+        ensures { StandsFor self.new [] }
+    {
+        *self = Self::new();
+    }
+
+    /// Takes the next bytes of the transcript.
+    pub fn push(&mut self, bytes: &[u8])
+        ensures { (text : List ℕ) → StandsFor self.old text → StandsFor self.new (text ++ bytes.now) }
+    {
+        for byte in bytes {
+            self.push_byte(*byte);
+        }
+    }
+
+    /// Whether no byte was taken.
+    pub fn is_empty(&self) -> bool
+        ensures { (text : List ℕ) → StandsFor self.now text → result ≡ is_nil text }
+    {
+        self.is_empty
+    }
+
+    /// The reading of the transcript, as `read_transcript` gives it.
+    pub fn read(&self) -> Result<Position, TranscriptFault>
+        ensures { (text : List ℕ) → StandsFor self.now text → result ≡ transcript_reading text }
+    {
+        if self.pending.is_some() {
+            return Err(TranscriptFault::OddLength);
+        }
+        match self.fault {
+            Some(fault) => Err(fault),
+            None => Ok(self.position),
+        }
+    }
+
+    fn push_byte(&mut self, byte: u8)
+        ensures { (text : List ℕ) → StandsFor self.old text → StandsFor self.new (text ++ byte ∷ []) }
+    {
+        self.is_empty = false;
+        match self.pending {
+            None => self.pending = Some(byte),
+            Some(letter) => {
+                self.pending = None;
+                if self.fault.is_none() {
+                    self.play_pair(letter, byte);
+                }
+            }
+        }
+    }
+
+    // Plays the next pair.
+    fn play_pair(&mut self, letter: u8, digit: u8)
+        ensures fault { self.new.fault ≡ pair_fault self.old.next_pair self.old.position letter digit }
+        ensures played { self.new.fault ≡ None → (self.new.next_pair ≡ self.old.next_pair + 1)
+            × (self.new.position ≡ after_move self.old.position (square_of letter digit)) }
+        ensures pending { self.new.pending ≡ self.old.pending }
+        ensures is_empty { self.new.is_empty ≡ self.old.is_empty }
+    {
+        match after_pair(&self.position, self.next_pair, letter, digit) {
+            Ok(position) => {
+                self.position = position;
+                self.next_pair += 1;
+                self.fault = None;
+            }
+            Err(fault) => self.fault = Some(fault),
+        }
+    }
+}
+
+// The position after pair `k`, or its fault.
+fn after_pair(
+    position: &Position,
+    k: u8,
+    letter: u8,
+    digit: u8,
+) -> Result<Position, TranscriptFault>
+    ensures ok { IfOk result (λ p. (pair_fault k position.now letter digit ≡ None) × (p ≡ after_move position.now (square_of letter digit))) }
+    ensures fewer { IfOk result (λ p. empty_count p.board + 1 ≡ empty_count position.now.board) }
+    ensures err { IfErr result (λ f. pair_fault k position.now letter digit ≡ Some f) }
+{
+    let Some(square) = square_named(letter, digit) else {
+        return Err(TranscriptFault::BadPair(k));
+    };
+    if position.board.is_over() {
+        return Err(TranscriptFault::Over(k));
+    }
+    match position.board.play(square) {
+        Some(board) => Ok(with_forced_pass(Position {
+            board,
+            mover: position.mover.opponent(),
+        })),
+        None => Err(TranscriptFault::Illegal(k)),
+    }
+}
+
+// The square of a letter from a to h and a digit from 1 to 8.
+fn square_named(letter: u8, digit: u8) -> Option<Square>
+    ensures { SomeIff result (IsTrue (is_square_name letter digit)) (square_of letter digit) }
+{
+    if !(b'a'..=b'h').contains(&letter) || !(b'1'..=b'8').contains(&digit) {
+        return None;
+    }
+    Square::of(8 * (digit - b'1') + (letter - b'a'))
+}
+
+// The position after a pass, where the mover has to pass and the other side can move.
+fn with_forced_pass(position: Position) -> Position
+    ensures passed { result ≡ with_forced_pass position }
+    ensures empties { empty_count result.board ≡ empty_count position.board }
+{
+    if position.board.moves() != 0 {
+        return position;
+    }
+    let board = position.board.pass();
+    if board.moves() == 0 {
+        return position;
+    }
+    Position {
+        board,
+        mover: position.mover.opponent(),
+    }
+}
+
+/// The position that a transcript leads to: pairs of a letter from a to h and a digit from 1 to 8, each a legal move,
+/// from the start on. A forced pass isn't written; it is put in. The mover of the position can move unless the game is
+/// over, and then it is the opponent of the last player. Another text is refused with its first fault: an odd length,
+/// and else the fault of its first faulty pair, counted from 1: no square, the game is over, or an illegal move.
+pub fn read_transcript(text: &[u8]) -> Result<Position, TranscriptFault>
+    ensures reading { result ≡ transcript_reading text.now }
+    ensures position { (p : PositionReached) → (result ≡ Ok p) ↔ IsTranscript text.now p }
+    ensures fault { (f : Fault) → (result ≡ Err f) ↔ IsTranscriptFault text.now f }
+    ensures mover { IfOk result (λ p. MovesUnlessOver p) }
+{
+    let mut reader = TranscriptReader::new();
+    reader.push(text);
+    reader.read()
+}
