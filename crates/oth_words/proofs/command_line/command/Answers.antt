@@ -1,0 +1,18 @@
+use Rattle.std.proofs.Common.{◌≡◌, ◌∙◌, ap, ap₂, true}
+use Rattle.std.proofs.lemmas.Result.{IfOk-weaker}
+use Rattle.clap.specs.Words.{App, app_of, with_subcommand}
+use Rattle.clap.specs.Simple.{app_of_fields}
+use Rattle.oth_words.specs.CommandLine.{othsolve, program}
+use Rattle.oth_words.proofs.command_line.command.Goals as goal
+
+pub returns : goal.returns
+unfolding othsolve
+returns c =
+    let top = λ (a : App). a.top in
+    let program_is : app_of c.subcommand_required.result ≡ program =
+    ap app_of_fields c.subcommand_required.ensures ∙ ap (λ (a : App). record a { top = record a.top { subcommand_required = true } }) c.new.ensures.app in
+    let first = c.in_ok-subcommand.ensures.shape c.in_ok-solve_command.ensures.local ∙ ap₂ with_subcommand program_is (ap top c.in_ok-solve_command.ensures.app) in
+    let second = c.in_ok-subcommand-2.ensures.shape c.moves_command.ensures.local ∙ ap₂ with_subcommand first (ap top c.moves_command.ensures.app) in
+    let third = c.in_ok-subcommand-3.ensures.shape c.transcript_command.ensures.local ∙ ap₂ with_subcommand second (ap top c.transcript_command.ensures.app) in
+    let fourth = c.in_ok-subcommand-4.ensures.shape c.in_ok-verify_command.ensures.local ∙ ap₂ with_subcommand third (ap top c.in_ok-verify_command.ensures.app) in
+    IfOk-weaker c.subcommand-5.result _ _ (λ r added. added.shape c.in_ok-add_command.ensures.local ∙ ap₂ with_subcommand fourth (ap top c.in_ok-add_command.ensures.app)) c.subcommand-5.ensures

@@ -1,0 +1,133 @@
+-- The command line. A `Text` is a list of bytes, and the words of a line are a list of texts, of which the first names the program.
+-- `othsolve` is the command as clap sees it: its subcommands, and the rule of each of their arguments. By clap's exact meaning
+-- `takes` says whether the words are a lawful call of it, `fault_of` which fault they have, and `subcommand_of` which subcommand
+-- they name, with a row of texts for each argument, the default where none is given. `Means` says what that stands for.
+use Rattle.std.specs.Prelude.{◌≡◌, ◌≤◌, ℕ, pos, true, List, [], ◌∷◌, Option, Some, None, Result, Ok, Err, codes, option_map}
+use Rattle.clap.specs.declared.error.Error.{Error}
+use Rattle.clap.specs.declared.error.kind.ErrorKind.TheVariants.{OutOfMemory}
+use Rattle.std.specs.Borrow.{Bor}
+use Rattle.std.specs.Str.Parse.{IsNumeral, digits_value, without_leading_plus}
+use Rattle.std.specs.String.{string_bytes}
+use Rattle.clap.specs.Walk.{texts}
+use Rattle.clap.specs.Words.{App, Row, Rule, Text, fault_of, first_of, kind_of, new_app, new_rule, one_of, subcommand_of, takes, with_rule, with_subcommand}
+use Rattle.clap.specs.declared.builder.action.ArgAction.TheVariants.{Set}
+use Rattle.clap.specs.declared.builder.value_parser.ValueParser.TheVariants as parser
+use Rattle.oth_rules.specs.declared.scoring.Scoring.{Scoring}
+use Rattle.oth_rules.specs.declared.scoring.Scoring.TheVariants.{Winner, Discs}
+use Rattle.oth_words.specs.declared.settings.Settings.{Settings}
+use Rattle.oth_words.specs.declared.settings.Command.{Command}
+use Rattle.oth_words.specs.declared.settings.Command.TheVariants.{Solve, Moves, Transcript}
+use Rattle.oth_words.specs.declared.settings.Words.{Words}
+use Rattle.oth_words.specs.declared.settings.Words.TheVariants.{Run, Verify, Add}
+
+-- ---- the command
+
+-- an option with one value
+abbrev pub option_rule : Text → Rule
+option_rule name = record (new_rule name) { long = Some name; action = Some Set }
+
+-- an option with a number, which has a default
+abbrev pub number_option : Text → ℕ → ℕ → Text → Rule
+number_option name least most default = record (option_rule name) {
+  parser = Some (parser.Signed (pos least) (pos most));
+  defaults = default ∷ [];
+}
+
+abbrev pub workers_rule : Rule
+workers_rule = number_option (codes "workers") 1 16 (codes "1")
+
+abbrev pub cells_rule : Rule
+cells_rule = number_option (codes "cells") 0 262144 (codes "65536")
+
+-- references to the words of the two scorings
+abbrev pub ScoringWords : Type 0
+ScoringWords = Bor (List (Bor Text))
+
+abbrev pub AreScorings : ScoringWords → Type 0
+AreScorings scorings = texts scorings.now ≡ codes "winner" ∷ codes "discs" ∷ []
+
+abbrev pub scoring_rule : ScoringWords → Rule
+scoring_rule scorings = record (option_rule (codes "scoring")) {
+  parser = Some (parser.Names scorings);
+  defaults = codes "winner" ∷ [];
+}
+
+abbrev pub book_rule : Rule
+book_rule = option_rule (codes "book")
+
+abbrev pub file_rule : Rule
+file_rule = record (new_rule (codes "file")) { action = Some Set; required = true }
+
+abbrev pub solve_app : ScoringWords → App
+solve_app scorings = with_rule (with_rule (with_rule (with_rule (new_app (codes "solve")) workers_rule) cells_rule) (scoring_rule scorings)) book_rule
+
+abbrev pub verify_app : App
+verify_app = with_rule (new_app (codes "book-verify")) file_rule
+
+abbrev pub add_app : App
+add_app = with_rule (with_rule (with_rule (new_app (codes "book-add")) workers_rule) cells_rule) file_rule
+
+abbrev pub program : App
+program = let a = new_app (codes "othsolve") in record a { top = record a.top { subcommand_required = true } }
+
+-- the command with its five subcommands
+unfoldable pub othsolve : ScoringWords → App
+othsolve scorings =
+    with_subcommand (with_subcommand (with_subcommand (with_subcommand (with_subcommand program (solve_app scorings).top)
+    (new_app (codes "moves")).top) (new_app (codes "transcript")).top) verify_app.top) add_app.top
+
+-- ---- what the words mean
+
+-- the words of a command line, with a file's name as its text
+pub data Meaning : Type 0 where
+  run : Settings → Option Text → Meaning
+  verify : Text → Meaning
+  add : Settings → Text → Meaning
+
+abbrev pub meaning_of : Words → Meaning
+meaning_of (Run settings book) = run settings (option_map string_bytes book)
+meaning_of (Verify file) = verify (string_bytes file)
+meaning_of (Add settings file) = add settings (string_bytes file)
+
+-- the text is the number, in decimal digits, where a plus may stand first
+pub record IsNumber (text : Option Text) (n : ℕ) : Type 0 where
+  pub digits : Text
+  pub given : text ≡ Some digits
+  pub numeral : IsNumeral 10 (without_leading_plus digits)
+  pub value : digits_value 10 (without_leading_plus digits) ≡ n
+
+-- the options give the numbers
+pub record HasNumbers (rows : List Row) (s : Settings) : Type 0 where
+  pub workers : IsNumber (one_of (codes "workers") rows) s.workers
+  pub cells : IsNumber (one_of (codes "cells") rows) s.cells
+  pub some_workers : 1 ≤ s.workers
+  pub most_workers : s.workers ≤ 16
+  pub most_cells : s.cells ≤ 262144
+
+abbrev pub scoring_word : Scoring → Text
+scoring_word Winner = codes "winner"
+scoring_word Discs = codes "discs"
+
+-- one worker, no cells and the first scoring
+abbrev pub IsPlain : Settings → Type 0
+IsPlain s = (s.workers ≡ 1) × (s.cells ≡ 0) × (s.scoring ≡ Winner)
+
+abbrev pub MeansRun : Command → Text × List Row → Settings → Option Text → Type 0
+MeansRun Solve sub s book = (sub.0 ≡ codes "solve") × HasNumbers sub.1 s
+    × (first_of (codes "scoring") sub.1 ≡ Some (scoring_word s.scoring)) × (first_of (codes "book") sub.1 ≡ book)
+MeansRun Moves sub s book = (sub.0 ≡ codes "moves") × IsPlain s × (book ≡ None)
+MeansRun Transcript sub s book = (sub.0 ≡ codes "transcript") × IsPlain s × (book ≡ None)
+
+-- a subcommand, by its name and its matches, stands for this
+abbrev pub Means : Option (Text × List Row) → Meaning → Type 0
+Means None m = ⊥
+Means (Some sub) (run s book) = MeansRun s.command sub s book
+Means (Some sub) (verify file) = (sub.0 ≡ codes "book-verify") × (first_of (codes "file") sub.1 ≡ Some file)
+Means (Some sub) (add s file) = (sub.0 ≡ codes "book-add") × HasNumbers sub.1 s × (s.command ≡ Solve) × (s.scoring ≡ Winner)
+    × (first_of (codes "file") sub.1 ≡ Some file)
+
+-- at Ok the command finds no fault in the words and they stand for the value, and where the command takes them, want of memory is the
+-- only error
+abbrev pub IsReading : App → List Text → Result Words Error → Type 0
+IsReading app words (Ok value) = (fault_of app words ≡ []) × Means (subcommand_of app words) (meaning_of value)
+IsReading app words (Err e) = takes app words ≡ true → kind_of e ≡ OutOfMemory

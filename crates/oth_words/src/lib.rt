@@ -1,0 +1,11 @@
+//! The words of the command line.
+#![tactic(auto)]
+
+mod command_line;
+mod plan;
+mod settings;
+#[cfg(test)]
+mod tests;
+
+pub use command_line::read_words;
+pub use settings::{Command, Settings, Words};

@@ -1,0 +1,11 @@
+//! What the words ask for, before any text is copied.
+
+use crate::settings::Settings;
+
+/// As `Words`, with a file's name as it stands in the words.
+#[derive(Clone, Copy, Debug, Drop)]
+pub enum Plan<'a> {
+    Run(Settings, Option<&'a str>),
+    Verify(&'a str),
+    Add(Settings, &'a str),
+}

@@ -1,0 +1,38 @@
+//! What the words of a command line ask for.
+
+use oth_rules::Scoring;
+
+/// What is reported of each line of the input.
+#[derive(Clone, Copy, Debug, PartialEq, Eq, Drop)]
+pub enum Command {
+    /// Of a board line the score and all best moves.
+    Solve,
+    /// Of a board line all legal moves.
+    Moves,
+    /// Of a transcript the board line of the position that it leads to.
+    Transcript,
+}
+
+/// How an input is worked on.
+#[derive(Clone, Copy, Debug, PartialEq, Eq, Drop)]
+pub struct Settings {
+    /// What is reported of each line.
+    pub command: Command,
+    /// The threads that search one board together, 1 to 16.
+    pub workers: u8,
+    /// The cells of the table that they share: 0 for none, or a power of two of at most 262,144.
+    pub cells: u32,
+    /// How a finished game is counted. `Moves` and `Transcript` ignore it.
+    pub scoring: Scoring,
+}
+
+/// What the words of a command line ask for. The texts are names of book files.
+#[derive(Debug, Drop)]
+pub enum Words {
+    /// Report each line of the input, with the book of this file where one is named.
+    Run(Settings, Option<String>),
+    /// Verify the book of this file.
+    Verify(String),
+    /// Solve each line of the input, and add the answers to the book of this file.
+    Add(Settings, String),
+}
