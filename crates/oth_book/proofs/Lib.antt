@@ -1,0 +1,17 @@
+pub mod CellLemmas
+pub mod OrderLemmas
+pub mod NumeralLemmas
+pub mod ShapeLemmas
+pub mod ReadingCells
+pub mod LineLemmas
+pub mod EntryLemmas
+pub mod BoundsLemmas
+pub mod ReadLemmas
+pub mod BookLemmas
+pub mod AddLemmas
+pub mod VerifyLemmas
+pub mod WriteLemmas
+pub mod LawLemmas
+pub mod FitLemmas
+pub mod FaultLemmas
+pub mod OneFault

@@ -1,0 +1,10 @@
+pub mod Order
+pub mod Numeral
+pub mod Shape
+pub mod Text
+pub mod Contents
+pub mod Fault
+pub mod True
+pub mod Book
+pub mod Add
+pub mod Numbers

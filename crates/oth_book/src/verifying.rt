@@ -1,0 +1,104 @@
+//! The test of each entry of a text.
+
+ghost use Rattle.std.specs.Prelude.{◌≡◌, ◌≤◌, ◌<◌, ◌≤ℤ◌, ℕ, ◌↔◌, IsTrue, IfOk, IfErr, OnOk, length, All};
+ghost use Rattle.oth_rules.specs.Position.{empty_count};
+ghost use Rattle.oth_search.specs.Bound.{IsInterval};
+ghost use Rattle.oth_book.specs.declared.version.Version.{Version as AnyVersion};
+ghost use Rattle.oth_book.specs.Text.{AreClaims};
+ghost use Rattle.oth_book.specs.True.{IsTrueClaim, IsExact, IsCause, IsWrong, HoldsValue};
+ghost use Rattle.oth_book.specs.Book.{IsTrueBook};
+
+use crate::book::{Book, has_few_empties, is_exact};
+use crate::claim::Claim;
+use crate::claims::Claims;
+use crate::wrong::{Cause, Wrong};
+use oth_rules::Scoring;
+use oth_search::{Interval, NoCells, search, solve_alone};
+use std::alloc::Global;
+
+/// The book of claims that are all true, or the first that isn't. Each is solved anew. The claims are given up. Memory is asked for
+/// once, before any is solved.
+pub fn verify(alloc: Global, claims: Claims) -> Result<Book, Wrong>
+    ensures same { IfOk result (λ book. book ≡ claims) }
+    ensures holds { IfOk result (λ book. IsTrueBook book) }
+    ensures wrong { IfErr result (λ w. IsWrong claims w) }
+{
+    let scoring = claims.scoring();
+    let entries = verified(alloc, claims.entries(), scoring)?;
+    Ok(Book::of(scoring, entries))
+}
+
+fn verified(alloc: Global, claims: &[Claim], scoring: Scoring) -> Result<Vec<Claim>, Wrong>
+    requires { (v : AnyVersion) × AreClaims v claims.now }
+    ensures same { IfOk result (λ entries. entries.items ≡ claims.now) }
+    ensures each { IfOk result (λ entries. All (IsTrueClaim scoring) entries.items) }
+    ensures wrong { IfErr result (λ w. IsWrong (record { scoring = scoring; entries = claims.now }) w) }
+{
+    let Ok(mut entries) = Vec::with_capacity(alloc, claims.len()) else {
+        return Err(Wrong::Memory);
+    };
+    for claim in claims {
+        if let Err(cause) = check(claim, scoring) {
+            return Err(Wrong::Entry(entries.len() as u32 + 1, cause));
+        }
+        entries.push(*claim).unwrap();
+    }
+    Ok(entries)
+}
+
+/// Whether the claim is true, or the first cause for which it isn't.
+fn check(claim: &Claim, scoring: Scoring) -> Result<(), Cause>
+    requires { IsInterval claim.now.lower claim.now.upper }
+    ensures ok { OnOk result (IsTrueClaim scoring claim.now) }
+    ensures cause { IfErr result (λ why. IsCause scoring claim.now why) }
+{
+    if !has_few_empties(&claim.board) {
+        return Err(Cause::Empties);
+    }
+    if is_exact(claim) {
+        return check_exact(claim, scoring);
+    }
+    if !encloses(claim, scoring) {
+        return Err(Cause::Bounds);
+    }
+    Ok(())
+}
+
+fn check_exact(claim: &Claim, scoring: Scoring) -> Result<(), Cause>
+    requires few { empty_count claim.now.board ≤ 30 }
+    requires exact { IsExact claim.now }
+    ensures ok { OnOk result (IsTrueClaim scoring claim.now) }
+    ensures cause { IfErr result (λ why. IsCause scoring claim.now why) }
+{
+    let Ok(answer) = solve_alone(&claim.board, scoring) else {
+        return Err(Cause::Empties);
+    };
+    if answer.score != claim.lower {
+        return Err(Cause::Bounds);
+    }
+    if answer.best != claim.best {
+        return Err(Cause::Best);
+    }
+    Ok(())
+}
+
+/// Whether the bounds enclose the value, by one search with the window just round them.
+fn encloses(claim: &Claim, scoring: Scoring) -> bool
+    requires { IsInterval claim.now.lower claim.now.upper }
+    ensures { IsTrue result ↔ HoldsValue scoring claim.now }
+{
+    let found = search(
+        &claim.board,
+        claim.lower - 1,
+        claim.upper + 1,
+        &mut NoCells,
+        scoring,
+    );
+    is_within(found, claim)
+}
+
+fn is_within(found: Interval, claim: &Claim) -> bool
+    ensures { IsTrue result ↔ ((claim.now.lower ≤ℤ found.lower) × (found.upper ≤ℤ claim.now.upper)) }
+{
+    claim.lower <= found.lower && found.upper <= claim.upper
+}
