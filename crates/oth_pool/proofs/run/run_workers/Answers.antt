@@ -1,0 +1,17 @@
+use Rattle.std.proofs.Common.{◌≤◌, ◌∙◌, ℕ, List, map, subst}
+use Rattle.oth_pool.specs.declared.access.WorkerCells.{WorkerCells}
+use Rattle.oth_pool.specs.declared.work.Job.{Job}
+use Rattle.oth_pool.specs.declared.run.Gathered.{Gathered}
+use Rattle.oth_pool.specs.Hands.{count_of}
+use Rattle.oth_pool.specs.Dealing.{times}
+use Rattle.oth_pool.specs.Working.{numbers_of, times_by}
+use Rattle.oth_pool.proofs.Workings.{gathered, twice}
+use Rattle.oth_pool.proofs.run.run_workers.Goals as goal
+
+pub returns-clause-gathered : goal.returns-clause-gathered
+returns-clause-gathered g c =
+    let jobs : List (Job WorkerCells) = c.worked-jobs.result.items in
+    let all : Gathered = record { drawn = c.close-drawn.result; replies = c.replies_of-replies.result } in
+    let P : List (Job WorkerCells) → Type 0 = λ js. (x : ℕ) → times x (numbers_of c.replies_of-replies.result.items) ≤ times_by x (map (λ (j : Job WorkerCells). j.work) js) in
+    gathered c.args.frontier.now (count_of c.in-Ok.tasks) (map (λ (j : Job WorkerCells). j.work) jobs) c.hands_in-hands.result.items all c.in-Ok.ensures.count c.close-drawn.ensures.once c.close-drawn.ensures.lists
+    (c.hands_in-hands.ensures ∙ twice jobs) c.replies_of-replies.ensures.replies (subst P c.as_slice.ensures.value c.replies_of-replies.ensures.once)

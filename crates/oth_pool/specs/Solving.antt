@@ -1,0 +1,40 @@
+-- When a board is solved, and what its answer is.
+--     IsFullMinimax p g a      the answer is of the board p by the scoring g: its value, all its best moves, and the kind
+--     Refuses p workers cells e      why it isn't solved: the first cause that holds
+use Rattle.std.specs.Prelude.{◌≡◌, ◌⊎◌, ℕ, ◌^◌, ◌<◌, ◌≤◌}
+use Rattle.oth_rules.specs.declared.scoring.Scoring.{Scoring}
+use Rattle.oth_rules.specs.Square.{word_of}
+use Rattle.oth_rules.specs.Position.{Position, empty_count}
+use Rattle.oth_rules.specs.Score.{score_of}
+use Rattle.oth_rules.specs.Value.{value, is_best}
+use Rattle.oth_search.specs.declared.answer.Answer.{Answer}
+use Rattle.oth_search.specs.Answers.{kind_of}
+use Rattle.oth_pool.specs.declared.solving.SolveError.{SolveError}
+use Rattle.oth_pool.specs.declared.solving.SolveError.TheVariants.{TooManyEmpties, Workers, Cells}
+use Rattle.oth_pool.specs.Hands.{IsCrew}
+
+pub record IsFullMinimax (p : Position) (g : Scoring) (a : Answer) : Type 0 where
+  pub board : a.board ≡ p
+  pub scoring : a.scoring ≡ g
+  pub score : a.score ≡ value (score_of g) p
+  pub best : a.best ≡ word_of (is_best (score_of g) p)
+  pub kind : a.kind ≡ kind_of p
+
+abbrev pub IsPower : ℕ → Type 0
+IsPower cells = (k : ℕ) × (k ≤ 18) × (cells ≡ 2 ^ k)
+
+-- no table, or one of a lawful size
+abbrev pub IsSize : ℕ → Type 0
+IsSize cells = (cells ≡ 0) ⊎ IsPower cells
+
+abbrev pub IsSolvable : Position → Type 0
+IsSolvable p = empty_count p ≤ 30
+
+-- the first that holds, in this order
+abbrev pub Refuses : Position → ℕ → ℕ → SolveError → Type 0
+Refuses p workers cells (TooManyEmpties n) = (30 < empty_count p) × (n ≡ empty_count p)
+Refuses p workers cells Workers = IsSolvable p × ¬ IsCrew workers
+Refuses p workers cells Cells = IsSolvable p × IsCrew workers × ¬ IsSize cells
+
+abbrev pub Accepts : Position → ℕ → ℕ → Type 0
+Accepts p workers cells = IsSolvable p × IsCrew workers × IsSize cells

@@ -1,0 +1,21 @@
+use oth_search::Solved;
+
+/// An item's number, and bounds of its board.
+#[derive(Clone, Copy)]
+pub struct Reply {
+    pub number: u32,
+    pub solved: Solved,
+}
+
+/// Why a reply isn't taken: the first of these that holds.
+#[derive(Clone, Copy, PartialEq, Eq, Debug)]
+pub enum Refusal {
+    /// There is no item of this number.
+    Stranger,
+    /// The item has a reply.
+    Double,
+    /// The board isn't the item's.
+    OtherBoard,
+    /// The board was solved by the other scoring.
+    OtherScoring,
+}

@@ -1,0 +1,417 @@
+ghost use Rattle.std.specs.Prelude.{◌≡◌, ◌<◌, ◌≤◌, ℕ, IfSome, length, slice_index_or};
+ghost use Rattle.oth_rules.specs.Position.{empty_count};
+ghost use Rattle.oth_pool.specs.Hands.{AreAllHands, IsHandOf, number_of};
+
+use crate::{
+    Collector, Floor, Frontier, Gate, Hand, Open, Refusal, Reply, SolveError, TableAccess, Tasks,
+    WorkerCells, run_workers, solve,
+};
+use oth_rules::{Board, Scoring, Square};
+use oth_search::{Cells, Kind, NoCells, Solved};
+use oth_table::SharedTable;
+use std::alloc::Global;
+use std::sync::atomic::{AtomicU64, Ordering};
+use std::test::Fail;
+use std::thread;
+use std::thread::Threads;
+
+const A: [u64; 2] = [8, 0xffff_ffff_ffff_ff74];
+
+const B: [u64; 2] = [0xffff_ffff_ffff_fcfc, 0x0000_0000_0000_0202];
+
+const CORNERS: [u64; 2] = [0x3cff_ffff_ffff_ff3c, 0x4200_0000_0000_0042];
+
+// A board of a game, with 28 empty squares.
+const MANY_ITEMS: [u64; 2] = [0x0408_40c7_c284_0400, 0x0264_3f38_3c48_9200];
+
+const C: [u64; 2] = [0xffff_ffff_ffff_ff3c, 0x42];
+
+fn board(words: [u64; 2]) -> Option<Board>
+    ensures { IfSome result (λ b. empty_count b ≤ 30) }
+{
+    let board = Board::of(words[0], words[1]).ok()?;
+    if board.empties() > 30 {
+        return None;
+    }
+    Some(board)
+}
+
+// The board with its value.
+fn exactly(board: &Board) -> Solved {
+    Solved::by_search(board, -65, 65, &mut NoCells, Scoring::Winner)
+}
+
+// What the exact value after a move tells of the root.
+fn lifted(root: &Board, number: u8) -> Option<Solved> {
+    let square = Square::of(number)?;
+    let child = root.play(square)?;
+    Solved::lift(root, square, &exactly(&child)).ok()
+}
+
+#[test]
+fn a_floor_rises_to_the_best_move(rt: HostRuntime) -> Result<(), Fail> {
+    let (Some(a), Some(c)) = (board(A), board(C)) else {
+        panic!(rt; "no boards")
+    };
+    let (Some(b1), Some(h1)) = (lifted(&a, 1), lifted(&a, 7)) else {
+        panic!(rt; "no moves")
+    };
+    let Ok((floor, mut seat)) = Floor::new(rt.alloc(), &a, Scoring::Winner) else {
+        panic!(rt; "no floor")
+    };
+    let Ok(mut other) = floor.seat(rt.alloc(), &mut seat) else {
+        panic!(rt; "no seat")
+    };
+    assert!(rt; floor.read(&mut seat) == -64);
+    assert!(rt; floor.raise(&mut seat, &b1).is_ok());
+    assert!(rt; floor.read(&mut seat) == -64);
+    assert!(rt; floor.raise(&mut seat, &h1).is_ok());
+    assert!(rt; floor.read(&mut seat) == -50);
+    assert!(rt; floor.raise(&mut seat, &b1).is_ok());
+    assert!(rt; floor.read(&mut seat) == -50);
+    assert!(rt; floor.raise(&mut seat, &exactly(&c)).is_err());
+    assert!(rt; floor.read(&mut seat) == -50);
+    assert!(rt; floor.read(&mut other) == -50);
+    floor.meet(&mut seat, &mut other);
+    assert!(rt; floor.read(&mut seat) == -50);
+    Ok(())
+}
+
+// The words of an item's board, and whether its mover is the root's.
+fn item(frontier: &Frontier, number: u32) -> Option<(u64, u64, bool)> {
+    let item = frontier.entry(number)?;
+    Some((item.board.own(), item.board.opp(), item.same_mover))
+}
+
+#[test]
+fn frontiers_put_passes_in(rt: HostRuntime) -> Result<(), Fail> {
+    let (Some(a), Some(b)) = (board(A), board(B)) else {
+        panic!(rt; "no boards")
+    };
+    let one = Frontier::of(&a, 1);
+    assert!(rt; one.len() == 2);
+    assert!(rt; item(&one, 0) == Some((0xffff_ffff_ffff_ff70, 0x0e, false)));
+    assert!(rt; item(&one, 1) == Some((0xf8, 0xffff_ffff_ffff_ff04, true)));
+    let two = Frontier::of(&a, 2);
+    assert!(rt; two.len() == 2);
+    assert!(rt; item(&two, 0) == Some((0, 0xffff_ffff_ffff_ff7f, true)));
+    assert!(rt; item(&two, 1) == Some((0xffff_ffff_ffff_ff00, 0xfe, false)));
+    let two = Frontier::of(&b, 2);
+    assert!(rt; two.len() == 2);
+    assert!(rt; item(&two, 0) == Some((0, 0xffff_ffff_ffff_feff, false)));
+    assert!(rt; item(&two, 1) == Some((0, 0xffff_ffff_ffff_ffff, false)));
+    Ok(())
+}
+
+// What the hand at this place draws.
+fn drawn(tasks: &Tasks, hands: &mut Vec<Hand>, at: usize) -> Option<u32>
+    requires { AreAllHands tasks.now hands.old.items }
+    ensures { AreAllHands tasks.now hands.new.items }
+{
+    if at >= hands.len() {
+        return None;
+    }
+    tasks.draw(&mut hands[at])
+}
+
+#[test]
+fn hands_steal_from_each_other(rt: HostRuntime) -> Result<(), Fail> {
+    let Some(a) = board(A) else {
+        panic!(rt; "no board")
+    };
+    let frontier = Frontier::of(&a, 1);
+    let Ok((tasks, mut hands)) = Tasks::new(rt.alloc(), &frontier, 2) else {
+        panic!(rt; "no tasks")
+    };
+    assert!(rt; drawn(&tasks, &mut hands, 0) == Some(0));
+    assert!(rt; drawn(&tasks, &mut hands, 0) == Some(1));
+    assert!(rt; drawn(&tasks, &mut hands, 0) == None);
+    assert!(rt; drawn(&tasks, &mut hands, 1) == None);
+    let closed = tasks.close(hands);
+    let [first, second] = closed.lists.as_slice() else {
+        panic!(rt; "not two lists")
+    };
+    assert!(rt; first.as_slice() == [0, 1].as_slice() && second.is_empty());
+    assert!(rt; closed.left.is_empty());
+    Ok(())
+}
+
+#[test]
+fn the_second_hand_draws_first(rt: HostRuntime) -> Result<(), Fail> {
+    let Some(a) = board(A) else {
+        panic!(rt; "no board")
+    };
+    let frontier = Frontier::of(&a, 1);
+    let Ok((tasks, mut hands)) = Tasks::new(rt.alloc(), &frontier, 2) else {
+        panic!(rt; "no tasks")
+    };
+    assert!(rt; drawn(&tasks, &mut hands, 1) == Some(1));
+    assert!(rt; drawn(&tasks, &mut hands, 1) == Some(0));
+    assert!(rt; drawn(&tasks, &mut hands, 1) == None);
+    Ok(())
+}
+
+// The hand draws until there is nothing left.
+fn draw_out(tasks: &Tasks, hand: &mut Hand)
+    requires { IsHandOf tasks.now hand.old }
+    ensures hand { IsHandOf tasks.now hand.new }
+    ensures number { number_of hand.new ≡ number_of hand.old }
+{
+    for _ in 0..1000 {
+        if tasks.draw(hand).is_none() {
+            break;
+        }
+    }
+}
+
+// Each hand draws in a thread of its own.
+fn draw_all<R: Threads + Sync>(rt: &R, tasks: &Tasks, hands: &mut Vec<Hand>)
+    requires { AreAllHands tasks.now hands.old.items }
+    ensures { AreAllHands tasks.now hands.new.items }
+{
+    draw_each(rt, tasks, hands.as_mut_slice());
+}
+
+fn draw_each<R: Threads + Sync>(rt: &R, tasks: &Tasks, hands: &mut [Hand])
+    requires { (i : ℕ) (d : Hand) → i < length hands.old → IsHandOf tasks.now (slice_index_or hands.old i d) }
+    ensures hands { (i : ℕ) (d : Hand) → i < length hands.old → IsHandOf tasks.now (slice_index_or hands.new i d) }
+    ensures numbers { (i : ℕ) (d : Hand) → i < length hands.old → number_of (slice_index_or hands.new i d) ≡ number_of (slice_index_or hands.old i d) }
+{
+    if hands.is_empty() {
+        return;
+    }
+    let threads = hands.len();
+    thread::for_each_mut(
+        rt,
+        hands,
+        threads,
+        &|_, hand: &mut Hand| draw_out(tasks, hand),
+    );
+}
+
+#[test]
+fn four_threads_draw_each_number_once(rt: HostRuntime) -> Result<(), Fail> {
+    let Some(root) = board(MANY_ITEMS) else {
+        panic!(rt; "no board")
+    };
+    let frontier = Frontier::of(&root, 2);
+    assert!(rt; frontier.len() == 194);
+    let Ok((tasks, mut hands)) = Tasks::new(rt.alloc(), &frontier, 4) else {
+        panic!(rt; "no tasks")
+    };
+    draw_all(&rt, &tasks, &mut hands);
+    let closed = tasks.close(hands);
+    let mut seen = [0; 194];
+    for list in closed.lists.as_slice() {
+        for number in list.as_slice() {
+            if let Some(count) = seen.get_mut(*number as usize) {
+                *count = 1;
+            }
+        }
+    }
+    assert!(rt; closed.left.is_empty());
+    assert!(rt; seen.iter().all(|count| *count == 1));
+    Ok(())
+}
+
+#[test]
+fn a_collector_takes_each_reply_once(rt: HostRuntime) -> Result<(), Fail> {
+    let Some(a) = board(A) else {
+        panic!(rt; "no board")
+    };
+    let frontier = Frontier::of(&a, 1);
+    let (Some(zero), Some(one)) = (frontier.item(0), frontier.item(1)) else {
+        panic!(rt; "no items")
+    };
+    let mut collector = Collector::new(&frontier, Scoring::Winner);
+    let solved = exactly(&one);
+    let discs = Solved::unknown(zero, Scoring::Discs);
+    assert!(rt; collector.take(Reply { number: 1, solved }).is_ok());
+    assert!(rt; collector.take(Reply { number: 1, solved }).err() == Some(Refusal::Double));
+    assert!(rt; collector.take(Reply { number: 2, solved }).err() == Some(Refusal::Stranger));
+    assert!(rt; collector.take(Reply { number: 0, solved }).err() == Some(Refusal::OtherBoard));
+    let other = collector.take(Reply {
+        number: 0,
+        solved: discs,
+    });
+    assert!(rt; other.err() == Some(Refusal::OtherScoring));
+    assert!(rt; collector.solved(0).is_none() && collector.solved(1).is_some());
+    Ok(())
+}
+
+// What `solve` answers: the score, the best moves and the kind; None where it refuses.
+fn solved<R: Threads + Sync>(
+    rt: &R,
+    alloc: Global,
+    words: [u64; 2],
+    workers: u8,
+    cells: u32,
+    scoring: Scoring,
+) -> Option<(i8, u64, Kind)> {
+    let board = Board::of(words[0], words[1]).ok()?;
+    let answer = solve(rt, alloc, &board, workers, cells, &Open, None, scoring).ok()?;
+    Some((answer.score, answer.best, answer.kind))
+}
+
+// The worked boards with their scores and best moves, by the scoring that gives the empty squares to the winner.
+const ROWS: [([u64; 2], i8, u64, Kind); 10] = [
+    ([0xffff_ffff_ffff_fffc, 0x2], 64, 0x1, Kind::Move),
+    ([0x2, 0xffff_ffff_ffff_fffc], -64, 0, Kind::Pass),
+    (C, 64, 0x81, Kind::Move),
+    ([0x80, 0xffff_ffff_ffff_7f7e], -48, 0x1, Kind::Move),
+    (A, -50, 0x80, Kind::Move),
+    ([0xffff_ffff_ffff_ff74, 8], 50, 0, Kind::Pass),
+    ([0x10, 0xffff_ffff_ffff_ff2e], -50, 0x1, Kind::Move),
+    ([0x1000_0000_0000_0000, 0x2eff_ffff_ffff_ffff], -50, 0x0100_0000_0000_0000, Kind::Move),
+    (B, 64, 0x0101, Kind::Move),
+    (CORNERS, 64, 0x8100_0000_0000_0081, Kind::Move),
+];
+
+#[test]
+fn all_crews_and_tables_give_the_worked_rows(rt: HostRuntime) -> Result<(), Fail> {
+    for (words, score, best, kind) in ROWS {
+        for (workers, cells) in [(1, 0), (2, 1), (7, 262_144), (16, 0)] {
+            let found = solved(&rt, rt.alloc(), words, workers, cells, Scoring::Winner);
+            assert!(rt; found == Some((score, best, kind)));
+        }
+    }
+    Ok(())
+}
+
+#[test]
+fn the_disc_difference_gives_other_best_moves(rt: HostRuntime) -> Result<(), Fail> {
+    let b = solved(&rt, rt.alloc(), B, 2, 64, Scoring::Discs);
+    assert!(rt; b == Some((64, 0x0100, Kind::Move)));
+    let a = solved(&rt, rt.alloc(), A, 2, 64, Scoring::Discs);
+    assert!(rt; a == Some((-49, 0x80, Kind::Move)));
+    Ok(())
+}
+
+#[test]
+fn refusals_come_in_order(rt: HostRuntime) -> Result<(), Fail> {
+    let (Ok(a), Ok(few)) = (Board::of(A[0], A[1]), Board::of(1, 2)) else {
+        panic!(rt; "no boards")
+    };
+    for (workers, cells, refusal) in [
+        (0, 0, SolveError::Workers),
+        (17, 0, SolveError::Workers),
+        (0, 3, SolveError::Workers),
+        (1, 3, SolveError::Cells),
+        (1, 524_288, SolveError::Cells),
+    ] {
+        let found = solve(&rt, rt.alloc(), &a, workers, cells, &Open, None, Scoring::Winner);
+        assert!(rt; found.err() == Some(refusal));
+    }
+    let found = solve(&rt, rt.alloc(), &few, 0, 3, &Open, None, Scoring::Winner);
+    assert!(rt; found.err() == Some(SolveError::TooManyEmpties(62)));
+    Ok(())
+}
+
+// Four bits for each item count how often it hears of it.
+#[derive(Drop)]
+struct Hearing {
+    before: AtomicU64,
+    after: AtomicU64,
+}
+
+fn count(calls: &AtomicU64, task: u32) {
+    if task < 12 {
+        calls.fetch_add(1 << (4 * task), Ordering::SeqCst);
+    }
+}
+
+impl Gate for Hearing {
+    fn before(&self, task: u32) {
+        count(&self.before, task);
+    }
+
+    fn after(&self, task: u32) {
+        count(&self.after, task);
+    }
+}
+
+#[test]
+fn the_gate_hears_each_item_once(rt: HostRuntime) -> Result<(), Fail> {
+    let Ok(board) = Board::of(CORNERS[0], CORNERS[1]) else {
+        panic!(rt; "no board")
+    };
+    let gate = Hearing {
+        before: AtomicU64::new(0),
+        after: AtomicU64::new(0),
+    };
+    let answer = solve(&rt, rt.alloc(), &board, 2, 0, &gate, None, Scoring::Winner);
+    assert!(rt; answer.is_ok());
+    assert!(rt; gate.before.load(Ordering::SeqCst) == 0x1111_1111_1111);
+    assert!(rt; gate.after.load(Ordering::SeqCst) == 0x1111_1111_1111);
+    Ok(())
+}
+
+// Each of the first two items waits a while for the other one.
+#[derive(Drop)]
+struct Meeting {
+    heard: [AtomicU64; 2],
+}
+
+impl Gate for Meeting {
+    fn before(&self, task: u32) {
+        if task < 2 {
+            self.heard[task as usize].store(1, Ordering::SeqCst);
+            for _ in 0..10_000_000 {
+                if self.heard[1 - task as usize].load(Ordering::SeqCst) != 0 {
+                    return;
+                }
+                thread::yield_now();
+            }
+            self.heard[task as usize].store(2, Ordering::SeqCst);
+        }
+    }
+
+    fn after(&self, _task: u32) {}
+}
+
+#[test]
+fn two_workers_work_at_once(rt: HostRuntime) -> Result<(), Fail> {
+    let Ok(board) = Board::of(C[0], C[1]) else {
+        panic!(rt; "no board")
+    };
+    for cells in [0, 64] {
+        let gate = Meeting {
+            heard: [AtomicU64::new(0), AtomicU64::new(0)],
+        };
+        let answer = solve(&rt, rt.alloc(), &board, 2, cells, &gate, None, Scoring::Winner);
+        assert!(rt; answer.is_ok());
+        for heard in gate.heard.as_slice() {
+            assert!(rt; heard.load(Ordering::SeqCst) == 1);
+        }
+    }
+    Ok(())
+}
+
+#[test]
+fn workers_search_over_the_table(rt: HostRuntime) -> Result<(), Fail> {
+    let Some(a) = board(A) else {
+        panic!(rt; "no board")
+    };
+    let frontier = Frontier::of(&a, 1);
+    let Ok((floor, mut seat)) = Floor::new(rt.alloc(), &a, Scoring::Winner) else {
+        panic!(rt; "no floor")
+    };
+    let Ok((table, own)) = SharedTable::new(rt.alloc(), 1, Scoring::Winner) else {
+        panic!(rt; "no table")
+    };
+    let mut access = Some(TableAccess::of(&table, own));
+    let found = run_workers(&rt, rt.alloc(), &frontier, &floor, &mut seat, 2, &mut access, &Open);
+    assert!(rt; found.drawn.left.is_empty() && found.replies.len() == 2);
+    let mut cells = WorkerCells::of(rt.alloc(), &mut access);
+    let mut whole = false;
+    for number in [1, 7] {
+        if let Some(child) = a.play(Square::numbered(number)) {
+            let (board, _) = child.canonical();
+            whole = whole || cells.look(&board, Scoring::Winner).is_some();
+            let (board, _) = child.pass().canonical();
+            whole = whole || cells.look(&board, Scoring::Winner).is_some();
+        }
+    }
+    assert!(rt; whole);
+    Ok(())
+}
