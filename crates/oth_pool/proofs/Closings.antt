@@ -1,5 +1,5 @@
 -- From the hands to what is settled.
-use Rattle.std.proofs.Common.{◌≡◌, ◌≢◌, ℕ, zero, suc, ◌+◌, ◌<◌, ◌≤◌, ◌%◌, ◌==◌, ◌&&◌, nat_lt, Bool, true, false, if◌then◌else◌, List, [], ◌∷◌, map, length, get_or, sym, refl, ap, ◌∙◌, subst, arith, slice_index_or, vec_len, Vec, cond}
+use Rattle.std.proofs.Common.{◌≡◌, ◌≢◌, ℕ, zero, suc, ◌+◌, ◌<◌, ◌≤◌, ◌%◌, ◌==◌, Bool, true, false, if◌then◌else◌, List, [], ◌∷◌, map, length, get_or, sym, refl, ap, ◌∙◌, subst, arith, slice_index_or, vec_len, Vec, cond}
 use Rattle.std.specs.List.{sum_by, filter, range_with_len}
 use Rattle.std.proofs.lemmas.List.Sums.{sum_by-cons}
 use Rattle.std.proofs.lemmas.Bool.Decides.{nat_tests}
@@ -12,9 +12,8 @@ use mathlib.Core.Logic.{dite}
 use native.Mathlib.Decide.{ℕ_discrete}
 use Rattle.oth_pool.specs.declared.tasks.state.Drawn.{Drawn}
 use Rattle.oth_pool.specs.Drawing.{lists_of, times_in_all, left_of, AreOnce}
-use Rattle.oth_pool.specs.Hands.{list_of, Thief, taken_by, taken_with, dealt_of, Fits, IsHandOf, AreAllHands}
-use Rattle.oth_pool.specs.Settling.{Token, Owner, Pile, pile_sum, owner_taken, owner_sum, KnowsItsOwn, IsUnsettled, CanSettle}
-use Rattle.oth_pool.proofs.Handings.{any_default}
+use Rattle.oth_pool.specs.Hands.{list_of, Thief, taken_by, taken_with, dealt_of, AreAllHands}
+use Rattle.oth_pool.specs.Settling.{Owner, Pile, pile_sum, owner_taken, owner_sum, CanSettle}
 
 pub get_or_map : {A B : Type 0} (f : A → B) (xs : List A) (i : ℕ) (x : A) (y : B) → i < length xs → get_or (map f xs) i y ≡ f (get_or xs i x)
 get_or_map f [] i x y below = absurd (omega arith)

@@ -1,12 +1,12 @@
 -- Each step of a floor keeps its rule.
-use Rattle.std.proofs.Common.{◌≡◌, ◌≢◌, ℕ, zero, suc, ◌+◌, ◌<◌, ◌≤◌, max, ℤ, pos, negsuc, ◌-ℤ◌, ◌≤ℤ◌, Bool, true, false, true≢false, ◌==◌, ◌⊎◌, List, [], ◌∷◌, ◌++◌, length, Option, Some, None, unwrap_or, IsTrue, nat_le, slice_index, slice_set, if◌then◌else◌, append-nil, sym, refl, ap, ◌∙◌, subst, ⊎_elim, inl, inr, arith, set}
+use Rattle.std.proofs.Common.{◌≡◌, ◌≢◌, ℕ, zero, suc, ◌≤◌, max, ℤ, pos, ◌-ℤ◌, ◌≤ℤ◌, true, false, true≢false, ◌==◌, ◌⊎◌, List, [], ◌∷◌, ◌++◌, length, Option, Some, None, unwrap_or, IsTrue, slice_index, slice_set, if◌then◌else◌, append-nil, sym, refl, ap, ◌∙◌, subst, ⊎_elim, inl, inr, arith, set}
 use mathlib.Core.Option.{some, none, some-injective, some-ne-none}
 use lib.ListN.{get_elem?}
 use Rattle.std.specs.Int.{int_max}
 use Rattle.std.proofs.lemmas.Int.{ints, clamps}
 use Rattle.std.proofs.lemmas.Bool.Decides.{nat_tests}
-use Rattle.atomic_table.specs.Table.{State, Me, Step, step, Act, keeps, stepped, opening, Allows, Splits, Joins}
-use Rattle.atomic_table.proofs.Lists.{at_set, set_again}
+use Rattle.atomic_table.specs.Table.{State, step, keeps, stepped, opening, Allows, Splits, Joins}
+use Rattle.atomic_table.proofs.Lists.{at_set}
 use Rattle.oth_rules.specs.declared.scoring.Scoring.{Scoring}
 use Rattle.oth_rules.specs.Position.{Position}
 use Rattle.oth_rules.specs.Score.{score_of}
@@ -16,9 +16,9 @@ use Rattle.oth_pool.specs.declared.floor.root.Root.{Root}
 use Rattle.oth_pool.specs.declared.floor.event.Event.{Event}
 use Rattle.oth_pool.specs.declared.floor.event.Event.TheVariants.{Raise, Made}
 use Rattle.oth_pool.specs.declared.floor.view.View.{View}
-use Rattle.oth_pool.specs.History.{floor_after, author, events_of, is_among, made_after, made_in, root_value, MayCome, IsLegal, Begins}
-use Rattle.oth_pool.specs.Floor.{Has, Knows, IsKept, newcomer, code_of, Sees, Adds, Looked, Raised, Named, longer, Learned, parent_of, child_of, silent, messenger_of, told_by, spent}
-use Rattle.oth_pool.proofs.Histories.{floor_after-true, floor_after-raise, floor_after-made, made_after-append, IsLegalFrom-snoc, IsLegal-begin, is_among-more, fresh, is_among-fresh, events_of-unmade, events_of-snoc, events_of-snoc_other, begins_all, begins_more, begins_shorter, events_of-between, longer_begins}
+use Rattle.oth_pool.specs.History.{floor_after, author, events_of, is_among, made_in, root_value, MayCome, IsLegal, Begins}
+use Rattle.oth_pool.specs.Floor.{Has, Knows, IsKept, newcomer, code_of, Adds, Looked, Raised, Named, longer, Learned, parent_of, child_of, silent, messenger_of, told_by, spent}
+use Rattle.oth_pool.proofs.Histories.{floor_after-true, floor_after-raise, floor_after-made, made_after-append, IsLegalFrom-snoc, IsLegal-begin, is_among-more, fresh, is_among-fresh, events_of-unmade, events_of-snoc, events_of-snoc_other, begins_all, begins_more, events_of-between, longer_begins}
 
 abbrev Each : Root → List Event → (ℕ → ℕ) → List View → Type 0
 Each root log owner views = (seat : ℕ) (v : View) → get_elem? views seat ≡ some v → Knows root log owner seat v

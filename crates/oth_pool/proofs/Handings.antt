@@ -1,5 +1,5 @@
 -- What a hand keeps when it takes a number.
-use Rattle.std.proofs.Common.{◌≡◌, ◌≢◌, ℕ, zero, suc, ◌+◌, ◌<◌, ◌≤◌, Bool, true, List, [], ◌∷◌, ◌++◌, length, get_or, set, sym, refl, ap, ◌∙◌, subst, arith, slice_index_or, vec_len, Vec, ◌%◌, ◌==◌, if◌then◌else◌, Option, Some, None, get_or-set_same, get_or-set_other, append-nil}
+use Rattle.std.proofs.Common.{◌≡◌, ℕ, zero, suc, ◌+◌, ◌<◌, ◌≤◌, Bool, List, [], ◌∷◌, ◌++◌, length, get_or, set, sym, refl, ap, ◌∙◌, subst, arith, slice_index_or, vec_len, Vec, ◌%◌, ◌==◌, if◌then◌else◌, Option, Some, None, get_or-set_same, get_or-set_other, append-nil}
 use mathlib.Core.Logic.{dite}
 use native.Mathlib.Decide.{ℕ_discrete}
 use Rattle.std.specs.List.{sum_by}
@@ -15,7 +15,7 @@ use Rattle.oth_pool.specs.declared.tasks.state.Hand.{Hand}
 use Rattle.oth_pool.specs.declared.tasks.rule.Deal.{Deal}
 use Rattle.oth_pool.specs.declared.tasks.share.Share.{Share}
 use Rattle.oth_pool.specs.Dealing.{times, takes, Took}
-use Rattle.oth_pool.specs.Hands.{dealt_of, taken_with, taken_by, Knows, Thief, Fits, IsHandOf, Draws}
+use Rattle.oth_pool.specs.Hands.{dealt_of, taken_with, Knows, Thief, Fits, IsHandOf, Draws}
 use Rattle.oth_pool.proofs.Dealings.{times-append}
 
 abbrev Token : Type 0

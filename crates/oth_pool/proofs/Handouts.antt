@@ -1,10 +1,10 @@
 -- How the hands are made.
-use Rattle.std.proofs.Common.{◌≡◌, ◌≢◌, ◌⊎◌, ⊎_elim, inl, inr, ℕ, zero, suc, ◌+◌, ◌<◌, ◌≤◌, List, [], ◌∷◌, ◌++◌, length, get_or, set, take, sym, refl, ap, ◌∙◌, subst, arith, slice_index_or, vec_len, Vec, false, Result, Ok, Err, IfOk, length-append, length-set, get_or-set_same, get_or-set_other}
+use Rattle.std.proofs.Common.{◌≡◌, ◌⊎◌, ⊎_elim, inl, inr, ℕ, zero, suc, ◌+◌, ◌<◌, ◌≤◌, List, [], ◌∷◌, ◌++◌, length, get_or, set, take, sym, refl, ap, ◌∙◌, subst, arith, slice_index_or, vec_len, Vec, false, Result, Ok, Err, IfOk, length-append, length-set, get_or-set_same, get_or-set_other}
 use mathlib.Core.Logic.{dite}
 use native.Mathlib.Decide.{ℕ_discrete}
 use Rattle.std.specs.declared.alloc.Global.{Global}
 use Rattle.std.specs.declared.alloc.AllocError.{AllocError}
-use Rattle.oth_pool.specs.Hands.{Owner, Thief, IsThiefOf, AreThievesOf, StaysOwner, StayOwners, IsTokenOf, AreTokensOf, HasOnly, OwnerFits, OwnersFit, PileFits, HasRoom, IsHandOf, IsNewHand, AreHandsOf, AreAllHands, AreFresh, number_of, taken_with}
+use Rattle.oth_pool.specs.Hands.{Owner, StaysOwner, StayOwners, IsTokenOf, AreTokensOf, HasOnly, OwnerFits, OwnersFit, PileFits, HasRoom, IsHandOf, IsNewHand, AreHandsOf, AreAllHands, AreFresh, number_of, taken_with}
 use Rattle.std.specs.List.{sum_by, All}
 use Rattle.oth_pool.specs.declared.tasks.state.Hand.{Hand}
 use Rattle.oth_pool.specs.declared.tasks.state.Parts.{Parts}

@@ -1,12 +1,9 @@
 -- Lemmas on histories.
-use Rattle.std.proofs.Common.{◌≡◌, ◌≢◌, ℕ, zero, suc, ◌+◌, ◌<◌, ◌≤◌, ℤ, pos, negsuc, ◌≤ℤ◌, Bool, true, false, true≢false, ◌==◌, ◌⊎◌, ◌||◌, List, [], ◌∷◌, ◌++◌, length, filter, IsTrue, nat_le, cond, sym, refl, ap, ◌∙◌, subst, ⊎_elim, inl, inr, append_assoc, append-nil, length-append, arith, rules}
+use Rattle.std.proofs.Common.{◌≡◌, ◌≢◌, ℕ, suc, ◌+◌, ◌≤◌, ℤ, ◌≤ℤ◌, Bool, true, false, true≢false, ◌==◌, ◌⊎◌, List, [], ◌∷◌, ◌++◌, length, nat_le, cond, sym, refl, ap, ◌∙◌, subst, ⊎_elim, inl, inr, append_assoc, append-nil, length-append, arith}
 use Rattle.std.specs.Int.{int_max}
 use Rattle.std.proofs.lemmas.List.Elements.{filter-append}
 use Rattle.std.proofs.lemmas.Int.{ints, clamps}
 use Rattle.std.proofs.lemmas.Bool.Decides.{nat_tests}
-use Rattle.std.proofs.lemmas.Grind.{common_steps}
-use Rattle.oth_rules.specs.declared.scoring.Scoring.{Scoring}
-use Rattle.oth_rules.specs.Laws.{IsScore}
 use Rattle.oth_rules.proofs.Scores.{value_bounds}
 use Rattle.oth_pool.specs.declared.floor.root.Root.{Root}
 use Rattle.oth_pool.specs.declared.floor.event.Event.{Event}

@@ -9,5 +9,4 @@ pub mod Handouts
 pub mod Closings
 pub mod Lefts
 pub mod Workings
-pub mod Headline
 pub mod Passed

@@ -1,5 +1,5 @@
 -- A frontier of a board with at most 30 empty squares has at most 870 items.
-use Rattle.std.proofs.Common.{◌≡◌, ℕ, zero, suc, ◌+◌, ◌*◌, ◌<◌, ◌≤◌, Bool, true, false, cond, ◌&&◌, List, [], ◌∷◌, map, length, get_or, refl, sym, ap, ◌∙◌, arith}
+use Rattle.std.proofs.Common.{◌≡◌, ℕ, zero, suc, ◌+◌, ◌*◌, ◌<◌, ◌≤◌, Bool, true, false, cond, ◌&&◌, List, [], ◌∷◌, map, length, get_or, refl, sym, ◌∙◌, arith}
 use Rattle.std.specs.List.{filter, flat_map, range_with_len, All}
 use Rattle.std.proofs.lemmas.Bool.{false≢true}
 use Rattle.std.proofs.lemmas.List.{length-map, length-append, get_or_default}
@@ -14,7 +14,7 @@ use Rattle.std.specs.List.{list_any}
 use Rattle.oth_rules.proofs.Legal.{legal-is}
 use Rattle.oth_rules.proofs.SearchLaws.{empty_count-after, empty_count-pass, IsLegal-from_contains}
 use Rattle.oth_pool.specs.declared.frontier.item.Item.{Item}
-use Rattle.oth_pool.specs.Below.{awake, only_passes, item_after, children, move_of, moves_of, one_ply, below, two_plies}
+use Rattle.oth_pool.specs.Below.{awake, only_passes, item_after, children, move_of, one_ply, below, two_plies}
 
 fewer : (f g : ℕ → Bool) (a n : ℕ) → ((s : ℕ) → s < a + n → f s ≡ true → g s ≡ true) → length (filter f (range_with_len a n)) ≤ length (filter g (range_with_len a n))
 fewer f g a zero each = omega arith

@@ -3,7 +3,7 @@
 --     one_ply root, two_plies root      the items below, by rising squares; one that is over after one ply stands itself
 --     frontier plies root      one or two plies below
 -- An item is a board, the root's move that leads to it, and whether its mover is the root's.
-use Rattle.std.specs.Prelude.{◌≡◌, ◌⊎◌, ℕ, Bool, true, false, ◌&&◌, ◌==◌, not, if◌then◌else◌, List, [], ◌∷◌, map, flat_map}
+use Rattle.std.specs.Prelude.{◌≡◌, ◌⊎◌, ℕ, Bool, true, ◌&&◌, ◌==◌, not, if◌then◌else◌, List, [], ◌∷◌, map, flat_map}
 use Rattle.oth_rules.specs.Position.{Position, pass}
 use Rattle.oth_rules.specs.Move.{is_legal, legal_squares, can_move, is_over, after}
 use Rattle.oth_pool.specs.declared.frontier.item.Item.{Item}

@@ -1,6 +1,6 @@
 -- The rule of a deque of numbers: what was put is what was taken and what the deque holds.
 --     times x xs      how often x stands in the list
-use Rattle.std.specs.Prelude.{◌≡◌, ℕ, ◌+◌, ◌≤◌, Bool, true, false, ◌==◌, List, [], ◌∷◌, ◌++◌, count_by, sum_by, Option, Some, None, option_to_list}
+use Rattle.std.specs.Prelude.{◌≡◌, ℕ, ◌+◌, ◌≤◌, Bool, true, false, ◌==◌, List, [], ◌++◌, count_by, sum_by, Option, Some, None, option_to_list}
 use mathlib.Core.Option.{some}
 use lib.ListN.{get_elem?}
 use Rattle.oth_pool.specs.declared.tasks.share.Share.{Share}

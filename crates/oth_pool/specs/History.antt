@@ -3,7 +3,7 @@
 --     made_in log      the seats there are after it, the latest first. Seat 0 is there from the start
 --     IsLegal root log      each event is by a seat made before it, no seat is made twice, and no number is above the value of the root
 --     events_of name log      those of this seat, in order
-use Rattle.std.specs.Prelude.{◌≡◌, ℕ, ℤ, negsuc, ◌≤ℤ◌, Bool, true, false, ◌==◌, ◌||◌, not, List, [], ◌∷◌, ◌++◌, filter, IsTrue}
+use Rattle.std.specs.Prelude.{◌≡◌, ℕ, ℤ, negsuc, ◌≤ℤ◌, Bool, false, ◌==◌, ◌||◌, List, [], ◌∷◌, ◌++◌, filter, IsTrue}
 use Rattle.std.specs.Int.{int_max}
 use Rattle.oth_rules.specs.Score.{score_of}
 use Rattle.oth_rules.specs.Value.{value}

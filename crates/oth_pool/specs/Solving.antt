@@ -1,24 +1,10 @@
--- When a board is solved, and what its answer is.
---     IsFullMinimax p g a      the answer is of the board p by the scoring g: its value, all its best moves, and the kind
+-- When a board is solved.
 --     Refuses p workers cells e      why it isn't solved: the first cause that holds
 use Rattle.std.specs.Prelude.{◌≡◌, ◌⊎◌, ℕ, ◌^◌, ◌<◌, ◌≤◌}
-use Rattle.oth_rules.specs.declared.scoring.Scoring.{Scoring}
-use Rattle.oth_rules.specs.Square.{word_of}
 use Rattle.oth_rules.specs.Position.{Position, empty_count}
-use Rattle.oth_rules.specs.Score.{score_of}
-use Rattle.oth_rules.specs.Value.{value, is_best}
-use Rattle.oth_search.specs.declared.answer.Answer.{Answer}
-use Rattle.oth_search.specs.Answers.{kind_of}
 use Rattle.oth_pool.specs.declared.solving.SolveError.{SolveError}
 use Rattle.oth_pool.specs.declared.solving.SolveError.TheVariants.{TooManyEmpties, Workers, Cells}
 use Rattle.oth_pool.specs.Hands.{IsCrew}
-
-pub record IsFullMinimax (p : Position) (g : Scoring) (a : Answer) : Type 0 where
-  pub board : a.board ≡ p
-  pub scoring : a.scoring ≡ g
-  pub score : a.score ≡ value (score_of g) p
-  pub best : a.best ≡ word_of (is_best (score_of g) p)
-  pub kind : a.kind ≡ kind_of p
 
 abbrev pub IsPower : ℕ → Type 0
 IsPower cells = (k : ℕ) × (k ≤ 18) × (cells ≡ 2 ^ k)

@@ -2,7 +2,7 @@
 --     IsReplyOf items reply      the reply is of the board of its number's item
 --     CanWork items tasks floor work      the hand and the seat are of these tasks and this floor, and each reply is of a number that the hand drew, once
 --     AreGathered items gathered      each number was drawn once or is left; each reply is of a drawn number, once, and of its item's board
-use Rattle.std.specs.Prelude.{◌≡◌, ℕ, ◌+◌, ◌<◌, ◌≤◌, List, length, map, All, slice_get, slice_index_or, sum_by, Some, option_map}
+use Rattle.std.specs.Prelude.{◌≡◌, ℕ, ◌≤◌, List, length, map, All, slice_get, sum_by, Some, option_map}
 use Rattle.oth_pool.specs.declared.frontier.item.Item.{Item}
 use Rattle.oth_pool.specs.declared.reply.Reply.{Reply}
 use Rattle.oth_pool.specs.declared.work.Work.{Work}
@@ -11,7 +11,7 @@ use Rattle.oth_pool.specs.declared.tasks.state.Tasks.{Tasks}
 use Rattle.oth_pool.specs.declared.tasks.state.Hand.{Hand}
 use Rattle.oth_pool.specs.Watch.{Place, IsSeatOf}
 use Rattle.oth_pool.specs.Below.{board_of}
-use Rattle.oth_pool.specs.Hands.{IsHandOf, AreAllHands, list_of}
+use Rattle.oth_pool.specs.Hands.{IsHandOf, list_of}
 use Rattle.oth_pool.specs.Dealing.{times}
 use Rattle.oth_pool.specs.Drawing.{times_in_all, AreOnce}
 

@@ -2,17 +2,19 @@
 ghost use Rattle.std.specs.Prelude.{◌≡◌, ◌↔◌, ◌<◌, ◌≤◌, true, IsTrue, IfOk, IfErr, length};
 ghost use Rattle.oth_rules.specs.Position.{empty_count};
 ghost use Rattle.oth_rules.specs.Move.{can_move};
-ghost use Rattle.oth_pool.specs.Solving.{IsPower, IsSolvable, IsFullMinimax, Refuses, Accepts};
+ghost use Rattle.oth_pool.specs.Solving.{IsPower, IsSolvable, Refuses, Accepts};
+ghost use Rattle.oth_search.specs.Full.{IsFullMinimax};
 ghost use Rattle.oth_pool.specs.Hands.{IsCrew};
 ghost use Rattle.oth_pool.specs.Watch.{IsSeatOf};
 
 use crate::access::{TableAccess, WorkerCells};
 use crate::floor::{Floor, FloorSeat};
 use crate::frontier::Frontier;
-use crate::gate::Gate;
+use crate::gate::{Gate, Open};
 use crate::run::run_workers;
 use crate::told::{answer_in, bounds_in, passed_on};
 use crate::workers::search_item;
+use arrayvec::ArrayVec;
 use oth_book::Book;
 use oth_rules::{Board, Scoring, Square};
 use oth_search::{
@@ -21,6 +23,9 @@ use oth_search::{
 use oth_table::SharedTable;
 use std::alloc::Global;
 use std::thread::Threads;
+
+// The fewest empty squares of a board whose moves are split among the workers.
+const LEAST_SPLIT: u8 = 13;
 
 /// Why a board isn't solved: the first of these that holds.
 #[derive(Clone, Copy, PartialEq, Eq, Debug)]
@@ -145,24 +150,93 @@ fn answer_over<'t, R: Threads + Sync, G: Gate>(
     ensures scoring { result.scoring ≡ told.now.scoring }
 {
     let mut cells = WorkerCells::of(alloc, access);
-    let first = first_move(told.board, &mut cells, told.scoring);
+    let first = first_move(rt, alloc, told.board, workers, access, &mut cells, told.scoring);
+    if access.is_some() {
+        split(rt, alloc, &told.board, &first, workers, access);
+    }
     let found = search_items(rt, alloc, told, &first, workers, access, gate, &mut cells);
     let known = children_of(alloc, told.board, &first, found.as_slice());
     let root = root_by(told, known.as_slice());
     solve_moves(root, known.as_slice(), &mut cells)
 }
 
-// The board after the first move of the order, with its value.
-fn first_move<C: Cells>(board: Board, cells: &mut C, scoring: Scoring) -> Solved
-    ensures { result.scoring ≡ scoring }
-{
-    let squares = order(&board);
-    if let Some(square) = squares.as_slice().first()
-        && let Some(child) = board.play(*square)
-    {
-        return Solved::by_search(&child, -65, 65, cells, scoring);
+// The board after the first move of the order.
+fn first_child(board: &Board) -> Option<Board> {
+    let squares = order(board);
+    let square = squares.as_slice().first()?;
+    board.play(*square)
+}
+
+// The boards of the line of first moves, as long as a split of their moves pays.
+fn first_line(board: Board) -> ArrayVec<Board, 32> {
+    let mut line = ArrayVec::new();
+    let mut last = board;
+    for _ in 0..30 {
+        let Some(child) = first_child(&last) else {
+            break;
+        };
+        if child.empties() < LEAST_SPLIT {
+            break;
+        }
+        let _ = line.try_push(child);
+        last = child;
     }
-    Solved::unknown(board, scoring)
+    line
+}
+
+// The board after the first move of the order, with its value: first the last board of the line of first moves, and then each
+// before it, when the workers have searched its other moves over the table.
+fn first_move<'t, R: Threads + Sync>(
+    rt: &R,
+    alloc: Global,
+    board: Board,
+    workers: u8,
+    access: &mut Option<TableAccess<'t>>,
+    cells: &mut WorkerCells<'t>,
+    scoring: Scoring,
+) -> Solved
+    requires { IsCrew workers }
+{
+    let Some(child) = first_child(&board) else {
+        return Solved::unknown(board, scoring);
+    };
+    if workers > 1 && access.is_some() {
+        let line = first_line(board);
+        let mut solved = Solved::unknown(board, scoring);
+        for later in line.as_slice().iter().rev() {
+            split(rt, alloc, later, &solved, workers, access);
+            solved = Solved::by_search(later, -65, 65, cells, scoring);
+        }
+    }
+    Solved::by_search(&child, -65, 65, cells, scoring)
+}
+
+// Lets the workers search the boards after the moves with null windows at what the first one gives, so that the table knows of them.
+fn split<'t, R: Threads + Sync>(
+    rt: &R,
+    alloc: Global,
+    board: &Board,
+    first: &Solved,
+    workers: u8,
+    access: &mut Option<TableAccess<'t>>,
+)
+    requires { IsCrew workers }
+{
+    if board.empties() > 30 {
+        return;
+    }
+    let least = root_by(&Solved::unknown(*board, first.scoring), &[*first]);
+    if least.interval.lower == -64 {
+        return;
+    }
+    let Ok((floor, mut seat)) = Floor::new(alloc, board, first.scoring) else {
+        return;
+    };
+    let _ = floor.raise(&mut seat, &least);
+    let frontier = Frontier::of(board, 1);
+    let _ = run_workers(
+        rt, alloc, &frontier, &floor, &mut seat, workers, access, &Open,
+    );
 }
 
 // What is found of the boards two plies below, with windows at a floor that the first move raises: by the workers, and by the

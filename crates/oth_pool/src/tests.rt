@@ -262,7 +262,12 @@ const ROWS: [([u64; 2], i8, u64, Kind); 10] = [
     (A, -50, 0x80, Kind::Move),
     ([0xffff_ffff_ffff_ff74, 8], 50, 0, Kind::Pass),
     ([0x10, 0xffff_ffff_ffff_ff2e], -50, 0x1, Kind::Move),
-    ([0x1000_0000_0000_0000, 0x2eff_ffff_ffff_ffff], -50, 0x0100_0000_0000_0000, Kind::Move),
+    (
+        [0x1000_0000_0000_0000, 0x2eff_ffff_ffff_ffff],
+        -50,
+        0x0100_0000_0000_0000,
+        Kind::Move,
+    ),
     (B, 64, 0x0101, Kind::Move),
     (CORNERS, 64, 0x8100_0000_0000_0081, Kind::Move),
 ];
@@ -387,6 +392,12 @@ fn two_workers_work_at_once(rt: HostRuntime) -> Result<(), Fail> {
     Ok(())
 }
 
+// Whether the cells have an entry of the board.
+fn has_entry<'t>(cells: &mut WorkerCells<'t>, board: &Board) -> bool {
+    let (least, _) = board.canonical();
+    cells.look(&least, Scoring::Winner).is_some()
+}
+
 #[test]
 fn workers_search_over_the_table(rt: HostRuntime) -> Result<(), Fail> {
     let Some(a) = board(A) else {
@@ -400,16 +411,22 @@ fn workers_search_over_the_table(rt: HostRuntime) -> Result<(), Fail> {
         panic!(rt; "no table")
     };
     let mut access = Some(TableAccess::of(&table, own));
-    let found = run_workers(&rt, rt.alloc(), &frontier, &floor, &mut seat, 2, &mut access, &Open);
+    let found = run_workers(
+        &rt,
+        rt.alloc(),
+        &frontier,
+        &floor,
+        &mut seat,
+        2,
+        &mut access,
+        &Open,
+    );
     assert!(rt; found.drawn.left.is_empty() && found.replies.len() == 2);
     let mut cells = WorkerCells::of(rt.alloc(), &mut access);
     let mut whole = false;
     for number in [1, 7] {
         if let Some(child) = a.play(Square::numbered(number)) {
-            let (board, _) = child.canonical();
-            whole = whole || cells.look(&board, Scoring::Winner).is_some();
-            let (board, _) = child.pass().canonical();
-            whole = whole || cells.look(&board, Scoring::Winner).is_some();
+            whole = whole || has_entry(&mut cells, &child) || has_entry(&mut cells, &child.pass());
         }
     }
     assert!(rt; whole);

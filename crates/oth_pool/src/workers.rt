@@ -11,6 +11,7 @@ use crate::gate::Gate;
 use crate::reply::Reply;
 use crate::tasks::Tasks;
 use crate::work::{Job, Work};
+use oth_rules::Board;
 use oth_search::{Cells, Entry, Solved, known_below};
 use std::thread;
 use std::thread::Threads;
@@ -145,6 +146,15 @@ fn window(same_mover: bool, least: i8) -> (i8, i8)
     }
 }
 
+// What the solved board, the child itself or one ply below it, alone tells of the child.
+fn child_by(child: Board, solved: &Solved) -> Solved {
+    let known = known_below(child, 0, &[*solved], solved.scoring);
+    if known.interval.lower > -64 || known.interval.upper < 64 {
+        return known;
+    }
+    known_below(child, 1, &[*solved], solved.scoring)
+}
+
 // Tells the others what the solved board, two plies below at most, alone tells: of the board after the root's move by the cells,
 // and of the root by the floor.
 fn share<C: Cells>(item: &Item, floor: &Floor, seat: &mut FloorSeat, solved: &Solved, cells: &mut C)
@@ -155,7 +165,7 @@ fn share<C: Cells>(item: &Item, floor: &Floor, seat: &mut FloorSeat, solved: &So
     let Some(child) = root.play(item.square) else {
         return;
     };
-    let known = known_below(child, 1, &[*solved], solved.scoring);
+    let known = child_by(child, solved);
     if known.interval.lower > -64 {
         cells.put(&Entry::of(&known));
     }

@@ -6,3 +6,4 @@ pub mod Orders
 pub mod Lasts
 pub mod Entries
 pub mod Withins
+pub mod Fulls

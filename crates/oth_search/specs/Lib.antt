@@ -5,3 +5,4 @@ pub mod Candidates
 pub mod Replies
 pub mod Entries
 pub mod Lasts
+pub mod Full

@@ -6,6 +6,7 @@ ghost use Rattle.oth_rules.specs.Score.{score_of};
 ghost use Rattle.oth_rules.specs.Value.{value};
 ghost use Rattle.oth_rules.specs.Laws.{IsScore};
 ghost use Rattle.oth_search.specs.Bound.{Encloses, Decides};
+ghost use Rattle.oth_search.specs.Full.{IsFullMinimax};
 
 use crate::answer::Answer;
 use crate::bounds::{Interval, Solved};
@@ -31,6 +32,7 @@ pub fn solve_alone(board: &Board, scoring: Scoring) -> Result<Answer, TooManyEmp
     ensures refused { IsErr result ↔ (30 < empty_count board.now) }
     ensures counted { IfErr result (λ e. e.empties ≡ empty_count board.now) }
     ensures solved { IfOk result (λ a. (a.board ≡ board.now) × (a.scoring ≡ scoring)) }
+    ensures full { IfOk result (IsFullMinimax board.now scoring) }
 {
     let empties = board.empties();
     if empties > MOST_EMPTIES {

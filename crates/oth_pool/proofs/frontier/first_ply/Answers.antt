@@ -1,4 +1,4 @@
-use Rattle.std.proofs.Common.{◌≡◌, ◌+◌, ◌≤◌, ◌++◌, ℕ, [], arith, ap, sym, subst, ◌∙◌, length}
+use Rattle.std.proofs.Common.{◌≡◌, [], arith, ap, ◌∙◌, length}
 use Rattle.oth_rules.specs.Position.{Position}
 use Rattle.oth_rules.specs.Move.{is_legal}
 use Rattle.oth_pool.specs.Below.{move_of, moves_of}

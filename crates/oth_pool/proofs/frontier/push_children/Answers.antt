@@ -1,5 +1,4 @@
-use Rattle.std.proofs.Common.{◌≡◌, ◌+◌, ◌≤◌, ◌++◌, ℕ, arith, ap, sym, subst, ◌∙◌, length}
-use Rattle.oth_rules.specs.Position.{Position}
+use Rattle.std.proofs.Common.{◌≡◌, ◌++◌, ℕ, arith, ap, ◌∙◌, length}
 use Rattle.oth_rules.specs.Move.{is_legal, after}
 use Rattle.oth_pool.specs.declared.frontier.item.Item.{Item}
 use Rattle.oth_pool.specs.Below.{item_after, children}

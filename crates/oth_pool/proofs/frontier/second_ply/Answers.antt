@@ -1,4 +1,4 @@
-use Rattle.std.proofs.Common.{◌≡◌, ◌+◌, ◌≤◌, List, ap, sym, subst, ◌∙◌, length, arith, take}
+use Rattle.std.proofs.Common.{◌≡◌, List, ap, length, arith}
 use Rattle.std.specs.List.{flat_map}
 use Rattle.oth_pool.specs.declared.frontier.item.Item.{Item}
 use Rattle.oth_pool.specs.Below.{below}

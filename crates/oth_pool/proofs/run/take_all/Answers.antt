@@ -1,4 +1,4 @@
-use Rattle.std.proofs.Common.{◌≡◌, ◌+◌, ◌++◌, ◌∷◌, [], ℕ, List, length, take, ap, ◌∙◌, sym, arith}
+use Rattle.std.proofs.Common.{◌≡◌, ◌+◌, ◌++◌, ◌∷◌, [], ℕ, List, take, ap, ◌∙◌, sym, arith}
 use Rattle.std.proofs.lemmas.List.{take_more, take_all}
 use Rattle.oth_pool.specs.declared.reply.Reply.{Reply}
 use Rattle.oth_pool.specs.Dealing.{times}

@@ -1,4 +1,4 @@
-use Rattle.std.proofs.Common.{◌≡◌, ◌+◌, ◌≤◌, ℕ, take}
+use Rattle.std.proofs.Common.{◌+◌, ◌≤◌, ℕ, take}
 use Rattle.std.specs.List.{All}
 use Rattle.oth_pool.specs.Dealing.{times}
 use Rattle.oth_pool.specs.Working.{IsReplyOf, numbers_of}

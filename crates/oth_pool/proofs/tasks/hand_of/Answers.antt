@@ -1,4 +1,4 @@
-use Rattle.std.proofs.Common.{◌≡◌, subst, ℕ}
+use Rattle.std.proofs.Common.{subst, ℕ}
 use Rattle.oth_pool.specs.Hands.{HasRoom}
 use Rattle.oth_pool.proofs.Handouts.{new_hand}
 use Rattle.oth_pool.proofs.tasks.hand_of.Goals as goal

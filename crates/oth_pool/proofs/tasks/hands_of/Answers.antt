@@ -1,4 +1,4 @@
-use Rattle.std.proofs.Common.{◌≡◌, ◌∙◌, List, [], ◌∷◌, ◌++◌, ℕ, length, ap, sym, subst, refl}
+use Rattle.std.proofs.Common.{◌≡◌, ◌∙◌, List, [], ◌∷◌, ◌++◌, ℕ, length, sym, subst}
 use Rattle.oth_pool.specs.declared.tasks.state.Hand.{Hand}
 use Rattle.oth_pool.specs.Hands.{Owner, IsNewHand}
 use Rattle.oth_pool.specs.Settling.{Pile}

@@ -1,4 +1,4 @@
-use Rattle.std.proofs.Common.{◌≡◌, ◌==◌, true, false, ap, sym, ◌∙◌, ℕ, List}
+use Rattle.std.proofs.Common.{◌≡◌, ◌==◌, true, false, ap, sym, ◌∙◌}
 use Rattle.std.specs.List.{list_any}
 use Rattle.oth_pool.proofs.Lefts.{is_listed, not_listed}
 use Rattle.oth_pool.proofs.tasks.is_drawn.Goals as goal

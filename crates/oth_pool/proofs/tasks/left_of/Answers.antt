@@ -1,4 +1,4 @@
-use Rattle.std.proofs.Common.{◌≡◌, ◌++◌, ◌∷◌, [], refl, sym, ap, ◌∙◌, arith, length, length-append}
+use Rattle.std.proofs.Common.{◌++◌, ◌∷◌, [], sym, ap, ◌∙◌, arith, length, length-append}
 use Rattle.oth_pool.proofs.Lefts.{stays_left, was_drawn}
 use Rattle.oth_pool.proofs.tasks.left_of.Goals as goal
 

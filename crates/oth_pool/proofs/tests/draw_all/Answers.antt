@@ -1,4 +1,4 @@
-use Rattle.std.proofs.Common.{◌≡◌, List, length, sym, ap, ◌∙◌, subst, arith}
+use Rattle.std.proofs.Common.{◌≡◌, List, length, sym, ap, subst, arith}
 use Rattle.oth_pool.specs.declared.tasks.state.Hand.{Hand}
 use Rattle.oth_pool.specs.Hands.{AreAllHands}
 use Rattle.oth_pool.proofs.Handouts.{each_drew, written_back}

@@ -1,4 +1,4 @@
-use Rattle.std.proofs.Common.{rules, ap, sym, ◌∙◌, refl, Some}
+use Rattle.std.proofs.Common.{ap, sym, ◌∙◌, refl, Some}
 use Rattle.std.specs.Prelude.{option_map}
 use Rattle.oth_pool.specs.Below.{board_of}
 use Rattle.oth_pool.proofs.Workings.{ended, drew, replied}

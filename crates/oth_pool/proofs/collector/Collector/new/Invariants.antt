@@ -1,7 +1,5 @@
 use Rattle.std.proofs.Common.{◌≡◌}
 use Rattle.std.specs.Prelude.{None, replicate}
-use Rattle.oth_search.specs.declared.bounds.Solved.{Solved}
-use Rattle.std.proofs.Common.{Option}
 use Rattle.oth_pool.proofs.collector.Collector.new.Given as goal
 
 abbrev pub invariant-loop : goal.invariant-loop

@@ -1,4 +1,4 @@
-use Rattle.std.proofs.Common.{◌≡◌, ◌∙◌, ap, sym, subst, List}
+use Rattle.std.proofs.Common.{◌≡◌, ◌∙◌, ap, subst, List}
 use Rattle.oth_pool.specs.declared.floor.event.Event.{Event}
 use Rattle.oth_pool.specs.History.{Begins}
 use Rattle.oth_pool.specs.Floor.{longer}

@@ -1,4 +1,3 @@
-use Rattle.std.proofs.Common.{rules}
 use Rattle.oth_pool.proofs.Floors.{opens}
 use Rattle.oth_pool.proofs.floor.Floor.new.Goals as goal
 

@@ -1,7 +1,5 @@
 use Rattle.std.proofs.Common.{◌≡◌, rules, arith}
 use Rattle.std.proofs.lemmas.Int.{ints}
-use Rattle.oth_rules.specs.Position.{Position}
-use Rattle.oth_rules.specs.declared.scoring.Scoring.{Scoring}
 use Rattle.oth_pool.specs.declared.floor.root.Root.{Root}
 use Rattle.oth_pool.proofs.Floors.{below_root}
 use Rattle.oth_pool.proofs.floor.Floor.raise.Goals as goal

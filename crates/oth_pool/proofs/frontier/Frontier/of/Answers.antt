@@ -1,7 +1,3 @@
-use Rattle.std.proofs.Common.{◌≡◌, ◌≤◌, List, ap, arith, length}
-use Rattle.std.specs.List.{flat_map}
-use Rattle.oth_pool.specs.declared.frontier.item.Item.{Item}
-use Rattle.oth_pool.specs.Below.{moves_of, below}
 use Rattle.oth_pool.proofs.Rooms.{one_room, two_room}
 use Rattle.oth_pool.proofs.frontier.Frontier.of.Goals as goal
 

@@ -1,6 +1,4 @@
-use Rattle.std.proofs.Common.{◌≡◌, List, [], ◌∷◌, ◌++◌, ap, sym, subst, ◌∙◌, vec_len, arith, length, Some}
-use Rattle.std.specs.Option.{option_to_list}
-use Rattle.oth_pool.specs.Settling.{Owner}
+use Rattle.std.proofs.Common.{◌≡◌, [], ◌∷◌, ◌++◌, sym, ◌∙◌, vec_len}
 use Rattle.oth_pool.proofs.Settlings.{settling_steps, settling_ends}
 use Rattle.oth_pool.proofs.tasks.settle.settle.Goals as goal
 

@@ -1,4 +1,4 @@
-use Rattle.std.proofs.Common.{◌≡◌, ◌∙◌, ap}
+use Rattle.std.proofs.Common.{◌∙◌, ap}
 use Rattle.oth_pool.specs.declared.tasks.state.Drawn.{Drawn}
 use Rattle.oth_pool.specs.Drawing.{left_of}
 use Rattle.oth_pool.proofs.Closings.{closes, closed, lists_same}

@@ -1,5 +1,5 @@
 use Rattle.oth_pool.proofs.Dealings.{takes_first, takes_last}
-use Rattle.oth_pool.proofs.Handings.{popped, draws_none, draws_then}
+use Rattle.oth_pool.proofs.Handings.{popped}
 use Rattle.oth_pool.proofs.tasks.state.Tasks.find.Goals as goal
 
 pub pop_as-own-requires-clause-fifo : goal.pop_as-own-requires-clause-fifo

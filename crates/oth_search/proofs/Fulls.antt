@@ -7,7 +7,7 @@ use Rattle.oth_rules.specs.Score.{score_of}
 use Rattle.oth_rules.specs.Value.{value, is_best}
 use Rattle.oth_search.specs.declared.answer.Answer.{Answer}
 use Rattle.oth_search.specs.Answers.{kind_of}
-use Rattle.oth_pool.specs.Solving.{IsFullMinimax}
+use Rattle.oth_search.specs.Full.{IsFullMinimax}
 
 pub full_minimax : (a : Answer) (p : Position) (g : Scoring) → a.board ≡ p → a.scoring ≡ g → IsFullMinimax p g a
 full_minimax a p g e f = record {

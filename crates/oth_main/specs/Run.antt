@@ -1,0 +1,70 @@
+-- A run over an input.
+--     Writes reply result input written      what a run wrote of what it read, by how it ended
+--     FailsBy result reader writer      a device has failed exactly where the run says so
+--     AreWorkers, AreCells      the numbers that are not refused
+--     AreLawful settings      both numbers of the settings are such
+--     RefusesBy workers cells result      the workers are refused, else the cells, exactly where they are no lawful number
+use Rattle.std.specs.Prelude.{◌≡◌, ◌≤◌, ◌^◌, ◌⊎◌, ⊤, ℕ, Bool, true, false, List, [], Result, Ok, Err}
+use Rattle.oth_text.specs.Device.{IsBeginning}
+use Rattle.oth_words.specs.declared.settings.Settings.{Settings}
+use Rattle.oth_main.specs.declared.fault.RunFault.{RunFault}
+use Rattle.oth_main.specs.declared.fault.RunFault.TheVariants.{Read, Write, Workers, Cells}
+use Rattle.oth_main.specs.Report.{ended_report, report}
+
+abbrev pub Writes : (List ℕ → List ℕ) → Result (Unit {0}) RunFault → List ℕ → List ℕ → Type 0
+Writes reply (Ok done) input written = written ≡ report reply input
+Writes reply (Err Read) input written = written ≡ ended_report reply input
+Writes reply (Err Write) input written = IsBeginning written (report reply input)
+Writes reply (Err Workers) input written = (input ≡ []) × (written ≡ [])
+Writes reply (Err Cells) input written = (input ≡ []) × (written ≡ [])
+
+abbrev pub FailsBy : Result (Unit {0}) RunFault → Bool → Bool → Type 0
+FailsBy (Ok done) reader writer = (reader ≡ false) × (writer ≡ false)
+FailsBy (Err Read) reader writer = (reader ≡ true) × (writer ≡ false)
+FailsBy (Err Write) reader writer = (reader ≡ false) × (writer ≡ true)
+FailsBy (Err Workers) reader writer = (reader ≡ false) × (writer ≡ false)
+FailsBy (Err Cells) reader writer = (reader ≡ false) × (writer ≡ false)
+
+-- ---- the settings
+
+abbrev pub AreWorkers : ℕ → Type 0
+AreWorkers workers = (1 ≤ workers) × (workers ≤ 16)
+
+-- no table, or a power of two
+abbrev pub AreCells : ℕ → Type 0
+AreCells cells = (cells ≡ 0) ⊎ ((k : ℕ) × (k ≤ 18) × (cells ≡ 2 ^ k))
+
+-- both numbers of the settings are such
+pub record AreLawful (settings : Settings) : Type 0 where
+  pub workers : AreWorkers settings.workers
+  pub cells : AreCells settings.cells
+
+abbrev pub RefusesBy : ℕ → ℕ → Result (Unit {0}) RunFault → Type 0
+RefusesBy workers cells (Ok done) = AreWorkers workers × AreCells cells
+RefusesBy workers cells (Err Read) = AreWorkers workers × AreCells cells
+RefusesBy workers cells (Err Write) = AreWorkers workers × AreCells cells
+RefusesBy workers cells (Err Workers) = ¬ AreWorkers workers
+RefusesBy workers cells (Err Cells) = AreWorkers workers × (¬ AreCells cells)
+
+-- a fact, where the settings are refused
+abbrev pub OnRefusal : Result (Unit {0}) RunFault → Type 0 → Type 0
+OnRefusal (Ok done) P = ⊤
+OnRefusal (Err Read) P = ⊤
+OnRefusal (Err Write) P = ⊤
+OnRefusal (Err Workers) P = P
+OnRefusal (Err Cells) P = P
+
+-- the settings are not refused
+abbrev pub IsPastTests : Result (Unit {0}) RunFault → Type 0
+IsPastTests (Ok done) = ⊤
+IsPastTests (Err Read) = ⊤
+IsPastTests (Err Write) = ⊤
+IsPastTests (Err Workers) = ⊥
+IsPastTests (Err Cells) = ⊥
+
+-- the number that `run error` is printed with
+abbrev pub number_of : RunFault → ℕ
+number_of Read = 1
+number_of Write = 2
+number_of Workers = 3
+number_of Cells = 4

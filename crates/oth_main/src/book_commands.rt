@@ -1,0 +1,250 @@
+//! The commands of the book.
+
+ghost use Rattle.oth_main.specs.Run.{AreLawful};
+
+use crate::book_file::{REFUSED, open_book, print_refusal};
+use crate::checking::check_settings;
+use crate::fault::RunFault;
+use crate::message::Message;
+use crate::solver::Solver;
+use oth_book::{AddError, Book, write};
+use oth_pool::Open;
+use oth_search::Answer;
+use oth_text::{BoardReader, LineFault, Sink, Source, fault_line};
+use oth_words::Settings;
+use std::alloc::Global;
+use std::sync::Wait;
+use std::thread::Threads;
+
+const BUFFER_LEN: usize = 16_384;
+
+const DONE: u8 = 0;
+
+// Why an addition ends without a book.
+#[derive(Drop)]
+enum Stop {
+    // A device failed.
+    Run(RunFault),
+    // The answer of this line isn't taken.
+    Refused(u64, AddError),
+}
+
+/// Prints `book ok n` of a book of n entries, each solved anew, or why the file is no book. The status of the program: 0,
+/// or 1 where the writer fails, or 3 where the file is refused.
+pub fn book_verify<W: Sink, E: Sink>(
+    alloc: Global,
+    file: &[u8],
+    writer: &mut W,
+    errors: &mut E,
+) -> u8 {
+    match open_book(alloc, file) {
+        Ok(book) => {
+            let ok = Message::of(b"book ok ").number(book.len() as u64);
+            if ok.write_to(writer) && writer.flush().is_ok() {
+                DONE
+            } else {
+                print_run_fault(RunFault::Write, errors)
+            }
+        }
+        Err(refusal) => {
+            print_refusal(&refusal, errors);
+            REFUSED
+        }
+    }
+}
+
+/// Solves each board line by the book's scoring, adds the answers to the book of the file, and writes the new book at the
+/// end of input. Where a line can't be read, its number and its fault are printed, and it is left out. The status of the
+/// program: 0, or 1 where a device fails, or 2 where the settings aren't lawful, or 3 where the file or an answer is
+/// refused; then no book is written, save for what a writer took before it failed.
+pub fn book_add<T: Wait + Threads + Sync, R: Source, W: Sink, E: Sink>(
+    rt: &T,
+    alloc: Global,
+    file: &[u8],
+    reader: &mut R,
+    writer: &mut W,
+    errors: &mut E,
+    settings: &Settings,
+) -> u8 {
+    if let Err(fault) = check_settings(settings) {
+        return print_run_fault(fault, errors);
+    }
+    match open_book(alloc, file) {
+        Ok(book) => add_lines(rt, alloc, book, reader, writer, errors, settings),
+        Err(refusal) => {
+            print_refusal(&refusal, errors);
+            REFUSED
+        }
+    }
+}
+
+/// Prints the number of the fault, and gives the status of the program.
+pub fn print_run_fault<E: Sink>(fault: RunFault, errors: &mut E) -> u8 {
+    Message::of(b"run error ")
+        .number(u64::from(fault.number()))
+        .print(errors);
+    match fault {
+        RunFault::Read | RunFault::Write => 1,
+        RunFault::Workers | RunFault::Cells => 2,
+    }
+}
+
+// Adds the lines of the input to the book, and writes it.
+fn add_lines<T: Wait + Threads + Sync, R: Source, W: Sink, E: Sink>(
+    rt: &T,
+    alloc: Global,
+    book: Book,
+    reader: &mut R,
+    writer: &mut W,
+    errors: &mut E,
+    settings: &Settings,
+) -> u8
+    requires { AreLawful settings.now }
+{
+    let mut addition = Addition {
+        book,
+        line: BoardReader::new(),
+        number: 1,
+    };
+    match addition.run(rt, alloc, reader, writer, errors, settings) {
+        Ok(()) => DONE,
+        Err(Stop::Run(fault)) => print_run_fault(fault, errors),
+        Err(Stop::Refused(line, error)) => {
+            Message::of(b"line ")
+                .number(line)
+                .text(b": book error ")
+                .number(u64::from(error.number()))
+                .print(errors);
+            REFUSED
+        }
+    }
+}
+
+// The book so far, the line that has begun, and its number from 1.
+#[derive(Drop)]
+struct Addition {
+    book: Book,
+    line: BoardReader,
+    number: u64,
+}
+
+impl Addition {
+    // Adds all lines, and writes the book.
+    fn run<T: Wait + Threads + Sync, R: Source, W: Sink, E: Sink>(
+        &mut self,
+        rt: &T,
+        alloc: Global,
+        reader: &mut R,
+        writer: &mut W,
+        errors: &mut E,
+        settings: &Settings,
+    ) -> Result<(), Stop>
+        requires { AreLawful settings.now }
+    {
+        let mut buffer = [0u8; BUFFER_LEN];
+        for _ in rt.forever() {
+            let Ok(count) = reader.read(&mut buffer) else {
+                return Err(Stop::Run(RunFault::Read));
+            };
+            if count == 0 {
+                break;
+            }
+            self.take_bytes(rt, alloc, &buffer[..count], errors, settings)?;
+        }
+        if !self.line.is_empty() {
+            self.end_line(rt, alloc, errors, settings)?;
+        }
+        self.write_to(writer)
+    }
+
+    // Takes further bytes of the input.
+    fn take_bytes<T: Threads + Sync, E: Sink>(
+        &mut self,
+        rt: &T,
+        alloc: Global,
+        bytes: &[u8],
+        errors: &mut E,
+        settings: &Settings,
+    ) -> Result<(), Stop>
+        requires { AreLawful settings.now }
+    {
+        for byte in bytes {
+            if *byte == b'\n' {
+                self.end_line(rt, alloc, errors, settings)?;
+            } else {
+                self.line.push(&[*byte]);
+            }
+        }
+        Ok(())
+    }
+
+    // Adds the answer of the line that has begun, or prints its fault, and begins a new one.
+    fn end_line<T: Threads + Sync, E: Sink>(
+        &mut self,
+        rt: &T,
+        alloc: Global,
+        errors: &mut E,
+        settings: &Settings,
+    ) -> Result<(), Stop>
+        requires { AreLawful settings.now }
+    {
+        match self.answer(rt, alloc, settings) {
+            Ok(answer) => self.add(&answer)?,
+            Err(fault) => Message::of(b"line ")
+                .number(self.number)
+                .text(b": ")
+                .text(fault_line(&fault).as_slice())
+                .print(errors),
+        }
+        self.line.clear();
+        self.number = self.number.saturating_add(1);
+        Ok(())
+    }
+
+    // The answer of the line that has begun, by the book's scoring.
+    fn answer<T: Threads + Sync>(
+        &self,
+        rt: &T,
+        alloc: Global,
+        settings: &Settings,
+    ) -> Result<Answer, LineFault>
+        requires { AreLawful settings.now }
+    {
+        let position = self.line.read()?;
+        let by_book = Settings {
+            scoring: self.book.scoring(),
+            ..*settings
+        };
+        let solver = Solver {
+            rt,
+            alloc,
+            gate: &Open,
+            book: Some(&self.book),
+        };
+        match solver.answer_of(&position.board, &by_book) {
+            Ok(answer) => Ok(answer),
+            Err(many) => Err(LineFault::Empties(many.empties)),
+        }
+    }
+
+    fn add(&mut self, answer: &Answer) -> Result<(), Stop> {
+        if answer.board.empties() > 30 {
+            return Err(Stop::Refused(self.number, AddError::Empties));
+        }
+        match self.book.add(answer) {
+            Ok(_) => Ok(()),
+            Err(error) => Err(Stop::Refused(self.number, error)),
+        }
+    }
+
+    // Writes the book. A writer that failed before is not called.
+    fn write_to<W: Sink>(&self, writer: &mut W) -> Result<(), Stop> {
+        if writer.failed() {
+            return Err(Stop::Run(RunFault::Write));
+        }
+        if write(&self.book, writer).is_err() || writer.flush().is_err() {
+            return Err(Stop::Run(RunFault::Write));
+        }
+        Ok(())
+    }
+}

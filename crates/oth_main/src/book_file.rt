@@ -1,0 +1,54 @@
+//! The book of a file, or why there is none.
+
+ghost use Rattle.std.specs.Prelude.{IfOk, IfErr};
+ghost use Rattle.oth_book.specs.Contents.{IsText};
+ghost use Rattle.oth_main.specs.BookFile.{IsRefusal};
+
+use crate::message::Message;
+use oth_book::{Book, BookFault, Wrong, read_claims, verify};
+use oth_text::Sink;
+use std::alloc::Global;
+
+/// The most bytes that are read of a book's file: one more than the longest book has.
+pub const MOST_BOOK_BYTES: usize = 9_000_021;
+
+/// The status of a program whose book is refused.
+pub const REFUSED: u8 = 3;
+
+/// Why a file is no book.
+#[derive(Clone, Copy, Debug, PartialEq, Eq, Drop)]
+pub enum BookRefusal {
+    /// Its bytes are no book's text.
+    Text(BookFault),
+    /// Its bytes are a book's text, and what it says is wrong, or memory is wanting to test it.
+    Claim(Wrong),
+}
+
+/// The book of a file's bytes, each entry solved anew.
+pub fn open_book(alloc: Global, file: &[u8]) -> Result<Book, BookRefusal>
+    ensures text { IfOk result (λ book. IsText book file.now) }
+    ensures refused { IfErr result (λ why. IsRefusal file.now why) }
+{
+    let claims = match read_claims(alloc, file) {
+        Ok(claims) => claims,
+        Err(fault) => return Err(BookRefusal::Text(fault)),
+    };
+    match verify(alloc, claims) {
+        Ok(book) => Ok(book),
+        Err(wrong) => Err(BookRefusal::Claim(wrong)),
+    }
+}
+
+/// Prints why a file is no book: `book error n` or `book wrong n`, then ` at k` where a line or an entry is to blame. An
+/// output that fails is passed over.
+pub fn print_refusal<E: Sink>(refusal: &BookRefusal, errors: &mut E) {
+    let (message, number, place) = match *refusal {
+        BookRefusal::Text(fault) => (Message::of(b"book error "), fault.number(), fault.line()),
+        BookRefusal::Claim(wrong) => (Message::of(b"book wrong "), wrong.number(), wrong.entry()),
+    };
+    let message = message.number(u64::from(number));
+    match place {
+        Some(place) => message.text(b" at ").number(u64::from(place)).print(errors),
+        None => message.print(errors),
+    }
+}

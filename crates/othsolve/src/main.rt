@@ -1,0 +1,177 @@
+//! The program: it reports the lines of standard input on standard output.
+#![tactic(auto)]
+
+ghost use Rattle.std.specs.Prelude.{◌≡◌, false};
+
+use oth_book::{Book, BookFault};
+use oth_main::{
+    BookRefusal, MOST_BOOK_BYTES, REFUSED, RunFault, Settings, Words, book_add, book_verify,
+    check_settings, open_book, print_refusal, print_run_fault, read_words, run,
+};
+use oth_pool::Open;
+use oth_text::{FromRead, Sink, Source, ToWrite};
+use std::env::Env;
+use std::fs::File;
+use std::io::{ErrorKind, Read};
+use std::process::ExitCode;
+use std::rt::Files;
+use std::sync::Wait;
+use std::thread::Threads;
+use std::{env, io};
+
+const DONE: u8 = 0;
+
+const DEVICE_FAULT: u8 = 1;
+
+const COMMAND_LINE_FAULT: u8 = 2;
+
+fn main(rt: HostRuntime) -> ExitCode {
+    let mut reader = FromRead::new(rt.stdin());
+    let mut writer = ToWrite::new(rt.stdout());
+    let mut errors = ToWrite::new(rt.stderr());
+    let status = match words(&rt) {
+        Ok(words) => obey(&rt, &words, &mut reader, &mut writer, &mut errors),
+        Err(status) => status,
+    };
+    ExitCode::from(status)
+}
+
+// Does what the words ask for.
+fn obey<T: Wait + Threads + Sync + Files + AllocGlobal, R: Source, W: Sink, E: Sink>(
+    rt: &T,
+    words: &Words,
+    reader: &mut R,
+    writer: &mut W,
+    errors: &mut E,
+) -> u8
+    requires reader { R.failed reader.old ≡ false }
+    requires writer { W.failed writer.old ≡ false }
+{
+    match words {
+        Words::Run(settings, None) => report(rt, settings, None, reader, writer, errors),
+        Words::Run(settings, Some(name)) => {
+            match book_of(rt, settings, name.as_str(), errors) {
+                Ok(book) => report(rt, settings, Some(&book), reader, writer, errors),
+                Err(status) => status,
+            }
+        }
+        Words::Verify(name) => match file_of(rt, name.as_str(), errors) {
+            Ok(file) => book_verify(rt.alloc(), file.as_slice(), writer, errors),
+            Err(status) => status,
+        },
+        Words::Add(settings, name) => {
+            match tested_file_of(rt, settings, name.as_str(), errors) {
+                Ok(file) => book_add(
+                    rt,
+                    rt.alloc(),
+                    file.as_slice(),
+                    reader,
+                    writer,
+                    errors,
+                    settings,
+                ),
+                Err(status) => status,
+            }
+        }
+    }
+}
+
+// Reports the lines of the input.
+fn report<T: Wait + Threads + Sync + AllocGlobal, R: Source, W: Sink, E: Sink>(
+    rt: &T,
+    settings: &Settings,
+    book: Option<&Book>,
+    reader: &mut R,
+    writer: &mut W,
+    errors: &mut E,
+) -> u8
+    requires reader { R.failed reader.old ≡ false }
+    requires writer { W.failed writer.old ≡ false }
+{
+    match run(rt, rt.alloc(), reader, writer, settings, &Open, book) {
+        Ok(()) => DONE,
+        Err(fault) => print_run_fault(fault, errors),
+    }
+}
+
+// The book of a file, or the status where there is none. The settings are tested before the file is read.
+fn book_of<T: Files + AllocGlobal, E: Sink>(
+    rt: &T,
+    settings: &Settings,
+    name: &str,
+    errors: &mut E,
+) -> Result<Book, u8> {
+    let file = tested_file_of(rt, settings, name, errors)?;
+    match open_book(rt.alloc(), file.as_slice()) {
+        Ok(book) => Ok(book),
+        Err(refusal) => {
+            print_refusal(&refusal, errors);
+            Err(REFUSED)
+        }
+    }
+}
+
+// The bytes of a book's file, or the status where the settings are refused or it can't be read.
+fn tested_file_of<T: Files + AllocGlobal, E: Sink>(
+    rt: &T,
+    settings: &Settings,
+    name: &str,
+    errors: &mut E,
+) -> Result<Vec<u8>, u8> {
+    match check_settings(settings) {
+        Ok(()) => file_of(rt, name, errors),
+        Err(fault) => Err(print_run_fault(fault, errors)),
+    }
+}
+
+// The bytes of a book's file, or the status where it can't be read.
+fn file_of<T: Files + AllocGlobal, E: Sink>(
+    rt: &T,
+    name: &str,
+    errors: &mut E,
+) -> Result<Vec<u8>, u8> {
+    match read_file(rt, name) {
+        Ok(file) => Ok(file),
+        Err(error) if error.kind() == ErrorKind::OutOfMemory => {
+            print_refusal(&BookRefusal::Text(BookFault::Memory), errors);
+            Err(REFUSED)
+        }
+        Err(_) => Err(print_run_fault(RunFault::Read, errors)),
+    }
+}
+
+// As many bytes of the file as tell whether it is a book.
+fn read_file<T: Files + AllocGlobal>(rt: &T, name: &str) -> io::Result<Vec<u8>> {
+    let file = File::open(rt, name)?;
+    let mut bytes = Vec::new(rt.alloc());
+    file.take(MOST_BOOK_BYTES as u64).read_to_end(&mut bytes)?;
+    Ok(bytes)
+}
+
+// What the words of the command line ask for. Where they can't be read, the reason is printed, and this is the status.
+fn words<R: Env + AllocGlobal + Print + Eprint>(rt: &R) -> Result<Words, u8> {
+    let alloc = rt.alloc();
+    let Ok(arguments) = arguments(rt) else {
+        let _ = eprintln!(rt; "error: the words of the command line can't be read");
+        return Err(COMMAND_LINE_FAULT);
+    };
+    let mut texts = Vec::new(alloc);
+    for argument in arguments.iter() {
+        if texts.push(argument.as_str()).is_err() {
+            let _ = eprintln!(rt; "error: out of memory");
+            return Err(COMMAND_LINE_FAULT);
+        }
+    }
+    match read_words(alloc, texts.as_slice()) {
+        Ok(words) => Ok(words),
+        Err(error) => match error.print(rt) {
+            Ok(()) => Err(error.exit_code() as u8),
+            Err(_) if error.use_stderr() => Err(COMMAND_LINE_FAULT),
+            Err(_) => Err(DEVICE_FAULT),
+        },
+    }
+}
+
+fn arguments<R: Env + AllocGlobal>(rt: &R) -> io::Result<Vec<String>> {
+    Ok(env::args(rt)?.collect(rt.alloc())?)
+}
