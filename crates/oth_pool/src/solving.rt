@@ -150,7 +150,15 @@ fn answer_over<'t, R: Threads + Sync, G: Gate>(
     ensures scoring { result.scoring ≡ told.now.scoring }
 {
     let mut cells = WorkerCells::of(alloc, access);
-    let first = first_move(rt, alloc, told.board, workers, access, &mut cells, told.scoring);
+    let first = first_move(
+        rt,
+        alloc,
+        told.board,
+        workers,
+        access,
+        &mut cells,
+        told.scoring,
+    );
     if access.is_some() {
         split(rt, alloc, &told.board, &first, workers, access);
     }
@@ -320,7 +328,12 @@ fn root_by(told: &Solved, known: &[Solved]) -> Solved
     for number in 0..64 {
         let square = Square::numbered(number);
         if let Some(child) = told.board.play(square) {
-            best = higher(best, &told.board, square, known_of(child, known, told.scoring));
+            best = higher(
+                best,
+                &told.board,
+                square,
+                known_of(child, known, told.scoring),
+            );
         }
     }
     best

@@ -304,7 +304,16 @@ fn refusals_come_in_order(rt: HostRuntime) -> Result<(), Fail> {
         (1, 3, SolveError::Cells),
         (1, 524_288, SolveError::Cells),
     ] {
-        let found = solve(&rt, rt.alloc(), &a, workers, cells, &Open, None, Scoring::Winner);
+        let found = solve(
+            &rt,
+            rt.alloc(),
+            &a,
+            workers,
+            cells,
+            &Open,
+            None,
+            Scoring::Winner,
+        );
         assert!(rt; found.err() == Some(refusal));
     }
     let found = solve(&rt, rt.alloc(), &few, 0, 3, &Open, None, Scoring::Winner);
@@ -383,7 +392,16 @@ fn two_workers_work_at_once(rt: HostRuntime) -> Result<(), Fail> {
         let gate = Meeting {
             heard: [AtomicU64::new(0), AtomicU64::new(0)],
         };
-        let answer = solve(&rt, rt.alloc(), &board, 2, cells, &gate, None, Scoring::Winner);
+        let answer = solve(
+            &rt,
+            rt.alloc(),
+            &board,
+            2,
+            cells,
+            &gate,
+            None,
+            Scoring::Winner,
+        );
         assert!(rt; answer.is_ok());
         for heard in gate.heard.as_slice() {
             assert!(rt; heard.load(Ordering::SeqCst) == 1);
