@@ -111,7 +111,7 @@ pub(crate) fn search_item<G: Gate, C: Cells>(
         gate.after(number);
         return Solved::unknown(item.board, floor.scoring());
     }
-    let (alpha, beta) = window(item.same_mover, least);
+    let (alpha, beta) = window(item.same_mover, asked(least));
     let solved = Solved::by_search(&item.board, alpha, beta, cells, floor.scoring());
     gate.after(number);
     share(item, floor, seat, &solved, cells);
@@ -133,7 +133,17 @@ fn is_refuted<C: Cells>(item: &Item, floor: &Floor, least: i8, cells: &mut C) ->
     }
 }
 
-// The window that tells whether the root gets less than the floor by this item.
+// The least score that an item is asked for: the floor, or one more where every score reaches the floor.
+fn asked(floor: i8) -> i8
+    requires low { negsuc 63 ≤ℤ floor }
+    requires high { floor ≤ℤ pos 64 }
+    ensures low { negsuc 62 ≤ℤ result }
+    ensures high { result ≤ℤ pos 64 }
+{
+    if floor == -64 { -63 } else { floor }
+}
+
+// The window that tells whether the root gets less than so much by this item.
 fn window(same_mover: bool, least: i8) -> (i8, i8)
     requires low { negsuc 63 ≤ℤ least }
     requires high { least ≤ℤ pos 64 }
