@@ -18,3 +18,5 @@ pub mod SearchLaws
 pub mod Fronts
 pub mod Nearest
 pub mod Table
+pub mod Slides
+pub mod Moves

@@ -81,7 +81,7 @@ or_eight false false false false false false true h = refl
 or_eight false false false false false false false true = refl
 or_eight false false false false false false false false = refl
 
-or_words8 : (a b c d e f g h : ℕ) (A B C D E F G H : ℕ → Bool) → a ≡ word_of A → b ≡ word_of B → c ≡ word_of C → d ≡ word_of D → e ≡ word_of E → f ≡ word_of F → g ≡ word_of G → h ≡ word_of H →
+pub or_words8 : (a b c d e f g h : ℕ) (A B C D E F G H : ℕ → Bool) → a ≡ word_of A → b ≡ word_of B → c ≡ word_of C → d ≡ word_of D → e ≡ word_of E → f ≡ word_of F → g ≡ word_of G → h ≡ word_of H →
     bit_or (bit_or (bit_or (bit_or (bit_or (bit_or (bit_or a b) c) d) e) f) g) h ≡ word_of (λ q. A q || (B q || (C q || (D q || (E q || (F q || (G q || (H q || false))))))))
 or_words8 a b c d e f g h A B C D E F G H ea eb ec ed ee ef eg eh =
     or_word (bit_or (bit_or (bit_or (bit_or (bit_or (bit_or a b) c) d) e) f) g) h (λ q. (((((A q || B q) || C q) || D q) || E q) || F q) || G q) H

@@ -27,7 +27,7 @@ empty_word p b =
 pub swapped : (p : Position) → IsBoard p → IsBoard (record { own = p.opp; opp = p.own })
 swapped p b = record { own_fits = b.opp_fits; opp_fits = b.own_fits; apart = and_comm p.opp p.own ∙ b.apart }
 
-is_on_line-same : (n : ℕ) (d : Direction) (f f' g g' : ℕ → Bool) → ((s : ℕ) → s < 64 → f s ≡ f' s) → ((s : ℕ) → s < 64 → g s ≡ g' s) → (t : ℕ) → t < 64 → is_on_line n d f g t ≡ is_on_line n d f' g' t
+pub is_on_line-same : (n : ℕ) (d : Direction) (f f' g g' : ℕ → Bool) → ((s : ℕ) → s < 64 → f s ≡ f' s) → ((s : ℕ) → s < 64 → g s ≡ g' s) → (t : ℕ) → t < 64 → is_on_line n d f g t ≡ is_on_line n d f' g' t
 unfolding is_on_line
 is_on_line-same zero d f f' g g' h k t l = refl
 is_on_line-same (suc n) d f f' g g' h k t l =

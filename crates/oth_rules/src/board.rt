@@ -13,9 +13,14 @@ ghost use Rattle.oth_rules.specs.Line.{direction_of, outflanks, rising, falling}
 
 use crate::direction::Compass;
 use crate::scoring::Scoring;
+use crate::sliding::{past_falling_lines, past_rising_lines};
 use crate::square::Square;
 use crate::sym::{Sym, map};
 use std::marker::Model;
+
+// The squares of columns b to g. A line across the columns has a square before each of its discs and one past it, so
+// its discs lie here, and here plain shifts need no mask.
+const INNER: u64 = 0x7e7e_7e7e_7e7e_7e7e;
 
 /// A position as its mover sees it: the mover's discs and the opponent's, bit `n` of each word for square `n`. No
 /// square has a disc of both.
@@ -117,7 +122,16 @@ impl Board {
     pub fn moves(&self) -> u64
         ensures { result ≡ word_of (is_legal self.now) }
     {
-        self.moves_by_shifts()
+        let inner = self.opp & INNER;
+        let reached = past_rising_lines(self.own, self.opp, 8)
+            | past_rising_lines(self.own, inner, 7)
+            | past_falling_lines(self.own, inner, 1)
+            | past_falling_lines(self.own, inner, 9)
+            | past_falling_lines(self.own, self.opp, 8)
+            | past_falling_lines(self.own, inner, 7)
+            | past_rising_lines(self.own, inner, 1)
+            | past_rising_lines(self.own, inner, 9);
+        reached & self.empty_squares()
     }
 
     /// The legal squares, by shifts of whole words along the eight directions.

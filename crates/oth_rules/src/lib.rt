@@ -7,6 +7,7 @@ mod direction;
 pub mod laws;
 mod masks;
 mod scoring;
+mod sliding;
 mod square;
 mod sym;
 

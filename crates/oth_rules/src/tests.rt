@@ -191,6 +191,48 @@ fn canonical_boards(rt: HostRuntime) {
     assert!(rt; half.opp() > 0x00c0_0000_0000_0000);
 }
 
+// A word whose bits look random, from the one before it.
+fn scrambled(word: u64) -> u64 {
+    let word = word ^ word << 13;
+    let word = word ^ word >> 7;
+    word ^ word << 17
+}
+
+// Boards with many, some and few discs. Each square is legal on one of them.
+#[test]
+fn both_forms_of_moves_on_scattered_discs(rt: HostRuntime) {
+    let mut word = 0x9e37_79b9_7f4a_7c15;
+    let mut seen = 0;
+    for round in 0..3000 {
+        let side = scrambled(word);
+        let first = scrambled(side);
+        word = scrambled(first);
+        let taken = match round % 3 {
+            0 => first | word,
+            1 => first,
+            _ => first & word,
+        };
+        let board = Board::of(taken & side, taken & !side).expect(&rt, "apart");
+        assert_eq!(rt; board.moves_by_shifts(), board.moves());
+        seen |= board.moves();
+    }
+    assert_eq!(rt; seen, u64::MAX);
+}
+
+// Lines of six discs in each direction, and lines that a shift would carry round the edge.
+#[test]
+fn moves_past_the_longest_lines(rt: HostRuntime) {
+    let across = Board::of(1 << 7, 0x7e).expect(&rt, "apart");
+    assert_eq!(rt; across.moves(), A1);
+    assert_eq!(rt; Board::of(A1, 0x7e).expect(&rt, "apart").moves(), H1);
+    let down = Board::of(A1, 0x0001_0101_0101_0100).expect(&rt, "apart");
+    assert_eq!(rt; down.moves(), A8);
+    let slant = Board::of(A1, 0x0040_2010_0804_0200).expect(&rt, "apart");
+    assert_eq!(rt; slant.moves(), 1 << 63);
+    let edges = Board::of(1 << 23, 1 << 15 | 1 << 16 | 1 << 31 | 1 << 32).expect(&rt, "apart");
+    assert_eq!(rt; edges.moves(), H1 | 1 << 39);
+}
+
 // Both forms of moves and flips give the same on this board.
 fn check_forms(rt: &impl Abort, board: &Board) {
     assert_eq!(rt; board.moves_by_shifts(), board.moves());

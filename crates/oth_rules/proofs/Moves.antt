@@ -1,0 +1,217 @@
+-- The legal squares by plain shifts: along a line that leaves the edge columns out, a shift of whole words is a step.
+use Rattle.std.proofs.Common.{◌≡◌, ℕ, zero, suc, ◌+◌, ◌-◌, ◌<◌, Bool, true, false, not, ◌&&◌, ◌||◌, Option, Some, None, refl, sym, ap, ◌∙◌, inl, inr, arith}
+use Rattle.std.specs.Prelude.{bit_and, bit_or, nat_lt, IfSome}
+use Rattle.std.proofs.lemmas.Bool.{and_parts, or_cases, cases_lt, agree_below, agree_below_at, lt-ltb}
+use Rattle.oth_rules.specs.Square.{has, word_of, Direction, Back, Stay, Forth, next, stepped, square_at, directions}
+use Rattle.oth_rules.specs.Position.{Position, IsBoard, is_mine, is_theirs, is_empty}
+use Rattle.oth_rules.specs.Move.{is_legal}
+use Rattle.oth_rules.specs.Line.{reversed, some_in, is_next, is_on_line, outflanks, rises_onto, falls_onto, Rises, Falls}
+use Rattle.oth_rules.specs.declared.board.TheConstants.{INNER}
+use Rattle.oth_rules.proofs.Bits.{has-and, word_of-same}
+use Rattle.oth_rules.proofs.Lines.{next_lt, is_next-same, and_turn}
+use Rattle.oth_rules.proofs.Rays.{some_in-or, or_true}
+use Rattle.oth_rules.proofs.Legal.{outflanks-line}
+use Rattle.oth_rules.proofs.Positions.{is_mine-has, is_theirs-has}
+use Rattle.oth_rules.proofs.Words.{is_on_line-same, legal_word}
+use Rattle.oth_rules.proofs.Table.{or_words8}
+
+-- ---- a line may leave out each square that no step leads to
+
+is_none : Option ℕ → Bool
+is_none None = true
+is_none (Some s) = false
+
+-- a square before another is in the set, or no step leads to it
+in_or_first : (ℕ → Bool) → Direction → Option ℕ → Bool
+in_or_first set d None = true
+in_or_first set d (Some s) = set s || is_none (next (reversed d) s)
+
+covers : (ℕ → Bool) → Direction → Bool
+covers set d = agree_below (λ t. in_or_first set d (next (reversed d) t)) (λ _. true) 64
+
+from_none : (f : ℕ → Bool) (o : Option ℕ) → is_none o ≡ true → some_in f o ≡ false
+unfolding is_none some_in
+from_none f None e = refl
+from_none f (Some s) e = absurd (cc)
+
+and_true : (a : Bool) → (a && true) ≡ a
+and_true true = refl
+and_true false = refl
+
+-- one square more, from what holds of n squares
+within_more : (n : ℕ) (d : Direction) (set source through : ℕ → Bool) →
+    ((s : ℕ) → s < 64 → is_next d (is_on_line n d source (λ v. through v && set v)) s ≡ is_next d (is_on_line n d source through) s) →
+    (o : Option ℕ) → IfSome o (λ s. s < 64) → in_or_first set d o ≡ true → some_in (is_on_line (suc n) d source (λ v. through v && set v)) o ≡ some_in (is_on_line (suc n) d source through) o
+unfolding in_or_first some_in is_on_line is_next
+within_more n d set source through before None m e = refl
+within_more n d set source through before (Some s) m e =
+    elim (or_cases (set s) (is_none (next (reversed d) s)) e) [
+      | inl in_set ↦
+          ap (λ b. (through s && b) && is_next d (λ u. source u || is_on_line n d source (λ v. through v && set v) u) s) in_set
+          ∙ ap (λ b. b && is_next d (λ u. source u || is_on_line n d source (λ v. through v && set v) u) s) (and_true (through s))
+          ∙ ap (λ b. through s && b) onto
+      | inr first ↦
+          ap (λ b. (through s && set s) && b) (from_none (λ u. source u || is_on_line n d source (λ v. through v && set v) u) (next (reversed d) s) first)
+          ∙ and_turn (through s && set s) false
+          ∙ sym (and_turn (through s) false)
+          ∙ ap (λ b. through s && b) (sym (from_none (λ u. source u || is_on_line n d source through u) (next (reversed d) s) first))
+    ]
+  where
+    onto : is_next d (λ u. source u || is_on_line n d source (λ v. through v && set v) u) s ≡ is_next d (λ u. source u || is_on_line n d source through u) s
+    onto =
+        some_in-or source (is_on_line n d source (λ v. through v && set v)) (next (reversed d) s)
+        ∙ ap (λ b. some_in source (next (reversed d) s) || b) (before s m)
+        ∙ sym (some_in-or source (is_on_line n d source through) (next (reversed d) s))
+
+line_within : (n : ℕ) (d : Direction) (set source through : ℕ → Bool) → covers set d ≡ true → (t : ℕ) → t < 64 →
+    is_next d (is_on_line n d source (λ v. through v && set v)) t ≡ is_next d (is_on_line n d source through) t
+unfolding covers is_next is_on_line
+line_within zero d set source through h t l = refl
+line_within (suc n) d set source through h t l =
+    within_more n d set source through (line_within n d set source through h) (next (reversed d) t) (next_lt (reversed d) t l)
+    (agree_below_at (λ t. in_or_first set d (next (reversed d) t)) (λ _. true) 64 t h l)
+
+-- ---- a plain shift along a direction is a step, on the squares of a set
+
+rises_on : (ℕ → Bool) → ℕ → Direction → Bool
+rises_on set by d = agree_below (λ t. rises_onto by set t (next (reversed d) t)) (λ _. true) 64
+
+falls_on : (ℕ → Bool) → ℕ → Direction → Bool
+falls_on set by d = agree_below (λ t. falls_onto by set t (next (reversed d) t)) (λ _. true) 64
+
+module _ (set narrow : ℕ → Bool) (within : (s : ℕ) → s < 64 → narrow s ≡ true → set s ≡ true) where
+  neither_too : (s t : ℕ) → s < 64 → t < 64 → not (set s || set t) ≡ true → not (narrow s || narrow t) ≡ true
+  neither_too s t ls lt e = both (narrow s) (narrow t) (set s) (set t) (within s ls) (within t lt) e
+    where
+      both : (a b c e : Bool) → (a ≡ true → c ≡ true) → (b ≡ true → e ≡ true) → not (c || e) ≡ true → not (a || b) ≡ true
+      both true b c e h k n = let yes : c ≡ true = h refl in absurd (cc)
+      both false true false e h k n = let yes : e ≡ true = k refl in absurd (cc)
+      both false true true e h k n = absurd (cc)
+      both false false c e h k n = refl
+
+  rises_narrow : (by t : ℕ) (o : Option ℕ) → t < 64 → rises_onto by set t o ≡ true → rises_onto by narrow t o ≡ true
+  unfolding rises_onto
+  rises_narrow by t None l e =
+      elim (or_cases (nat_lt t by) (not (set t || set (t - by))) e) [
+        | inl low ↦ ap (λ b. b || not (narrow t || narrow (t - by))) low
+        | inr out ↦ or_true (nat_lt t by) (not (narrow t || narrow (t - by))) (neither_too t (t - by) l (omega arith) out)
+      ]
+  rises_narrow by t (Some s) l e = e
+
+  falls_narrow : (by t : ℕ) (o : Option ℕ) → t < 64 → falls_onto by set t o ≡ true → falls_onto by narrow t o ≡ true
+  unfolding falls_onto
+  falls_narrow by t None l e =
+      elim (cases_lt (t + by) 64) [
+        | inl low ↦ elim (or_cases (nat_lt 63 (t + by)) (not (set t || set (t + by))) e) [
+          | inl high ↦ ap (λ b. b || not (narrow t || narrow (t + by))) high
+          | inr out ↦ or_true (nat_lt 63 (t + by)) (not (narrow t || narrow (t + by))) (neither_too t (t + by) l low out)
+        ]
+        | inr high ↦ ap (λ b. b || not (narrow t || narrow (t + by))) (lt-ltb 63 (t + by) (omega arith))
+      ]
+  falls_narrow by t (Some s) l e = e
+
+-- past lines of theirs within the set, from mine: the squares that outflank in direction d
+module _ (set : ℕ → Bool) (by : ℕ) (d : Direction) (p : Position) (through moved : ℕ) (b : IsBoard p) (covered : covers set (reversed d) ≡ true)
+    (is_narrow : (s : ℕ) → has through s ≡ (has p.opp s && set s)) where
+  in_set : (s : ℕ) → s < 64 → has through s ≡ true → set s ≡ true
+  in_set s l e = (and_parts (has p.opp s) (set s) (sym (is_narrow s) ∙ e)).1
+
+  outflanking_past : moved ≡ word_of (is_next (reversed d) (is_on_line 6 (reversed d) (has p.own) (has through))) → moved ≡ word_of (λ s. outflanks p s d)
+  outflanking_past m =
+      m ∙ word_of-same (is_next (reversed d) (is_on_line 6 (reversed d) (has p.own) (has through))) (λ s. outflanks p s d)
+      (λ t l. is_next-same (reversed d) (is_on_line 6 (reversed d) (has p.own) (has through)) (is_on_line 6 (reversed d) (is_mine p) (λ s. is_theirs p s && set s)) t l
+      (λ u j. is_on_line-same 6 (reversed d) (has p.own) (is_mine p) (has through) (λ s. is_theirs p s && set s)
+      (λ v _. sym (is_mine-has p v)) (λ v _. is_narrow v ∙ ap (λ x. x && set v) (sym (is_theirs-has p b v))) u j)
+      ∙ line_within 6 (reversed d) set (is_mine p) (is_theirs p) covered t l
+      ∙ outflanks-line p t d)
+
+  rising_past : rises_on set by (reversed d) ≡ true →
+      ((e : Direction) → Rises e by (has through) → moved ≡ word_of (is_next e (is_on_line 6 e (has p.own) (has through)))) → moved ≡ word_of (λ s. outflanks p s d)
+  unfolding rises_on
+  rising_past r m =
+      outflanking_past (m (reversed d) (λ t l. rises_narrow set (has through) in_set by t (next (reversed (reversed d)) t) l
+      (agree_below_at (λ t. rises_onto by set t (next (reversed (reversed d)) t)) (λ _. true) 64 t r l)))
+
+  falling_past : falls_on set by (reversed d) ≡ true →
+      ((e : Direction) → Falls e by (has through) → moved ≡ word_of (is_next e (is_on_line 6 e (has p.own) (has through)))) → moved ≡ word_of (λ s. outflanks p s d)
+  unfolding falls_on
+  falling_past r m =
+      outflanking_past (m (reversed d) (λ t l. falls_narrow set (has through) in_set by t (next (reversed (reversed d)) t) l
+      (agree_below_at (λ t. falls_onto by set t (next (reversed (reversed d)) t)) (λ _. true) 64 t r l)))
+
+-- ---- the eight directions
+
+-- what is known of a word past the lines of `through`, in each direction that it may be read in
+abbrev Past : Position → ℕ → (Direction → Type 0) → ℕ → Type 0
+Past p through along moved = (e : Direction) → along e → moved ≡ word_of (is_next e (is_on_line 6 e (has p.own) (has through)))
+
+all_squares : (p : Position) (s : ℕ) → has p.opp s ≡ (has p.opp s && true)
+all_squares p s = sym (and_true (has p.opp s))
+
+inner_squares : (p : Position) (s : ℕ) → has (bit_and p.opp INNER) s ≡ (has p.opp s && has INNER s)
+inner_squares p s = has-and p.opp INNER s
+
+past_north : (p : Position) (moved : ℕ) → IsBoard p → Past p p.opp (λ e. Rises e 8 (has p.opp)) moved → moved ≡ word_of (λ s. outflanks p s (record { columns = Stay; rows = Back }))
+unfolding covers in_or_first is_none rises_on rises_onto next stepped square_at
+past_north p moved b m = rising_past (λ _. true) 8 (record { columns = Stay; rows = Back }) p p.opp moved b refl (all_squares p) refl m
+
+past_north_east : (p : Position) (moved : ℕ) → IsBoard p → Past p (bit_and p.opp INNER) (λ e. Rises e 7 (has (bit_and p.opp INNER))) moved → moved ≡ word_of (λ s. outflanks p s (record { columns = Forth; rows = Back }))
+unfolding covers in_or_first is_none rises_on rises_onto next stepped square_at has
+past_north_east p moved b m = rising_past (has INNER) 7 (record { columns = Forth; rows = Back }) p (bit_and p.opp INNER) moved b refl (inner_squares p) refl m
+
+past_east : (p : Position) (moved : ℕ) → IsBoard p → Past p (bit_and p.opp INNER) (λ e. Falls e 1 (has (bit_and p.opp INNER))) moved → moved ≡ word_of (λ s. outflanks p s (record { columns = Forth; rows = Stay }))
+unfolding covers in_or_first is_none falls_on falls_onto next stepped square_at has
+past_east p moved b m = falling_past (has INNER) 1 (record { columns = Forth; rows = Stay }) p (bit_and p.opp INNER) moved b refl (inner_squares p) refl m
+
+past_south_east : (p : Position) (moved : ℕ) → IsBoard p → Past p (bit_and p.opp INNER) (λ e. Falls e 9 (has (bit_and p.opp INNER))) moved → moved ≡ word_of (λ s. outflanks p s (record { columns = Forth; rows = Forth }))
+unfolding covers in_or_first is_none falls_on falls_onto next stepped square_at has
+past_south_east p moved b m = falling_past (has INNER) 9 (record { columns = Forth; rows = Forth }) p (bit_and p.opp INNER) moved b refl (inner_squares p) refl m
+
+past_south : (p : Position) (moved : ℕ) → IsBoard p → Past p p.opp (λ e. Falls e 8 (has p.opp)) moved → moved ≡ word_of (λ s. outflanks p s (record { columns = Stay; rows = Forth }))
+unfolding covers in_or_first is_none falls_on falls_onto next stepped square_at
+past_south p moved b m = falling_past (λ _. true) 8 (record { columns = Stay; rows = Forth }) p p.opp moved b refl (all_squares p) refl m
+
+past_south_west : (p : Position) (moved : ℕ) → IsBoard p → Past p (bit_and p.opp INNER) (λ e. Falls e 7 (has (bit_and p.opp INNER))) moved → moved ≡ word_of (λ s. outflanks p s (record { columns = Back; rows = Forth }))
+unfolding covers in_or_first is_none falls_on falls_onto next stepped square_at has
+past_south_west p moved b m = falling_past (has INNER) 7 (record { columns = Back; rows = Forth }) p (bit_and p.opp INNER) moved b refl (inner_squares p) refl m
+
+past_west : (p : Position) (moved : ℕ) → IsBoard p → Past p (bit_and p.opp INNER) (λ e. Rises e 1 (has (bit_and p.opp INNER))) moved → moved ≡ word_of (λ s. outflanks p s (record { columns = Back; rows = Stay }))
+unfolding covers in_or_first is_none rises_on rises_onto next stepped square_at has
+past_west p moved b m = rising_past (has INNER) 1 (record { columns = Back; rows = Stay }) p (bit_and p.opp INNER) moved b refl (inner_squares p) refl m
+
+past_north_west : (p : Position) (moved : ℕ) → IsBoard p → Past p (bit_and p.opp INNER) (λ e. Rises e 9 (has (bit_and p.opp INNER))) moved → moved ≡ word_of (λ s. outflanks p s (record { columns = Back; rows = Back }))
+unfolding covers in_or_first is_none rises_on rises_onto next stepped square_at has
+past_north_west p moved b m = rising_past (has INNER) 9 (record { columns = Back; rows = Back }) p (bit_and p.opp INNER) moved b refl (inner_squares p) refl m
+
+pub past_all : (p : Position) (a b c d e f g h empty : ℕ) → IsBoard p →
+    Past p p.opp (λ x. Rises x 8 (has p.opp)) a →
+    Past p (bit_and p.opp INNER) (λ x. Rises x 7 (has (bit_and p.opp INNER))) b →
+    Past p (bit_and p.opp INNER) (λ x. Falls x 1 (has (bit_and p.opp INNER))) c →
+    Past p (bit_and p.opp INNER) (λ x. Falls x 9 (has (bit_and p.opp INNER))) d →
+    Past p p.opp (λ x. Falls x 8 (has p.opp)) e →
+    Past p (bit_and p.opp INNER) (λ x. Falls x 7 (has (bit_and p.opp INNER))) f →
+    Past p (bit_and p.opp INNER) (λ x. Rises x 1 (has (bit_and p.opp INNER))) g →
+    Past p (bit_and p.opp INNER) (λ x. Rises x 9 (has (bit_and p.opp INNER))) h →
+    empty ≡ word_of (is_empty p) →
+    bit_and (bit_or (bit_or (bit_or (bit_or (bit_or (bit_or (bit_or a b) c) d) e) f) g) h) empty ≡ word_of (is_legal p)
+unfolding directions
+past_all p a b c d e f g h empty board ea eb ec ed ee ef eg eh free =
+    legal_word p (bit_or (bit_or (bit_or (bit_or (bit_or (bit_or (bit_or a b) c) d) e) f) g) h) empty
+    (or_words8 a b c d e f g h
+    (λ s. outflanks p s (record { columns = Stay; rows = Back }))
+    (λ s. outflanks p s (record { columns = Forth; rows = Back }))
+    (λ s. outflanks p s (record { columns = Forth; rows = Stay }))
+    (λ s. outflanks p s (record { columns = Forth; rows = Forth }))
+    (λ s. outflanks p s (record { columns = Stay; rows = Forth }))
+    (λ s. outflanks p s (record { columns = Back; rows = Forth }))
+    (λ s. outflanks p s (record { columns = Back; rows = Stay }))
+    (λ s. outflanks p s (record { columns = Back; rows = Back }))
+    (past_north p a board ea)
+    (past_north_east p b board eb)
+    (past_east p c board ec)
+    (past_south_east p d board ed)
+    (past_south p e board ee)
+    (past_south_west p f board ef)
+    (past_west p g board eg)
+    (past_north_west p h board eh))
+    free
