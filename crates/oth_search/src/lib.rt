@@ -12,6 +12,7 @@ mod kind;
 mod last;
 mod lifting;
 mod ordering;
+mod outlook;
 mod probe;
 mod searching;
 mod solving;
