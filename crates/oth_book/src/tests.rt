@@ -1,5 +1,9 @@
 //! The worked books: A has value -50 by `Winner` and -49 by `Discs`, its best move is h1. C has value 64, its best moves are a1 and h1.
 //! The first two images have A as canonical board.
+
+mod full;
+mod refused;
+
 ghost use Rattle.std.specs.Prelude.{◌≡◌, ◌≤◌, IfSome};
 ghost use Rattle.oth_rules.specs.Position.{empty_count};
 
@@ -38,6 +42,9 @@ const BOTH: &[u8] =
 
 const WRONG_ORDER: &[u8] =
     b"OBOOK2 W\nXXXXXXXXXXXXXXXXXXXXXXXXXXXXXXXXXXXXXXXXXXXXXXXXXXXXXXXX-OXXXXO- +64 +64 8100000000000000\n--OXOOO-OOOOOOOOOOOOOOOOOOOOOOOOOOOOOOOOOOOOOOOOOOOOOOOOOOOOOOOO -50 -50 0000000000000080\nEND 000002\n";
+
+const WRONG_ORDER_1: &[u8] =
+    b"OBOOK1\nXXXXXXXXXXXXXXXXXXXXXXXXXXXXXXXXXXXXXXXXXXXXXXXXXXXXXXXX-OXXXXO- +64 8100000000000000\n--OXOOO-OOOOOOOOOOOOOOOOOOOOOOOOOOOOOOOOOOOOOOOOOOOOOOOOOOOOOOOO -50 0000000000000080\nEND 000002\n";
 
 const TWICE: &[u8] =
     b"OBOOK1\n--OXOOO-OOOOOOOOOOOOOOOOOOOOOOOOOOOOOOOOOOOOOOOOOOOOOOOOOOOOOOOO -50 0000000000000080\n--OXOOO-OOOOOOOOOOOOOOOOOOOOOOOOOOOOOOOOOOOOOOOOOOOOOOOOOOOOOOOO -50 0000000000000080\nEND 000002\n";
@@ -83,8 +90,9 @@ fn second(rt: &HostRuntime, header: &[u8], bounds: &[u8]) -> Result<Outcome, All
 }
 
 #[test]
-fn version_1(rt: HostRuntime) -> Result<(), Fail> {
+fn texts_of_version_1_are_judged(rt: HostRuntime) -> Result<(), Fail> {
     let alloc = rt.alloc();
+    assert_eq!(rt; EMPTY_1.len(), 18);
     assert_eq!(rt; judged(alloc, EMPTY_1), Outcome::Good(0));
     assert_eq!(rt;
         judged(alloc, b"OBOOK1\nEND 000000"),
@@ -114,13 +122,18 @@ fn version_1(rt: HostRuntime) -> Result<(), Fail> {
         Outcome::Fault(BookFault::Count)
     );
     assert_eq!(rt; judged(alloc, TWICE), Outcome::Fault(BookFault::Order(2)));
+    assert_eq!(rt;
+        judged(alloc, WRONG_ORDER_1),
+        Outcome::Fault(BookFault::Order(2))
+    );
     Ok(())
 }
 
 #[test]
-fn version_2(rt: HostRuntime) -> Result<(), Fail> {
+fn texts_of_version_2_are_judged(rt: HostRuntime) -> Result<(), Fail> {
     let alloc = rt.alloc();
     let winner = b"OBOOK2 W\n";
+    assert_eq!(rt; EMPTY_2.len(), 20);
     assert_eq!(rt; judged(alloc, EMPTY_2), Outcome::Good(0));
     assert_eq!(rt;
         judged(alloc, b"OBOOK3\n"),
@@ -130,6 +143,7 @@ fn version_2(rt: HostRuntime) -> Result<(), Fail> {
         judged(alloc, b"OBOOK2"),
         Outcome::Fault(BookFault::CutShort)
     );
+    assert_eq!(rt; BOOK_2.len(), 110);
     assert_eq!(rt; judged(alloc, BOOK_2), Outcome::Good(1));
     assert_eq!(rt; judged(alloc, BOTH), Outcome::Good(2));
     assert_eq!(rt;
@@ -210,7 +224,7 @@ fn is_refused_everywhere(
 }
 
 #[test]
-fn broken_books(rt: HostRuntime) -> Result<(), Fail> {
+fn each_cut_and_each_wrong_byte_is_refused(rt: HostRuntime) -> Result<(), Fail> {
     assert!(rt; is_refused_everywhere(rt.alloc(), BOOK_1, 7, 93)?);
     assert!(rt; is_refused_everywhere(rt.alloc(), BOOK_2, 9, 99)?);
     Ok(())
@@ -268,7 +282,7 @@ fn is_written(book: &Book, expected: &[u8]) -> bool {
 }
 
 #[test]
-fn adds_and_finds(rt: HostRuntime) -> Result<(), Fail> {
+fn answers_are_added_and_found(rt: HostRuntime) -> Result<(), Fail> {
     let Some(mut book) = book(&rt, BOOK_1) else {
         panic!(rt; "the book of A")
     };
@@ -306,7 +320,7 @@ fn adds_and_finds(rt: HostRuntime) -> Result<(), Fail> {
 }
 
 #[test]
-fn keeps_bounds(rt: HostRuntime) -> Result<(), Fail> {
+fn bounds_are_kept_and_made_closer(rt: HostRuntime) -> Result<(), Fail> {
     let mut book = Book::new(rt.alloc(), Scoring::Winner);
     assert!(rt; is_written(&book, EMPTY_2));
     assert_eq!(rt;
@@ -357,7 +371,7 @@ fn refuses_31_empties(rt: HostRuntime) -> Result<(), Fail> {
 }
 
 #[test]
-fn a_writer_fails_anywhere(rt: HostRuntime) -> Result<(), Fail> {
+fn a_writer_that_fails_has_the_first_bytes(rt: HostRuntime) -> Result<(), Fail> {
     let Some(book) = book(&rt, BOOK_1) else {
         panic!(rt; "the book of A")
     };
@@ -365,29 +379,7 @@ fn a_writer_fails_anywhere(rt: HostRuntime) -> Result<(), Fail> {
         let mut sink = ByteSink::<128>::new(count);
         assert_eq!(rt; write(&book, &mut sink), Err(WriteFault));
         assert!(rt; sink.taken() == front(BOOK_2, count));
-    }
-    Ok(())
-}
-
-// Want of memory is answered as such: `--fail-alloc` refuses each request in turn.
-#[test]
-fn answers_want_of_memory(rt: HostRuntime) -> Result<(), Fail> {
-    match read_claims(rt.alloc(), BOTH) {
-        Err(fault) => assert_eq!(rt; fault, BookFault::Memory),
-        Ok(claims) => {
-            assert_eq!(rt; claims.entries().len(), 2);
-            assert_eq!(rt; claims.scoring(), Scoring::Winner);
-            match verify(rt.alloc(), claims) {
-                Err(wrong) => assert_eq!(rt; wrong, Wrong::Memory),
-                Ok(mut book) => {
-                    assert_eq!(rt;
-                        add(&mut book, A, Scoring::Winner),
-                        Some(Ok(Added::Present))
-                    );
-                    assert_eq!(rt; book.len(), 2);
-                }
-            }
-        }
+        assert!(rt; sink.calls() == count as u64 + 1);
     }
     Ok(())
 }

@@ -9,6 +9,7 @@ use crate::access::{TableAccess, WorkerCells};
 use crate::floor::{Floor, FloorSeat};
 use crate::frontier::Frontier;
 use crate::gate::Gate;
+use crate::query::{Aim, Query};
 use crate::reply::Reply;
 use crate::tasks::{Drawn, Hand, Tasks};
 use crate::work::{Job, Work};
@@ -42,6 +43,32 @@ pub fn run_workers<'t, R: Threads + Sync, G: Gate>(
     ensures seat { IsSeatOf floor.now seat.new }
     ensures gathered { AreGathered frontier.now result }
 {
+    let query = Query {
+        aim: Aim::Refute,
+        known: &[],
+    };
+    run_query(
+        rt, alloc, &query, frontier, floor, seat, workers, table, gate,
+    )
+}
+
+// The same, with what is asked of the items.
+pub(crate) fn run_query<'t, R: Threads + Sync, G: Gate>(
+    rt: &R,
+    alloc: Global,
+    query: &Query,
+    frontier: &Frontier,
+    floor: &Floor,
+    seat: &mut FloorSeat,
+    workers: u8,
+    table: &mut Option<TableAccess<'t>>,
+    gate: &G,
+) -> Gathered
+    requires crew { IsCrew workers }
+    requires seat { IsSeatOf floor.now seat.old }
+    ensures seat { IsSeatOf floor.now seat.new }
+    ensures gathered { AreGathered frontier.now result }
+{
     let Ok((tasks, hands)) = Tasks::new(alloc, frontier, workers) else {
         return nothing(alloc, frontier);
     };
@@ -56,7 +83,7 @@ pub fn run_workers<'t, R: Threads + Sync, G: Gate>(
         return without_jobs(alloc, frontier, tasks, hands);
     };
     let jobs = jobs_of(alloc, frontier, &tasks, floor, hands, seats, table, jobs);
-    let jobs = worked(rt, frontier, &tasks, floor, gate, jobs);
+    let jobs = worked(rt, query, frontier, &tasks, floor, gate, jobs);
     let replies = replies_of(alloc, frontier, floor, jobs.as_slice());
     let hands = hands_in(room, jobs);
     let drawn = tasks.close(hands);
@@ -148,6 +175,7 @@ fn jobs_of<'t>(
 // The jobs, when each has searched until no number was left.
 fn worked<R: Threads + Sync, G: Gate, C: Cells + Send + Drop>(
     rt: &R,
+    query: &Query,
     frontier: &Frontier,
     tasks: &Tasks,
     floor: &Floor,
@@ -160,7 +188,7 @@ fn worked<R: Threads + Sync, G: Gate, C: Cells + Send + Drop>(
     ensures each { All (λ j. Holds frontier.now floor.now j.work) result.items }
     ensures many { vec_len result ≡ vec_len jobs }
 {
-    work_all(rt, frontier, tasks, floor, gate, jobs.as_mut_slice());
+    work_all(rt, query, frontier, tasks, floor, gate, jobs.as_mut_slice());
     jobs
 }
 

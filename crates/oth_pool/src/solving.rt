@@ -11,14 +11,15 @@ use crate::access::{TableAccess, WorkerCells};
 use crate::floor::{Floor, FloorSeat};
 use crate::frontier::Frontier;
 use crate::gate::{Gate, Open};
-use crate::run::run_workers;
+use crate::query::{Aim, Query, answered};
+use crate::run::run_query;
 use crate::told::{answer_in, bounds_in, passed_on};
 use crate::workers::search_item;
 use arrayvec::ArrayVec;
 use oth_book::Book;
 use oth_rules::{Board, Scoring, Square};
 use oth_search::{
-    Answer, Cells, Solved, before_pass, ended, known_below, known_of, order, solve_moves,
+    Answer, Cells, Interval, Solved, before_pass, ended, known_below, known_of, order, solve_moves,
 };
 use oth_table::SharedTable;
 use std::alloc::Global;
@@ -125,7 +126,7 @@ fn answer_moves<R: Threads + Sync, G: Gate>(
     ensures board { result.board ≡ told.now.board }
     ensures scoring { result.scoring ≡ told.now.scoring }
 {
-    match SharedTable::new(alloc, cells, told.scoring) {
+    match SharedTable::new(alloc, useful(cells, told.board.empties()), told.scoring) {
         Ok((table, seat)) => {
             let mut access = Some(TableAccess::of(&table, seat));
             answer_over(rt, alloc, told, workers, &mut access, gate)
@@ -134,7 +135,17 @@ fn answer_moves<R: Threads + Sync, G: Gate>(
     }
 }
 
-// The same: by one move first, then by workers, and then by what they left open.
+// So many of the cells as a search of so many empty squares can use: it takes time to make a table.
+fn useful(cells: u32, empties: u8) -> u32 {
+    match empties {
+        0..=9 => 0,
+        10..=12 => cells.min(1 << 10),
+        13..=14 => cells.min(1 << 13),
+        _ => cells,
+    }
+}
+
+// The same: by the boards after the moves first, then by the items of the frontier, and then by what they left open.
 fn answer_over<'t, R: Threads + Sync, G: Gate>(
     rt: &R,
     alloc: Global,
@@ -150,22 +161,69 @@ fn answer_over<'t, R: Threads + Sync, G: Gate>(
     ensures scoring { result.scoring ≡ told.now.scoring }
 {
     let mut cells = WorkerCells::of(alloc, access);
-    let first = first_move(
-        rt,
-        alloc,
-        told.board,
-        workers,
-        access,
-        &mut cells,
-        told.scoring,
+    let known = known_moves(rt, alloc, told, workers, access, &mut cells);
+    let query = Query {
+        aim: Aim::Refute,
+        known: known.as_slice(),
+    };
+    let frontier = Frontier::of(&told.board, 2);
+    let found = searched(
+        rt, alloc, told, &query, &frontier, workers, access, gate, &mut cells,
     );
-    if access.is_some() {
-        split(rt, alloc, &told.board, &first, workers, access);
-    }
-    let found = search_items(rt, alloc, told, &first, workers, access, gate, &mut cells);
-    let known = children_of(alloc, told.board, &first, found.as_slice());
+    let known = children_of(alloc, told, known.as_slice(), 1, found.as_slice());
     let root = root_by(told, known.as_slice());
     solve_moves(root, known.as_slice(), &mut cells)
+}
+
+// What the caller and the workers find of the boards after the moves, so far that the best are told from the rest.
+fn known_moves<'t, R: Threads + Sync>(
+    rt: &R,
+    alloc: Global,
+    told: &Solved,
+    workers: u8,
+    access: &mut Option<TableAccess<'t>>,
+    cells: &mut WorkerCells<'t>,
+) -> Vec<Solved>
+    requires { IsCrew workers }
+{
+    let first = first_move(rt, alloc, told, workers, access, cells);
+    if pays(workers, &told.board) {
+        split(rt, alloc, told, &first, Aim::Best, workers, access, cells)
+    } else {
+        known_alone(alloc, told, &first, cells)
+    }
+}
+
+// Whether the moves of the board are split among the workers.
+fn pays(workers: u8, board: &Board) -> bool {
+    let empties = board.empties();
+    workers > 1 && LEAST_SPLIT <= empties && empties <= 30
+}
+
+// The same by the caller alone.
+fn known_alone<C: Cells>(
+    alloc: Global,
+    told: &Solved,
+    first: &Solved,
+    cells: &mut C,
+) -> Vec<Solved> {
+    let mut known = room_for(alloc, 64);
+    let _ = known.push(*first);
+    let squares = order(&told.board);
+    for square in squares.as_slice() {
+        let root = root_by(told, known.as_slice());
+        if let Some(child) = root.board.play(*square) {
+            if child != first.board {
+                let _ = known.push(searched_after(&root, child, cells));
+            }
+        }
+    }
+    known
+}
+
+// The board after a move, with its value where the move is as good as what is known of the root.
+fn searched_after<C: Cells>(root: &Solved, child: Board, cells: &mut C) -> Solved {
+    Solved::at_most(&child, -root.interval.lower, cells, root.scoring)
 }
 
 // The board after the first move of the order.
@@ -175,15 +233,15 @@ fn first_child(board: &Board) -> Option<Board> {
     board.play(*square)
 }
 
-// The boards of the line of first moves, as long as a split of their moves pays.
-fn first_line(board: Board) -> ArrayVec<Board, 32> {
+// The boards of the line of first moves whose moves are split among the workers.
+fn first_line(board: &Board, workers: u8) -> ArrayVec<Board, 32> {
     let mut line = ArrayVec::new();
-    let mut last = board;
+    let mut last = *board;
     for _ in 0..30 {
         let Some(child) = first_child(&last) else {
             break;
         };
-        if child.empties() < LEAST_SPLIT {
+        if !pays(workers, &child) {
             break;
         }
         let _ = line.try_push(child);
@@ -192,90 +250,101 @@ fn first_line(board: Board) -> ArrayVec<Board, 32> {
     line
 }
 
-// The board after the first move of the order, with its value: first the last board of the line of first moves, and then each
-// before it, when the workers have searched its other moves over the table.
+// The board after the first move, with its value: first that of the last board of the line of first moves, and then of each
+// before it, when the workers have searched its other moves.
 fn first_move<'t, R: Threads + Sync>(
     rt: &R,
     alloc: Global,
-    board: Board,
+    told: &Solved,
     workers: u8,
     access: &mut Option<TableAccess<'t>>,
     cells: &mut WorkerCells<'t>,
-    scoring: Scoring,
 ) -> Solved
     requires { IsCrew workers }
 {
-    let Some(child) = first_child(&board) else {
-        return Solved::unknown(board, scoring);
-    };
-    if workers > 1 && access.is_some() {
-        let line = first_line(board);
-        let mut solved = Solved::unknown(board, scoring);
-        for later in line.as_slice().iter().rev() {
-            split(rt, alloc, later, &solved, workers, access);
-            solved = Solved::by_search(later, -65, 65, cells, scoring);
-        }
+    let line = first_line(&told.board, workers);
+    let mut below = *told;
+    for later in line.as_slice().iter().rev() {
+        let later = Solved::unknown(*later, told.scoring);
+        let first = first_by(&later.board, below, cells);
+        let found = split(
+            rt,
+            alloc,
+            &later,
+            &first,
+            Aim::Value,
+            workers,
+            access,
+            cells,
+        );
+        below = known_below(later.board, 1, found.as_slice(), told.scoring);
     }
-    Solved::by_search(&child, -65, 65, cells, scoring)
+    first_by(&told.board, below, cells)
 }
 
-// Lets the workers search the boards after the moves with null windows at what the first one gives, so that the table knows of them.
-fn split<'t, R: Threads + Sync>(
-    rt: &R,
-    alloc: Global,
-    board: &Board,
-    first: &Solved,
-    workers: u8,
-    access: &mut Option<TableAccess<'t>>,
-)
-    requires { IsCrew workers }
-{
-    if board.empties() > 30 {
-        return;
+// The board after the first move, with its value: as it is told, or by a search.
+fn first_by<C: Cells>(board: &Board, told: Solved, cells: &mut C) -> Solved {
+    match first_child(board) {
+        Some(child) if child == told.board && told.interval.lower == told.interval.upper => told,
+        Some(child) => Solved::by_search(&child, -65, 65, cells, told.scoring),
+        None => Solved::unknown(*board, told.scoring),
     }
-    let least = root_by(&Solved::unknown(*board, first.scoring), &[*first]);
-    if least.interval.lower == -64 {
-        return;
-    }
-    let Ok((floor, mut seat)) = Floor::new(alloc, board, first.scoring) else {
-        return;
-    };
-    let _ = floor.raise(&mut seat, &least);
-    let frontier = Frontier::of(board, 1);
-    let _ = run_workers(
-        rt, alloc, &frontier, &floor, &mut seat, workers, access, &Open,
-    );
 }
 
-// What is found of the boards two plies below, with windows at a floor that the first move raises: by the workers, and by the
-// caller where they left one.
-fn search_items<'t, R: Threads + Sync, G: Gate>(
+// Lets the workers search the boards after the moves, with windows at a floor that the first move raises.
+fn split<'t, R: Threads + Sync, C: Cells>(
     rt: &R,
     alloc: Global,
     told: &Solved,
     first: &Solved,
+    aim: Aim,
+    workers: u8,
+    access: &mut Option<TableAccess<'t>>,
+    cells: &mut C,
+) -> Vec<Solved>
+    requires { IsCrew workers }
+{
+    let query = Query {
+        aim,
+        known: &[*first],
+    };
+    let frontier = Frontier::ranked(&told.board);
+    let found = searched(
+        rt, alloc, told, &query, &frontier, workers, access, &Open, cells,
+    );
+    children_of(alloc, told, &[*first], 0, found.as_slice())
+}
+
+// What is found of the boards of the frontier: by the workers, and by the caller where they left one.
+fn searched<'t, R: Threads + Sync, G: Gate, C: Cells>(
+    rt: &R,
+    alloc: Global,
+    told: &Solved,
+    query: &Query,
+    frontier: &Frontier,
     workers: u8,
     access: &mut Option<TableAccess<'t>>,
     gate: &G,
-    cells: &mut WorkerCells<'t>,
+    cells: &mut C,
 ) -> Vec<Solved>
-    requires few { IsSolvable told.now.board }
-    requires crew { IsCrew workers }
+    requires { IsCrew workers }
 {
-    let frontier = Frontier::of(&told.board, 2);
-    let mut found = room_for(alloc, frontier.len());
+    let root = root_by(told, query.known);
     let Ok((floor, mut seat)) = Floor::new(alloc, &told.board, told.scoring) else {
-        return found;
+        return searched_alone(alloc, &root, query, frontier, gate, cells);
     };
-    let _ = floor.raise(&mut seat, &root_by(told, &[*first]));
-    let gathered = run_workers(
-        rt, alloc, &frontier, &floor, &mut seat, workers, access, gate,
+    let mut found = room_for(alloc, frontier.len());
+    let _ = floor.raise(&mut seat, &root);
+    let gathered = run_query(
+        rt, alloc, query, frontier, &floor, &mut seat, workers, access, gate,
     );
     for reply in gathered.replies.as_slice() {
         let _ = found.push(reply.solved);
     }
     let left = gathered.drawn.left.as_slice();
-    search_left(&frontier, left, &floor, &mut seat, gate, cells, &mut found);
+    search_left(
+        query, frontier, left, &floor, &mut seat, gate, cells, &mut found,
+    );
     found
 }
 
@@ -287,8 +356,31 @@ fn room_for(alloc: Global, count: u32) -> Vec<Solved> {
     }
 }
 
+// The same by the caller alone, where there is no memory for a floor.
+fn searched_alone<G: Gate, C: Cells>(
+    alloc: Global,
+    root: &Solved,
+    query: &Query,
+    frontier: &Frontier,
+    gate: &G,
+    cells: &mut C,
+) -> Vec<Solved> {
+    let mut found = room_for(alloc, frontier.len());
+    for number in 0..frontier.len() {
+        if let Some(item) = frontier.entry(number) {
+            gate.before(number);
+            let least = root.interval.lower;
+            let solved = answered(query, &item, &root.board, least, cells, root.scoring);
+            gate.after(number);
+            let _ = found.push(solved);
+        }
+    }
+    found
+}
+
 // Searches the items that no worker took, and adds what is found of them.
 fn search_left<G: Gate, C: Cells>(
+    query: &Query,
     frontier: &Frontier,
     left: &[u32],
     floor: &Floor,
@@ -301,22 +393,36 @@ fn search_left<G: Gate, C: Cells>(
 {
     for number in left {
         if let Some(item) = frontier.entry(*number) {
-            let solved = search_item(&item, *number, floor, seat, gate, cells);
+            let solved = search_item(query, &item, *number, floor, seat, gate, cells);
             let _ = found.push(solved);
         }
     }
 }
 
-// What is known of the boards after each move: the first one, and then each by the boards below it.
-fn children_of(alloc: Global, board: Board, first: &Solved, found: &[Solved]) -> Vec<Solved> {
-    let mut known = room_for(alloc, 65);
-    let _ = known.push(*first);
+// What is known of the board after each move: as before, or else by the boards so many plies below it that were found.
+fn children_of(
+    alloc: Global,
+    told: &Solved,
+    known: &[Solved],
+    plies: u8,
+    found: &[Solved],
+) -> Vec<Solved> {
+    let mut children = room_for(alloc, 64);
     for number in 0..64 {
-        if let Some(child) = board.play(Square::numbered(number)) {
-            let _ = known.push(known_below(child, 1, found, first.scoring));
+        if let Some(child) = told.board.play(Square::numbered(number)) {
+            let _ = children.push(closer(child, known, plies, found, told.scoring));
         }
     }
-    known
+    children
+}
+
+fn closer(child: Board, known: &[Solved], plies: u8, found: &[Solved], scoring: Scoring) -> Solved {
+    let before = known_of(child, known, scoring);
+    if before.interval == Interval::all() {
+        known_below(child, plies, found, scoring)
+    } else {
+        before
+    }
 }
 
 // The greatest lower bound of a board that what is told of it and what is known of the boards after its moves give.

@@ -1,16 +1,23 @@
+//! The worked boards: their floors, frontiers, tasks and collectors, and what workers do over a table.
+
+mod agreement;
+mod book;
+mod gate;
+mod refused;
+mod rows;
+
 ghost use Rattle.std.specs.Prelude.{◌≡◌, ◌<◌, ◌≤◌, ℕ, IfSome, length, slice_index_or};
 ghost use Rattle.oth_rules.specs.Position.{empty_count};
 ghost use Rattle.oth_pool.specs.Hands.{AreAllHands, IsHandOf, number_of};
 
 use crate::{
-    Collector, Floor, Frontier, Gate, Hand, Open, Refusal, Reply, SolveError, TableAccess, Tasks,
-    WorkerCells, run_workers, solve,
+    Collector, Floor, Frontier, Hand, Open, Refusal, Reply, TableAccess, Tasks, WorkerCells,
+    run_workers, solve,
 };
 use oth_rules::{Board, Scoring, Square};
 use oth_search::{Cells, Kind, NoCells, Solved};
 use oth_table::SharedTable;
 use std::alloc::Global;
-use std::sync::atomic::{AtomicU64, Ordering};
 use std::test::Fail;
 use std::thread;
 use std::thread::Threads;
@@ -19,6 +26,7 @@ const A: [u64; 2] = [8, 0xffff_ffff_ffff_ff74];
 
 const B: [u64; 2] = [0xffff_ffff_ffff_fcfc, 0x0000_0000_0000_0202];
 
+// Row 1 `-OXXXXO-`, row 8 the same, and `X` on all other squares.
 const CORNERS: [u64; 2] = [0x3cff_ffff_ffff_ff3c, 0x4200_0000_0000_0042];
 
 // A board of a game, with 28 empty squares.
@@ -70,6 +78,8 @@ fn a_floor_rises_to_the_best_move(rt: HostRuntime) -> Result<(), Fail> {
     assert!(rt; floor.raise(&mut seat, &b1).is_ok());
     assert!(rt; floor.read(&mut seat) == -50);
     assert!(rt; floor.raise(&mut seat, &exactly(&c)).is_err());
+    let discs = Solved::unknown(a, Scoring::Discs);
+    assert!(rt; floor.raise(&mut seat, &discs).is_err());
     assert!(rt; floor.read(&mut seat) == -50);
     assert!(rt; floor.read(&mut other) == -50);
     floor.meet(&mut seat, &mut other);
@@ -201,11 +211,11 @@ fn four_threads_draw_each_number_once(rt: HostRuntime) -> Result<(), Fail> {
     };
     draw_all(&rt, &tasks, &mut hands);
     let closed = tasks.close(hands);
-    let mut seen = [0; 194];
+    let mut seen = [0u8; 194];
     for list in closed.lists.as_slice() {
         for number in list.as_slice() {
             if let Some(count) = seen.get_mut(*number as usize) {
-                *count = 1;
+                *count = u8::saturating_add(*count, 1);
             }
         }
     }
@@ -251,163 +261,6 @@ fn solved<R: Threads + Sync>(
     let board = Board::of(words[0], words[1]).ok()?;
     let answer = solve(rt, alloc, &board, workers, cells, &Open, None, scoring).ok()?;
     Some((answer.score, answer.best, answer.kind))
-}
-
-// The worked boards with their scores and best moves, by the scoring that gives the empty squares to the winner.
-const ROWS: [([u64; 2], i8, u64, Kind); 10] = [
-    ([0xffff_ffff_ffff_fffc, 0x2], 64, 0x1, Kind::Move),
-    ([0x2, 0xffff_ffff_ffff_fffc], -64, 0, Kind::Pass),
-    (C, 64, 0x81, Kind::Move),
-    ([0x80, 0xffff_ffff_ffff_7f7e], -48, 0x1, Kind::Move),
-    (A, -50, 0x80, Kind::Move),
-    ([0xffff_ffff_ffff_ff74, 8], 50, 0, Kind::Pass),
-    ([0x10, 0xffff_ffff_ffff_ff2e], -50, 0x1, Kind::Move),
-    (
-        [0x1000_0000_0000_0000, 0x2eff_ffff_ffff_ffff],
-        -50,
-        0x0100_0000_0000_0000,
-        Kind::Move,
-    ),
-    (B, 64, 0x0101, Kind::Move),
-    (CORNERS, 64, 0x8100_0000_0000_0081, Kind::Move),
-];
-
-#[test]
-fn all_crews_and_tables_give_the_worked_rows(rt: HostRuntime) -> Result<(), Fail> {
-    for (words, score, best, kind) in ROWS {
-        for (workers, cells) in [(1, 0), (2, 1), (7, 262_144), (16, 0)] {
-            let found = solved(&rt, rt.alloc(), words, workers, cells, Scoring::Winner);
-            assert!(rt; found == Some((score, best, kind)));
-        }
-    }
-    Ok(())
-}
-
-#[test]
-fn the_disc_difference_gives_other_best_moves(rt: HostRuntime) -> Result<(), Fail> {
-    let b = solved(&rt, rt.alloc(), B, 2, 64, Scoring::Discs);
-    assert!(rt; b == Some((64, 0x0100, Kind::Move)));
-    let a = solved(&rt, rt.alloc(), A, 2, 64, Scoring::Discs);
-    assert!(rt; a == Some((-49, 0x80, Kind::Move)));
-    Ok(())
-}
-
-#[test]
-fn refusals_come_in_order(rt: HostRuntime) -> Result<(), Fail> {
-    let (Ok(a), Ok(few)) = (Board::of(A[0], A[1]), Board::of(1, 2)) else {
-        panic!(rt; "no boards")
-    };
-    for (workers, cells, refusal) in [
-        (0, 0, SolveError::Workers),
-        (17, 0, SolveError::Workers),
-        (0, 3, SolveError::Workers),
-        (1, 3, SolveError::Cells),
-        (1, 524_288, SolveError::Cells),
-    ] {
-        let found = solve(
-            &rt,
-            rt.alloc(),
-            &a,
-            workers,
-            cells,
-            &Open,
-            None,
-            Scoring::Winner,
-        );
-        assert!(rt; found.err() == Some(refusal));
-    }
-    let found = solve(&rt, rt.alloc(), &few, 0, 3, &Open, None, Scoring::Winner);
-    assert!(rt; found.err() == Some(SolveError::TooManyEmpties(62)));
-    Ok(())
-}
-
-// Four bits for each item count how often it hears of it.
-#[derive(Drop)]
-struct Hearing {
-    before: AtomicU64,
-    after: AtomicU64,
-}
-
-fn count(calls: &AtomicU64, task: u32) {
-    if task < 12 {
-        calls.fetch_add(1 << (4 * task), Ordering::SeqCst);
-    }
-}
-
-impl Gate for Hearing {
-    fn before(&self, task: u32) {
-        count(&self.before, task);
-    }
-
-    fn after(&self, task: u32) {
-        count(&self.after, task);
-    }
-}
-
-#[test]
-fn the_gate_hears_each_item_once(rt: HostRuntime) -> Result<(), Fail> {
-    let Ok(board) = Board::of(CORNERS[0], CORNERS[1]) else {
-        panic!(rt; "no board")
-    };
-    let gate = Hearing {
-        before: AtomicU64::new(0),
-        after: AtomicU64::new(0),
-    };
-    let answer = solve(&rt, rt.alloc(), &board, 2, 0, &gate, None, Scoring::Winner);
-    assert!(rt; answer.is_ok());
-    assert!(rt; gate.before.load(Ordering::SeqCst) == 0x1111_1111_1111);
-    assert!(rt; gate.after.load(Ordering::SeqCst) == 0x1111_1111_1111);
-    Ok(())
-}
-
-// Each of the first two items waits a while for the other one.
-#[derive(Drop)]
-struct Meeting {
-    heard: [AtomicU64; 2],
-}
-
-impl Gate for Meeting {
-    fn before(&self, task: u32) {
-        if task < 2 {
-            self.heard[task as usize].store(1, Ordering::SeqCst);
-            for _ in 0..10_000_000 {
-                if self.heard[1 - task as usize].load(Ordering::SeqCst) != 0 {
-                    return;
-                }
-                thread::yield_now();
-            }
-            self.heard[task as usize].store(2, Ordering::SeqCst);
-        }
-    }
-
-    fn after(&self, _task: u32) {}
-}
-
-#[test]
-fn two_workers_work_at_once(rt: HostRuntime) -> Result<(), Fail> {
-    let Ok(board) = Board::of(C[0], C[1]) else {
-        panic!(rt; "no board")
-    };
-    for cells in [0, 64] {
-        let gate = Meeting {
-            heard: [AtomicU64::new(0), AtomicU64::new(0)],
-        };
-        let answer = solve(
-            &rt,
-            rt.alloc(),
-            &board,
-            2,
-            cells,
-            &gate,
-            None,
-            Scoring::Winner,
-        );
-        assert!(rt; answer.is_ok());
-        for heard in gate.heard.as_slice() {
-            assert!(rt; heard.load(Ordering::SeqCst) == 1);
-        }
-    }
-    Ok(())
 }
 
 // Whether the cells have an entry of the board.

@@ -1,6 +1,5 @@
 // Threads that search the items of a frontier.
-ghost use Rattle.std.specs.Prelude.{◌≡◌, ℕ, ◌<◌, length, slice_index_or, pos, negsuc, ◌≤ℤ◌};
-ghost use Rattle.oth_search.specs.Bound.{IsWindow};
+ghost use Rattle.std.specs.Prelude.{◌≡◌, ℕ, ◌<◌, length, slice_index_or};
 ghost use Rattle.oth_pool.specs.Watch.{IsSeatOf};
 ghost use Rattle.oth_pool.specs.Hands.{number_of};
 ghost use Rattle.oth_pool.specs.Working.{CanWork};
@@ -8,6 +7,7 @@ ghost use Rattle.oth_pool.specs.Working.{CanWork};
 use crate::floor::{Floor, FloorSeat};
 use crate::frontier::{Frontier, Item};
 use crate::gate::Gate;
+use crate::query::{Query, answered};
 use crate::reply::Reply;
 use crate::tasks::Tasks;
 use crate::work::{Job, Work};
@@ -19,6 +19,7 @@ use std::thread::Threads;
 // Lets each job search items until no number is left, in a thread of its own where one can be made.
 pub(crate) fn work_all<R: Threads + Sync, G: Gate, C: Cells + Send>(
     rt: &R,
+    query: &Query,
     frontier: &Frontier,
     tasks: &Tasks,
     floor: &Floor,
@@ -41,12 +42,23 @@ pub(crate) fn work_all<R: Threads + Sync, G: Gate, C: Cells + Send>(
             requires { CanWork frontier.now tasks.now floor.now job.old.work }
             ensures works { CanWork frontier.entry.now tasks.entry.now floor.entry.now job.new.work }
             ensures number { number_of job.new.work.hand ≡ number_of job.old.work.hand }
-        { search_all(frontier, tasks, floor, gate, &mut job.work, &mut job.cells) },
+        {
+            search_all(
+                query,
+                frontier,
+                tasks,
+                floor,
+                gate,
+                &mut job.work,
+                &mut job.cells,
+            )
+        },
     );
 }
 
 // Searches items until no number is left.
 fn search_all<G: Gate, C: Cells>(
+    query: &Query,
     frontier: &Frontier,
     tasks: &Tasks,
     floor: &Floor,
@@ -59,7 +71,7 @@ fn search_all<G: Gate, C: Cells>(
     ensures number { number_of work.new.hand ≡ number_of work.old.hand }
 {
     for _ in 0..u64::MAX {
-        if !search_next(frontier, tasks, floor, gate, work, cells) {
+        if !search_next(query, frontier, tasks, floor, gate, work, cells) {
             break;
         }
     }
@@ -67,6 +79,7 @@ fn search_all<G: Gate, C: Cells>(
 
 // Draws a number and searches its item. False where there is none.
 fn search_next<G: Gate, C: Cells>(
+    query: &Query,
     frontier: &Frontier,
     tasks: &Tasks,
     floor: &Floor,
@@ -87,13 +100,14 @@ fn search_next<G: Gate, C: Cells>(
     let Some(item) = frontier.entry(number) else {
         return false;
     };
-    let solved = search_item(&item, number, floor, &mut work.seat, gate, cells);
+    let solved = search_item(query, &item, number, floor, &mut work.seat, gate, cells);
     work.replies.push_reserved(Reply { number, solved });
     true
 }
 
-// Searches an item with a window at the floor, and raises the floor by what is found.
+// Searches an item as far as is asked, with a window at the floor, and raises the floor by what is found.
 pub(crate) fn search_item<G: Gate, C: Cells>(
+    query: &Query,
     item: &Item,
     number: u32,
     floor: &Floor,
@@ -107,53 +121,10 @@ pub(crate) fn search_item<G: Gate, C: Cells>(
 {
     gate.before(number);
     let least = floor.read(seat);
-    if is_refuted(item, floor, least, cells) {
-        gate.after(number);
-        return Solved::unknown(item.board, floor.scoring());
-    }
-    let (alpha, beta) = window(item.same_mover, asked(least));
-    let solved = Solved::by_search(&item.board, alpha, beta, cells, floor.scoring());
+    let solved = answered(query, item, &floor.board(), least, cells, floor.scoring());
     gate.after(number);
     share(item, floor, seat, &solved, cells);
     solved
-}
-
-// Whether the cells know that the root gets less than the floor by the item's root move, so that the item needs no search.
-fn is_refuted<C: Cells>(item: &Item, floor: &Floor, least: i8, cells: &mut C) -> bool
-    requires low { negsuc 63 ≤ℤ least }
-    requires high { least ≤ℤ pos 64 }
-{
-    let Some(child) = floor.board().play(item.square) else {
-        return false;
-    };
-    let (board, _) = child.canonical();
-    match cells.look(&board, floor.scoring()) {
-        Some(entry) => entry.interval().lower > -least,
-        None => false,
-    }
-}
-
-// The least score that an item is asked for: the floor, or one more where every score reaches the floor.
-fn asked(floor: i8) -> i8
-    requires low { negsuc 63 ≤ℤ floor }
-    requires high { floor ≤ℤ pos 64 }
-    ensures low { negsuc 62 ≤ℤ result }
-    ensures high { result ≤ℤ pos 64 }
-{
-    if floor == -64 { -63 } else { floor }
-}
-
-// The window that tells whether the root gets less than so much by this item.
-fn window(same_mover: bool, least: i8) -> (i8, i8)
-    requires low { negsuc 63 ≤ℤ least }
-    requires high { least ≤ℤ pos 64 }
-    ensures { IsWindow result.0 result.1 }
-{
-    if same_mover {
-        (least - 1, least)
-    } else {
-        (-least, 1 - least)
-    }
 }
 
 // What the solved board, the child itself or one ply below it, alone tells of the child.

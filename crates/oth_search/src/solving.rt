@@ -143,6 +143,29 @@ fn reply_below<C: Cells>(
     at_most(board, limit, cells, scoring)
 }
 
+impl Solved {
+    /// The board with its value where that is at most the limit, and else with a lower bound above the limit.
+    pub fn at_most<C: Cells>(
+        board: &Board,
+        limit: i8,
+        cells: &mut C,
+        scoring: Scoring,
+    ) -> Solved
+        requires { IsScore limit }
+        ensures board { result.board ≡ board.now }
+        ensures scoring { result.scoring ≡ scoring }
+        ensures decides { Decides result.interval.lower result.interval.upper (negsuc 64) (limit +ℤ pos 1) }
+        ensures fixed { C.fixed cells.new ≡ C.fixed cells.old }
+    {
+        let interval = at_most(board, limit, cells, scoring);
+        Solved {
+            board: *board,
+            scoring,
+            interval,
+        }
+    }
+}
+
 /// The value of a board, or a lower bound of it above the limit: at most two probes, and a search only where it is below.
 fn at_most<C: Cells>(board: &Board, limit: i8, cells: &mut C, scoring: Scoring) -> Interval
     requires { IsScore limit }

@@ -1,0 +1,49 @@
+//! Want of memory. Each of these tests holds whichever one of its requests for memory is refused; `bench/refusals.py` runs each of
+//! them once for each request, thread starts among them.
+
+use super::books::{BOOK_OF_A, BOOK_OF_TWO, EMPTY_BOOK, TWO_LINES as NEW_LINES, add};
+use super::devices::{SOLVED_TWO, TWO_LINES};
+use super::{NO_FAILURE, by_two_workers, walk};
+use crate::book_commands::book_verify;
+use oth_rules::Scoring;
+use oth_text::fakes::ByteSink;
+
+#[test]
+fn a_run_writes_the_same_report(rt: HostRuntime) {
+    let asked = by_two_workers(Scoring::Winner);
+    let done = walk(&rt, &asked, TWO_LINES, NO_FAILURE, NO_FAILURE);
+    assert!(rt; done.result == Ok(()));
+    assert!(rt; done.writer.taken() == SOLVED_TWO);
+}
+
+// What is told where no book can be made.
+const WANTING: [&[u8]; 2] = [b"book error 7\n", b"book wrong 4\n"];
+
+#[test]
+fn a_file_is_verified_or_memory_is_wanting(rt: HostRuntime) {
+    let mut writer = ByteSink::<64>::new(NO_FAILURE);
+    let mut errors = ByteSink::<64>::new(NO_FAILURE);
+    let status = book_verify(rt.alloc(), BOOK_OF_A, &mut writer, &mut errors);
+    if status == 0 {
+        assert!(rt; writer.taken() == b"book ok 1\n".as_slice() && errors.taken().is_empty());
+        return;
+    }
+    assert!(rt; status == 3 && writer.taken().is_empty());
+    assert!(rt; WANTING.contains(&errors.taken()));
+}
+
+// Where the addition of a line is refused, the line is told.
+const REFUSED: [&[u8]; 2] = [b"line 1: book error 1\n", b"line 2: book error 1\n"];
+
+#[test]
+fn an_addition_writes_the_whole_book_or_none(rt: HostRuntime) {
+    let asked = by_two_workers(Scoring::Winner);
+    let done = add(&rt, EMPTY_BOOK, NEW_LINES, NO_FAILURE, NO_FAILURE, &asked);
+    if done.status == 0 {
+        assert!(rt; done.writer.taken() == BOOK_OF_TWO && done.errors.taken().is_empty());
+        return;
+    }
+    let told = done.errors.taken();
+    assert!(rt; done.status == 3 && done.writer.taken().is_empty());
+    assert!(rt; WANTING.contains(&told) || REFUSED.contains(&told));
+}
