@@ -18,6 +18,7 @@ pub use root::Root;
 use rule::{Children, Learning, Looking, Messengers, Naming, Raising, Tellings, TheFloor};
 use std::alloc::{AllocError, Global};
 use std::marker::Model;
+use thiserror::Error;
 pub use view::View;
 
 const OWN: usize = 0;
@@ -91,11 +92,13 @@ fn height_of(number: i8) -> u64
 }
 
 /// There was no memory.
-#[derive(Debug, Drop)]
+#[derive(Debug, Drop, Error)]
+#[error("there is no memory for the floor or the seat")]
 pub struct FloorError;
 
 /// The solved board isn't the floor's root, or it was solved by the other scoring.
-#[derive(Debug, Drop)]
+#[derive(Debug, Drop, Error)]
+#[error("the solved board is not the floor's root, or it was solved by the other scoring")]
 pub struct Stranger;
 
 impl Floor {

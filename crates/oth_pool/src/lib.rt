@@ -6,6 +6,7 @@ mod collector;
 pub mod floor;
 mod frontier;
 mod gate;
+mod pursuit;
 mod query;
 mod reply;
 pub mod run;

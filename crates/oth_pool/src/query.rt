@@ -1,10 +1,11 @@
 // What workers are asked of the boards below a root.
-ghost use Rattle.std.specs.Prelude.{◌≡◌, ◌<◌, pos, negsuc, ◌≤ℤ◌};
+ghost use Rattle.std.specs.Prelude.{◌≡◌, IfSome, pos, negsuc, ◌≤ℤ◌};
 ghost use Rattle.oth_search.specs.Bound.{IsWindow};
 
 use crate::frontier::Item;
 use oth_rules::{Board, Scoring};
 use oth_search::{Cells, Solved, known_of};
+use std::alloc::Global;
 
 /// How much is asked of a board.
 #[derive(Clone, Copy)]
@@ -17,9 +18,26 @@ pub enum Aim {
     Value,
 }
 
+impl Aim {
+    /// The least score that is asked for at this floor; none where no score is.
+    pub fn wanted(self, least: i8) -> Option<i8>
+        requires low { negsuc 63 ≤ℤ least }
+        requires high { least ≤ℤ pos 64 }
+        ensures low { IfSome result (λ w. negsuc 63 ≤ℤ w) }
+        ensures high { IfSome result (λ w. w ≤ℤ pos 64) }
+    {
+        match self {
+            Aim::Value if least == 64 => None,
+            Aim::Value => Some(least + 1),
+            _ => Some(least),
+        }
+    }
+}
+
 /// What is asked, and what is known beforehand of the boards after the root's moves.
 #[derive(Clone, Copy)]
 pub struct Query<'k> {
+    pub alloc: Global,
     pub aim: Aim,
     pub known: &'k [Solved],
 }
@@ -45,7 +63,7 @@ pub(crate) fn answered<C: Cells>(
 }
 
 // Whether enough is known of the board after the root's move, so that the item needs no search.
-fn is_settled<C: Cells>(
+pub(crate) fn is_settled<C: Cells>(
     query: &Query,
     item: &Item,
     root: &Board,
@@ -64,7 +82,7 @@ fn is_settled<C: Cells>(
 }
 
 // Whether the value of the board after a root's move is known, or that the root gets less than so much by it.
-fn is_decided(child: &Solved, least: i8) -> bool
+pub(crate) fn is_decided(child: &Solved, least: i8) -> bool
     requires low { negsuc 63 ≤ℤ least }
     requires high { least ≤ℤ pos 64 }
 {
@@ -72,7 +90,7 @@ fn is_decided(child: &Solved, least: i8) -> bool
 }
 
 // What the cells tell of the board's canonical image.
-fn looked_up<C: Cells>(board: Board, cells: &mut C, scoring: Scoring) -> Solved {
+pub(crate) fn looked_up<C: Cells>(board: Board, cells: &mut C, scoring: Scoring) -> Solved {
     let (image, _) = board.canonical();
     match cells.look(&image, scoring) {
         Some(entry) => entry.solved(),
@@ -90,13 +108,10 @@ fn ask<C: Cells>(aim: Aim, item: &Item, least: i8, cells: &mut C, scoring: Scori
             let (alpha, beta) = window(item.same_mover, asked(least));
             Solved::by_search(&item.board, alpha, beta, cells, scoring)
         }
-        Aim::Best => value_from(item, least, cells, scoring),
-        Aim::Value => {
-            if least == 64 {
-                return Solved::unknown(item.board, scoring);
-            }
-            value_from(item, least + 1, cells, scoring)
-        }
+        _ => match aim.wanted(least) {
+            Some(wanted) => value_from(item, wanted, cells, scoring),
+            None => Solved::unknown(item.board, scoring),
+        },
     }
 }
 

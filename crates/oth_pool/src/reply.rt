@@ -1,4 +1,5 @@
 use oth_search::Solved;
+use thiserror::Error;
 
 /// An item's number, and bounds of its board.
 #[derive(Clone, Copy)]
@@ -8,14 +9,18 @@ pub struct Reply {
 }
 
 /// Why a reply isn't taken: the first of these that holds.
-#[derive(Clone, Copy, PartialEq, Eq, Debug)]
+#[derive(Clone, Copy, PartialEq, Eq, Debug, Error)]
 pub enum Refusal {
     /// There is no item of this number.
+    #[error("there is no item of this number")]
     Stranger,
     /// The item has a reply.
+    #[error("the item has a reply")]
     Double,
     /// The board isn't the item's.
+    #[error("the solved board is not the item's")]
     OtherBoard,
     /// The board was solved by the other scoring.
+    #[error("the board was solved by the other scoring")]
     OtherScoring,
 }

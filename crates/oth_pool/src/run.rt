@@ -44,6 +44,7 @@ pub fn run_workers<'t, R: Threads + Sync, G: Gate>(
     ensures gathered { AreGathered frontier.now result }
 {
     let query = Query {
+        alloc,
         aim: Aim::Refute,
         known: &[],
     };

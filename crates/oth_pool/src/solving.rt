@@ -24,18 +24,22 @@ use oth_search::{
 use oth_table::SharedTable;
 use std::alloc::Global;
 use std::thread::Threads;
+use thiserror::Error;
 
 // The fewest empty squares of a board whose moves are split among the workers.
 const LEAST_SPLIT: u8 = 13;
 
 /// Why a board isn't solved: the first of these that holds.
-#[derive(Clone, Copy, PartialEq, Eq, Debug)]
+#[derive(Clone, Copy, PartialEq, Eq, Debug, Error)]
 pub enum SolveError {
     /// Refusal 1: so many squares are empty, more than 30.
+    #[error("the board has {0} empty squares, and at most 30 are solved")]
     TooManyEmpties(u8),
     /// Refusal 2: the workers aren't 1 to 16.
+    #[error("there can be 1 to 16 workers")]
     Workers,
     /// Refusal 3: the cells are neither 0 nor one of 1, 2, 4 .. 262,144.
+    #[error("a table has 0 cells, or a power of two of at most 262144")]
     Cells,
 }
 
@@ -135,10 +139,10 @@ fn answer_moves<R: Threads + Sync, G: Gate>(
     }
 }
 
-// So many of the cells as a search of so many empty squares can use: it takes time to make a table.
+// So many of the cells as a search of so many empty squares can use, since it takes time to make a table.
 fn useful(cells: u32, empties: u8) -> u32 {
     match empties {
-        0..=9 => 0,
+        0..=9 => cells.min(1 << 6),
         10..=12 => cells.min(1 << 10),
         13..=14 => cells.min(1 << 13),
         _ => cells,
@@ -163,6 +167,7 @@ fn answer_over<'t, R: Threads + Sync, G: Gate>(
     let mut cells = WorkerCells::of(alloc, access);
     let known = known_moves(rt, alloc, told, workers, access, &mut cells);
     let query = Query {
+        alloc,
         aim: Aim::Refute,
         known: known.as_slice(),
     };
@@ -305,6 +310,7 @@ fn split<'t, R: Threads + Sync, C: Cells>(
     requires { IsCrew workers }
 {
     let query = Query {
+        alloc,
         aim,
         known: &[*first],
     };

@@ -19,12 +19,14 @@ pub use share::Share;
 pub use state::{Drawn, Hand, Tasks};
 use state::{Owner, Parts, Thief, Token};
 use std::alloc::{AllocError, Global};
+use thiserror::Error;
 
 // How often a steal that must be tried again is tried.
 const TRIES: u32 = 64;
 
 /// There was no memory.
-#[derive(Debug, Drop)]
+#[derive(Debug, Drop, Error)]
+#[error("there is no memory for the tasks")]
 pub struct TasksError;
 
 impl From<AllocError> for TasksError {

@@ -7,7 +7,8 @@ ghost use Rattle.oth_pool.specs.Working.{CanWork};
 use crate::floor::{Floor, FloorSeat};
 use crate::frontier::{Frontier, Item};
 use crate::gate::Gate;
-use crate::query::{Query, answered};
+use crate::pursuit::{FEWEST_EMPTIES, pursued};
+use crate::query::{Aim, Query, answered, is_settled};
 use crate::reply::Reply;
 use crate::tasks::Tasks;
 use crate::work::{Job, Work};
@@ -121,10 +122,25 @@ pub(crate) fn search_item<G: Gate, C: Cells>(
 {
     gate.before(number);
     let least = floor.read(seat);
-    let solved = answered(query, item, &floor.board(), least, cells, floor.scoring());
+    let solved = if is_long(query, item)
+        && !is_settled(query, item, &floor.board(), least, cells, floor.scoring())
+    {
+        pursued(query, item, floor, seat, cells)
+    } else {
+        answered(query, item, &floor.board(), least, cells, floor.scoring())
+    };
     gate.after(number);
     share(item, floor, seat, &solved, cells);
     solved
+}
+
+// Whether the search of the item is given up and begun anew where the floor rises.
+fn is_long(query: &Query, item: &Item) -> bool {
+    let refutes = match query.aim {
+        Aim::Refute => true,
+        _ => false,
+    };
+    !refutes && !item.same_mover && item.board.empties() >= FEWEST_EMPTIES
 }
 
 // What the solved board, the child itself or one ply below it, alone tells of the child.
@@ -138,7 +154,13 @@ fn child_by(child: Board, solved: &Solved) -> Solved {
 
 // Tells the others what the solved board, two plies below at most, alone tells: of the board after the root's move by the cells,
 // and of the root by the floor.
-fn share<C: Cells>(item: &Item, floor: &Floor, seat: &mut FloorSeat, solved: &Solved, cells: &mut C)
+pub(crate) fn share<C: Cells>(
+    item: &Item,
+    floor: &Floor,
+    seat: &mut FloorSeat,
+    solved: &Solved,
+    cells: &mut C,
+)
     requires { IsSeatOf floor.now seat.old }
     ensures { IsSeatOf floor.now seat.new }
 {

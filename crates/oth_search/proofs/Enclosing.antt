@@ -1,5 +1,5 @@
 -- Lemmas on bounds that enclose a value.
-use Rattle.std.proofs.Common.{true, false, ◌≡◌, ℕ, subst, arith}
+use Rattle.std.proofs.Common.{true, false, ◌≡◌, ℕ, subst, arith, ◌⊎◌, inl, inr}
 use Rattle.std.specs.Prelude.{unsigned_abs, ◌-ℤ◌, ◌+ℤ◌, ◌<◌, ℤ, pos, negsuc, neg_ℤ, ◌≤ℤ◌, ◌<ℤ◌}
 use Rattle.std.proofs.lemmas.Int.{ints, by_lt_z}
 use Rattle.oth_rules.specs.declared.scoring.Scoring.{Scoring}
@@ -135,3 +135,22 @@ MovesLoop-end g p left lower upper m none some = record { below = m.reached; abo
 
 pub same_scoring : (g f : Scoring) (p : Position) (lower upper : ℤ) → f ≡ g → Encloses lower upper (value (score_of f) p) → Encloses lower upper (value (score_of g) p)
 same_scoring g f p lower upper e h = rw e at h
+
+-- ---- what two tell of one board
+
+-- the same board by the same scoring
+pub Encloses-same : (g f : Scoring) (p q : Position) (lower upper : ℤ) → q ≡ p → f ≡ g → Encloses lower upper (value (score_of f) q) → Encloses lower upper (value (score_of g) p)
+Encloses-same g f p q lower upper e k h = rw (e, k) at h
+
+pub record AreJoined (v lower upper : ℤ) : Type 0 where
+  pub interval : IsInterval lower upper
+  pub encloses : Encloses lower upper v
+
+pub joined-both : (v a b c d a' b' c' d' x y lower upper : ℤ) → IsInterval a b → Encloses a b v → Encloses c d v → a' ≡ a → b' ≡ b → c' ≡ c → d' ≡ d → (x ≡ a') ⊎ (x ≡ c') → a' ≤ℤ x → (y ≡ b') ⊎ (y ≡ d') → y ≤ℤ b' → lower ≡ x → upper ≡ y → AreJoined v lower upper
+joined-both v a b c d a' b' c' d' x y lower upper i one two ea eb ec ed l al u ub el eu =
+    let below : lower ≤ℤ v = elim l [ inl e ↦ omega (arith, ints, e, ea, el, one.below) | inr e ↦ omega (arith, ints, e, ec, el, two.below) ] in
+    let above : v ≤ℤ upper = elim u [ inl e ↦ omega (arith, ints, e, eb, eu, one.above) | inr e ↦ omega (arith, ints, e, ed, eu, two.above) ] in
+    record {
+      interval = record { low = omega (arith, ints, i.low, al, ea, el); ordered = omega (arith, ints, below, above); high = omega (arith, ints, i.high, ub, eb, eu) };
+      encloses = record { below = below; above = above };
+    }

@@ -5,6 +5,7 @@ ghost use Rattle.oth_rules.specs.Value.{value};
 ghost use Rattle.oth_rules.specs.Symmetry.{canonical, IsCanonical};
 ghost use Rattle.oth_search.specs.Bound.{IsWider, IsInterval, Encloses, Decides, IsOpen, BoundsAt};
 
+use crate::searching::{greater, lesser};
 use oth_rules::{Board, Scoring};
 
 /// A lower and an upper bound of a score, `-64 <= lower <= upper <= 64`.
@@ -138,6 +139,23 @@ impl Solved {
         } else {
             Solved::between(self.board, self.scoring, self.interval.lower, found)
         }
+    }
+
+    /// What both tell of the board: the greater lower bound and the lesser upper one. Of another board or by the other scoring the
+    /// other tells nothing.
+    pub fn joined(&self, other: &Solved) -> Solved
+        ensures board { result.board ≡ self.now.board }
+        ensures scoring { result.scoring ≡ self.now.scoring }
+        ensures lower { self.now.interval.lower ≤ℤ result.interval.lower }
+        ensures upper { result.interval.upper ≤ℤ self.now.interval.upper }
+        ensures both { other.now.board ≡ self.now.board → other.now.scoring ≡ self.now.scoring → (other.now.interval.lower ≤ℤ result.interval.lower) × (result.interval.upper ≤ℤ other.now.interval.upper) }
+    {
+        if other.board != self.board || other.scoring != self.scoring {
+            return *self;
+        }
+        let lower = greater(self.interval.lower, other.interval.lower);
+        let upper = lesser(self.interval.upper, other.interval.upper);
+        Solved::between(self.board, self.scoring, lower, upper)
     }
 
     /// A board with these bounds of its value.

@@ -112,7 +112,8 @@ pub fn greater(a: i8, b: i8) -> i8
     if a > b { a } else { b }
 }
 
-fn lesser(a: i8, b: i8) -> i8
+/// The lesser of two scores.
+pub fn lesser(a: i8, b: i8) -> i8
     ensures left { result ≤ℤ a }
     ensures right { result ≤ℤ b }
     ensures one { (result ≡ a) ⊎ (result ≡ b) }
