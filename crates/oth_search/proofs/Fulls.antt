@@ -1,5 +1,5 @@
 -- An answer is true by its type, so it is that of full minimax.
-use Rattle.std.proofs.Common.{◌≡◌, sym, subst}
+use Rattle.std.proofs.Common.{◌≡◌, subst}
 use Rattle.oth_rules.specs.declared.scoring.Scoring.{Scoring}
 use Rattle.oth_rules.specs.Square.{word_of}
 use Rattle.oth_rules.specs.Position.{Position}

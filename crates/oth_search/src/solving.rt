@@ -145,12 +145,7 @@ fn reply_below<C: Cells>(
 
 impl Solved {
     /// The board with its value where that is at most the limit, and else with a lower bound above the limit.
-    pub fn at_most<C: Cells>(
-        board: &Board,
-        limit: i8,
-        cells: &mut C,
-        scoring: Scoring,
-    ) -> Solved
+    pub fn at_most<C: Cells>(board: &Board, limit: i8, cells: &mut C, scoring: Scoring) -> Solved
         requires { IsScore limit }
         ensures board { result.board ≡ board.now }
         ensures scoring { result.scoring ≡ scoring }

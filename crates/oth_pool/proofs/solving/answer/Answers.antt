@@ -1,6 +1,5 @@
-use Rattle.std.proofs.Common.{◌≡◌, ℕ, ap, refl, sym, ◌∙◌, arith, true, false}
-use Rattle.oth_rules.specs.Position.{Position, pass, empty_count}
-use Rattle.oth_rules.specs.Move.{can_move}
+use Rattle.std.proofs.Common.{ap, refl, sym, ◌∙◌, arith}
+use Rattle.oth_rules.specs.Position.{pass, empty_count}
 use Rattle.oth_rules.proofs.SearchLaws.{is_over-false, empty_count-pass}
 use Rattle.oth_search.proofs.Replies.{can_move-from_moves, can_move-from_none, can_move-after_pass}
 use Rattle.oth_pool.proofs.solving.answer.Goals as goal

@@ -2,8 +2,7 @@ use Rattle.std.proofs.Common.{◌≡◌, arith, rules}
 use Rattle.std.proofs.lemmas.Int.{ints}
 use Rattle.oth_rules.specs.Score.{score_of}
 use Rattle.oth_rules.specs.Value.{value}
-use Rattle.oth_search.specs.Bound.{Encloses}
-use Rattle.oth_search.proofs.Enclosing.{AreJoined, Encloses-same, joined-both}
+use Rattle.oth_search.proofs.Enclosing.{Encloses-same, joined-both}
 use Rattle.oth_search.proofs.bounds.Solved.joined.Goals as goal
 
 pub between-requires-clause-bounds : goal.between-requires-clause-bounds
