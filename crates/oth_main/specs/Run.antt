@@ -68,3 +68,10 @@ number_of Read = 1
 number_of Write = 2
 number_of Workers = 3
 number_of Cells = 4
+
+-- the status of the program after it
+abbrev pub status_of : RunFault → ℕ
+status_of Read = 1
+status_of Write = 1
+status_of Workers = 2
+status_of Cells = 2

@@ -1,6 +1,10 @@
 //! The commands of the book.
 
-ghost use Rattle.oth_main.specs.Run.{AreLawful};
+ghost use Rattle.std.specs.Prelude.{◌≡◌, ◌↔◌, ◌⊎◌, false, true, IfErr, OnErr, OnOk};
+ghost use Rattle.oth_main.specs.BookFile.{IsAdded, IsBook, IsOfALine, IsVerdict, StopsBy, WritesBook};
+ghost use Rattle.oth_main.specs.Run.{AreLawful, status_of};
+ghost use Rattle.oth_main.specs.declared.book_commands.Stop.TheVariants.{Run};
+ghost use Rattle.oth_main.specs.declared.fault.RunFault.TheVariants.{Write};
 
 use crate::book_file::{REFUSED, open_book, print_refusal};
 use crate::checking::check_settings;
@@ -36,7 +40,10 @@ pub fn book_verify<W: Sink, E: Sink>(
     file: &[u8],
     writer: &mut W,
     errors: &mut E,
-) -> u8 {
+) -> u8
+    ensures verdict { IsVerdict file.now result (W.failed writer.new) }
+    ensures works { result ≡ 0 → W.failed writer.new ≡ W.failed writer.old }
+{
     match open_book(alloc, file) {
         Ok(book) => {
             let ok = Message::of(b"book ok ").number(book.len() as u64);
@@ -65,7 +72,13 @@ pub fn book_add<T: Wait + Threads + Sync, R: Source, W: Sink, E: Sink>(
     writer: &mut W,
     errors: &mut E,
     settings: &Settings,
-) -> u8 {
+) -> u8
+    ensures lawful { result ≡ 2 ↔ (AreLawful settings.now → ⊥) }
+    ensures untouched { result ≡ 2 → writer.new ≡ writer.old }
+    ensures added { (result ≡ 2) ⊎ IsAdded result (R.failed reader.new) (W.failed writer.new)
+        (IsBook file.now × WritesBook (W.contents writer.old) (W.contents writer.new)) (writer.new ≡ writer.old) }
+    ensures works { result ≡ 0 → W.failed writer.new ≡ false }
+{
     if let Err(fault) = check_settings(settings) {
         return print_run_fault(fault, errors);
     }
@@ -79,7 +92,9 @@ pub fn book_add<T: Wait + Threads + Sync, R: Source, W: Sink, E: Sink>(
 }
 
 /// Prints the number of the fault, and gives the status of the program.
-pub fn print_run_fault<E: Sink>(fault: RunFault, errors: &mut E) -> u8 {
+pub fn print_run_fault<E: Sink>(fault: RunFault, errors: &mut E) -> u8
+    ensures { result ≡ status_of fault }
+{
     Message::of(b"run error ")
         .number(u64::from(fault.number()))
         .print(errors);
@@ -100,6 +115,9 @@ fn add_lines<T: Wait + Threads + Sync, R: Source, W: Sink, E: Sink>(
     settings: &Settings,
 ) -> u8
     requires { AreLawful settings.now }
+    ensures added { IsAdded result (R.failed reader.new) (W.failed writer.new)
+        (WritesBook (W.contents writer.old) (W.contents writer.new)) (writer.new ≡ writer.old) }
+    ensures works { result ≡ 0 → W.failed writer.new ≡ false }
 {
     let mut addition = Addition {
         book,
@@ -140,6 +158,9 @@ impl Addition {
         settings: &Settings,
     ) -> Result<(), Stop>
         requires { AreLawful settings.now }
+        ensures ok { OnOk result (WritesBook (W.contents writer.old) (W.contents writer.new)) }
+        ensures works { OnOk result (W.failed writer.new ≡ false) }
+        ensures err { IfErr result (λ stop. StopsBy stop (R.failed reader.new) (W.failed writer.new) (writer.new ≡ writer.old)) }
     {
         let mut buffer = [0u8; BUFFER_LEN];
         for _ in rt.forever() {
@@ -167,6 +188,7 @@ impl Addition {
         settings: &Settings,
     ) -> Result<(), Stop>
         requires { AreLawful settings.now }
+        ensures { IfErr result IsOfALine }
     {
         for byte in bytes {
             if *byte == b'\n' {
@@ -187,6 +209,7 @@ impl Addition {
         settings: &Settings,
     ) -> Result<(), Stop>
         requires { AreLawful settings.now }
+        ensures { IfErr result IsOfALine }
     {
         match self.answer(rt, alloc, settings) {
             Ok(answer) => self.add(&answer)?,
@@ -227,7 +250,9 @@ impl Addition {
         }
     }
 
-    fn add(&mut self, answer: &Answer) -> Result<(), Stop> {
+    fn add(&mut self, answer: &Answer) -> Result<(), Stop>
+        ensures { IfErr result IsOfALine }
+    {
         if answer.board.empties() > 30 {
             return Err(Stop::Refused(self.number, AddError::Empties));
         }
@@ -238,7 +263,12 @@ impl Addition {
     }
 
     // Writes the book. A writer that failed before is not called.
-    fn write_to<W: Sink>(&self, writer: &mut W) -> Result<(), Stop> {
+    fn write_to<W: Sink>(&self, writer: &mut W) -> Result<(), Stop>
+        ensures ok { OnOk result (WritesBook (W.contents writer.old) (W.contents writer.new)) }
+        ensures works { OnOk result (W.failed writer.new ≡ false) }
+        ensures err { IfErr result (λ stop. stop ≡ Run Write) }
+        ensures fails { OnErr result (W.failed writer.new ≡ true) }
+    {
         if writer.failed() {
             return Err(Stop::Run(RunFault::Write));
         }

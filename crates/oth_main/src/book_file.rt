@@ -1,6 +1,7 @@
 //! The book of a file, or why there is none.
 
 ghost use Rattle.std.specs.Prelude.{IfOk, IfErr};
+ghost use Rattle.oth_book.specs.Book.{IsTrueBook};
 ghost use Rattle.oth_book.specs.Contents.{IsText};
 ghost use Rattle.oth_main.specs.BookFile.{IsRefusal};
 
@@ -27,6 +28,7 @@ pub enum BookRefusal {
 /// The book of a file's bytes, each entry solved anew.
 pub fn open_book(alloc: Global, file: &[u8]) -> Result<Book, BookRefusal>
     ensures text { IfOk result (λ book. IsText book file.now) }
+    ensures holds { IfOk result (λ book. IsTrueBook book) }
     ensures refused { IfErr result (λ why. IsRefusal file.now why) }
 {
     let claims = match read_claims(alloc, file) {

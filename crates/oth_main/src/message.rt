@@ -1,5 +1,7 @@
 //! The lines that a command of the book prints.
 
+ghost use Rattle.std.specs.Prelude.{◌≡◌, true, IsTrue, IsFalse};
+
 use arrayvec::ArrayVec;
 use itoa::Buffer;
 use oth_text::{Sink, write_all};
@@ -41,7 +43,10 @@ impl Message {
     }
 
     /// Writes the line with byte 10. Whether that was done.
-    pub fn write_to<W: Sink>(mut self, writer: &mut W) -> bool {
+    pub fn write_to<W: Sink>(mut self, writer: &mut W) -> bool
+        ensures works { IsTrue result → W.failed writer.new ≡ W.failed writer.old }
+        ensures fails { IsFalse result → W.failed writer.new ≡ true }
+    {
         self.push_text(b"\n");
         write_all(writer, self.bytes.as_slice()).is_ok()
     }
