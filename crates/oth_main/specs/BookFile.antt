@@ -44,9 +44,9 @@ StopsBy (Run Cells) reader writer Untouched = ⊥
 StopsBy (Refused line why) reader writer Untouched = Untouched
 
 -- the answer of a line isn't taken
-abbrev pub IsOfALine : Stop → Type 0
-IsOfALine (Run fault) = ⊥
-IsOfALine (Refused line why) = ⊤
+abbrev pub IsRefusedLine : Stop → Type 0
+IsRefusedLine (Run fault) = ⊥
+IsRefusedLine (Refused line why) = ⊤
 
 -- the status: 0 where this was done, 1 where a device has failed, 3 where an answer isn't taken or the file is refused
 abbrev pub IsAdded : ℕ → Bool → Bool → Type 0 → Type 0 → Type 0

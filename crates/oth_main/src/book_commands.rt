@@ -1,7 +1,7 @@
 //! The commands of the book.
 
 ghost use Rattle.std.specs.Prelude.{◌≡◌, ◌↔◌, ◌⊎◌, false, true, IfErr, OnErr, OnOk};
-ghost use Rattle.oth_main.specs.BookFile.{IsAdded, IsBook, IsOfALine, IsVerdict, StopsBy, WritesBook};
+ghost use Rattle.oth_main.specs.BookFile.{IsAdded, IsBook, IsRefusedLine, IsVerdict, StopsBy, WritesBook};
 ghost use Rattle.oth_main.specs.Run.{AreLawful, status_of};
 ghost use Rattle.oth_main.specs.declared.book_commands.Stop.TheVariants.{Run};
 ghost use Rattle.oth_main.specs.declared.fault.RunFault.TheVariants.{Write};
@@ -42,12 +42,12 @@ pub fn book_verify<W: Sink, E: Sink>(
     errors: &mut E,
 ) -> u8
     ensures verdict { IsVerdict file.now result (W.failed writer.new) }
-    ensures works { result ≡ 0 → W.failed writer.new ≡ W.failed writer.old }
+    ensures works { result ≡ 0 → W.failed writer.new ≡ false }
 {
     match open_book(alloc, file) {
         Ok(book) => {
             let ok = Message::of(b"book ok ").number(book.len() as u64);
-            if ok.write_to(writer) && writer.flush().is_ok() {
+            if !writer.failed() && ok.write_to(writer) && writer.flush().is_ok() {
                 DONE
             } else {
                 print_run_fault(RunFault::Write, errors)
@@ -188,7 +188,7 @@ impl Addition {
         settings: &Settings,
     ) -> Result<(), Stop>
         requires { AreLawful settings.now }
-        ensures { IfErr result IsOfALine }
+        ensures { IfErr result IsRefusedLine }
     {
         for byte in bytes {
             if *byte == b'\n' {
@@ -209,7 +209,7 @@ impl Addition {
         settings: &Settings,
     ) -> Result<(), Stop>
         requires { AreLawful settings.now }
-        ensures { IfErr result IsOfALine }
+        ensures { IfErr result IsRefusedLine }
     {
         match self.answer(rt, alloc, settings) {
             Ok(answer) => self.add(&answer)?,
@@ -251,7 +251,7 @@ impl Addition {
     }
 
     fn add(&mut self, answer: &Answer) -> Result<(), Stop>
-        ensures { IfErr result IsOfALine }
+        ensures { IfErr result IsRefusedLine }
     {
         if answer.board.empties() > 30 {
             return Err(Stop::Refused(self.number, AddError::Empties));

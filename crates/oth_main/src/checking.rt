@@ -1,6 +1,6 @@
 //! The tests of the settings.
 
-ghost use Rattle.std.specs.Prelude.{◌↔◌, IsOk, OnOk};
+ghost use Rattle.std.specs.Prelude.{◌↔◌, IsOk};
 ghost use Rattle.oth_main.specs.Run.{AreLawful, RefusesBy};
 
 use crate::fault::RunFault;
@@ -9,7 +9,6 @@ use oth_words::Settings;
 
 /// Whether the numbers of workers and of cells are lawful: else the fault with which `run` refuses them.
 pub fn check_settings(settings: &Settings) -> Result<(), RunFault>
-    ensures ok { OnOk result (AreLawful settings.now) }
     ensures lawful { IsOk result ↔ AreLawful settings.now }
     ensures refused { RefusesBy settings.now.workers settings.now.cells result }
 {

@@ -74,7 +74,7 @@ pub fn look_ahead(board: Board, plies: u8, enough: Outlook) -> Outlook {
     if passed.moves() != 0 {
         return look_ahead(passed, plies - 1, Outlook::BEST).turned();
     }
-    ended(&board)
+    by_discs(&board)
 }
 
 /// The same, where the mover has these moves.
@@ -98,7 +98,7 @@ fn look_past_moves(board: &Board, moves: u64, plies: u8, enough: Outlook) -> Out
 }
 
 /// By the discs, when the game is over.
-fn ended(board: &Board) -> Outlook {
+fn by_discs(board: &Board) -> Outlook {
     Outlook {
         points: DISC * (count(board.own()) as i16 - count(board.opp()) as i16),
     }
