@@ -9,7 +9,6 @@ mod item;
 use arrayvec::ArrayVec;
 pub use item::Item;
 use oth_rules::{Board, Square};
-use oth_search::order;
 use std::marker::Model;
 
 /// The most boards of a frontier.
@@ -50,23 +49,6 @@ impl Frontier {
                 items: second_ply(&items),
             }
         }
-    }
-
-    // The boards after the board's moves, after a forced pass where there is one, in the order of the search.
-    pub(crate) fn ranked(board: &Board) -> Frontier {
-        let mut items = ArrayVec::new();
-        let squares = order(board);
-        for square in squares.as_slice() {
-            let from = Item {
-                board: *board,
-                square: *square,
-                same_mover: true,
-            };
-            if let Some(after) = board.play(*square) {
-                let _ = items.try_push(item_after(&from, after));
-            }
-        }
-        Frontier { items }
     }
 
     /// How many items there are, at most 870.
@@ -110,7 +92,8 @@ fn awake(board: Board) -> (Board, bool)
     }
 }
 
-fn can_move(board: &Board) -> bool
+/// Whether the mover has a move.
+pub(crate) fn can_move(board: &Board) -> bool
     ensures { result ≡ can_move board.now }
 {
     board.moves() != 0

@@ -6,15 +6,19 @@ mod collector;
 pub mod floor;
 mod frontier;
 mod gate;
+mod member;
 mod pursuit;
 mod query;
 mod reply;
 pub mod run;
 mod solving;
 pub mod tasks;
+mod team;
 #[cfg(test)]
 mod tests;
+mod together;
 mod told;
+mod window;
 pub mod work;
 mod workers;
 

@@ -9,12 +9,11 @@ use crate::access::{TableAccess, WorkerCells};
 use crate::floor::{Floor, FloorSeat};
 use crate::frontier::Frontier;
 use crate::gate::Gate;
-use crate::query::{Aim, Query};
 use crate::reply::Reply;
 use crate::tasks::{Drawn, Hand, Tasks};
 use crate::work::{Job, Work};
 use crate::workers::work_all;
-use oth_search::Cells;
+use oth_search::{Cells, Solved};
 use std::alloc::Global;
 use std::thread::Threads;
 
@@ -43,21 +42,14 @@ pub fn run_workers<'t, R: Threads + Sync, G: Gate>(
     ensures seat { IsSeatOf floor.now seat.new }
     ensures gathered { AreGathered frontier.now result }
 {
-    let query = Query {
-        alloc,
-        aim: Aim::Refute,
-        known: &[],
-    };
-    run_query(
-        rt, alloc, &query, frontier, floor, seat, workers, table, gate,
-    )
+    run_knowing(rt, alloc, &[], frontier, floor, seat, workers, table, gate)
 }
 
-// The same, with what is asked of the items.
-pub(crate) fn run_query<'t, R: Threads + Sync, G: Gate>(
+// The same, where so much is known of the boards after the root's moves.
+pub(crate) fn run_knowing<'t, R: Threads + Sync, G: Gate>(
     rt: &R,
     alloc: Global,
-    query: &Query,
+    known: &[Solved],
     frontier: &Frontier,
     floor: &Floor,
     seat: &mut FloorSeat,
@@ -84,7 +76,7 @@ pub(crate) fn run_query<'t, R: Threads + Sync, G: Gate>(
         return without_jobs(alloc, frontier, tasks, hands);
     };
     let jobs = jobs_of(alloc, frontier, &tasks, floor, hands, seats, table, jobs);
-    let jobs = worked(rt, query, frontier, &tasks, floor, gate, jobs);
+    let jobs = worked(rt, known, frontier, &tasks, floor, gate, jobs);
     let replies = replies_of(alloc, frontier, floor, jobs.as_slice());
     let hands = hands_in(room, jobs);
     let drawn = tasks.close(hands);
@@ -176,7 +168,7 @@ fn jobs_of<'t>(
 // The jobs, when each has searched until no number was left.
 fn worked<R: Threads + Sync, G: Gate, C: Cells + Send + Drop>(
     rt: &R,
-    query: &Query,
+    known: &[Solved],
     frontier: &Frontier,
     tasks: &Tasks,
     floor: &Floor,
@@ -189,12 +181,12 @@ fn worked<R: Threads + Sync, G: Gate, C: Cells + Send + Drop>(
     ensures each { All (λ j. Holds frontier.now floor.now j.work) result.items }
     ensures many { vec_len result ≡ vec_len jobs }
 {
-    work_all(rt, query, frontier, tasks, floor, gate, jobs.as_mut_slice());
+    work_all(rt, known, frontier, tasks, floor, gate, jobs.as_mut_slice());
     jobs
 }
 
-// Room for so many replies; none where there is no memory.
-fn room_for(alloc: Global, count: u32) -> Vec<Reply>
+// Room for so many; none where there is no memory.
+pub(crate) fn room_for<T: Drop>(alloc: Global, count: u32) -> Vec<T>
     ensures { result.items ≡ [] }
 {
     match Vec::with_capacity(alloc, count as usize) {

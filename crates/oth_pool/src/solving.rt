@@ -10,12 +10,12 @@ ghost use Rattle.oth_pool.specs.Watch.{IsSeatOf};
 use crate::access::{TableAccess, WorkerCells};
 use crate::floor::{Floor, FloorSeat};
 use crate::frontier::Frontier;
-use crate::gate::{Gate, Open};
-use crate::query::{Aim, Query, answered};
-use crate::run::run_query;
+use crate::gate::Gate;
+use crate::query::answered;
+use crate::run::{room_for, run_knowing};
+use crate::together::known_together;
 use crate::told::{answer_in, bounds_in, passed_on};
 use crate::workers::search_item;
-use arrayvec::ArrayVec;
 use oth_book::Book;
 use oth_rules::{Board, Scoring, Square};
 use oth_search::{
@@ -26,8 +26,8 @@ use std::alloc::Global;
 use std::thread::Threads;
 use thiserror::Error;
 
-// The fewest empty squares of a board whose moves are split among the workers.
-const LEAST_SPLIT: u8 = 13;
+// Boards with fewer empty squares are searched sooner than workers are started.
+const FEWEST_EMPTIES_SHARED: u8 = 13;
 
 /// Why a board isn't solved: the first of these that holds.
 #[derive(Clone, Copy, PartialEq, Eq, Debug, Error)]
@@ -166,16 +166,19 @@ fn answer_over<'t, R: Threads + Sync, G: Gate>(
 {
     let mut cells = WorkerCells::of(alloc, access);
     let known = known_moves(rt, alloc, told, workers, access, &mut cells);
-    let query = Query {
-        alloc,
-        aim: Aim::Refute,
-        known: known.as_slice(),
-    };
     let frontier = Frontier::of(&told.board, 2);
     let found = searched(
-        rt, alloc, told, &query, &frontier, workers, access, gate, &mut cells,
+        rt,
+        alloc,
+        told,
+        known.as_slice(),
+        &frontier,
+        workers,
+        access,
+        gate,
+        &mut cells,
     );
-    let known = children_of(alloc, told, known.as_slice(), 1, found.as_slice());
+    let known = children_of(alloc, told, known.as_slice(), found.as_slice());
     let root = root_by(told, known.as_slice());
     solve_moves(root, known.as_slice(), &mut cells)
 }
@@ -188,137 +191,27 @@ fn known_moves<'t, R: Threads + Sync>(
     workers: u8,
     access: &mut Option<TableAccess<'t>>,
     cells: &mut WorkerCells<'t>,
-) -> Vec<Solved>
-    requires { IsCrew workers }
-{
-    let first = first_move(rt, alloc, told, workers, access, cells);
-    if pays(workers, &told.board) {
-        split(rt, alloc, told, &first, Aim::Best, workers, access, cells)
+) -> Vec<Solved> {
+    let empties = told.board.empties();
+    if workers > 1 && FEWEST_EMPTIES_SHARED <= empties {
+        known_together(rt, alloc, told, workers, access, cells)
     } else {
-        known_alone(alloc, told, &first, cells)
+        known_alone(alloc, told, cells)
     }
 }
 
-// Whether the moves of the board are split among the workers.
-fn pays(workers: u8, board: &Board) -> bool {
-    let empties = board.empties();
-    workers > 1 && LEAST_SPLIT <= empties && empties <= 30
-}
-
 // The same by the caller alone.
-fn known_alone<C: Cells>(
-    alloc: Global,
-    told: &Solved,
-    first: &Solved,
-    cells: &mut C,
-) -> Vec<Solved> {
+fn known_alone<C: Cells>(alloc: Global, told: &Solved, cells: &mut C) -> Vec<Solved> {
     let mut known = room_for(alloc, 64);
-    let _ = known.push(*first);
     let squares = order(&told.board);
     for square in squares.as_slice() {
         let root = root_by(told, known.as_slice());
         if let Some(child) = root.board.play(*square) {
-            if child != first.board {
-                let _ = known.push(searched_after(&root, child, cells));
-            }
+            let limit = -root.interval.lower;
+            let _ = known.push(Solved::at_most(&child, limit, cells, root.scoring));
         }
     }
     known
-}
-
-// The board after a move, with its value where the move is as good as what is known of the root.
-fn searched_after<C: Cells>(root: &Solved, child: Board, cells: &mut C) -> Solved {
-    Solved::at_most(&child, -root.interval.lower, cells, root.scoring)
-}
-
-// The board after the first move of the order.
-fn first_child(board: &Board) -> Option<Board> {
-    let squares = order(board);
-    let square = squares.as_slice().first()?;
-    board.play(*square)
-}
-
-// The boards of the line of first moves whose moves are split among the workers.
-fn first_line(board: &Board, workers: u8) -> ArrayVec<Board, 32> {
-    let mut line = ArrayVec::new();
-    let mut last = *board;
-    for _ in 0..30 {
-        let Some(child) = first_child(&last) else {
-            break;
-        };
-        if !pays(workers, &child) {
-            break;
-        }
-        let _ = line.try_push(child);
-        last = child;
-    }
-    line
-}
-
-// The board after the first move, with its value: first that of the last board of the line of first moves, and then of each
-// before it, when the workers have searched its other moves.
-fn first_move<'t, R: Threads + Sync>(
-    rt: &R,
-    alloc: Global,
-    told: &Solved,
-    workers: u8,
-    access: &mut Option<TableAccess<'t>>,
-    cells: &mut WorkerCells<'t>,
-) -> Solved
-    requires { IsCrew workers }
-{
-    let line = first_line(&told.board, workers);
-    let mut below = *told;
-    for later in line.as_slice().iter().rev() {
-        let later = Solved::unknown(*later, told.scoring);
-        let first = first_by(&later.board, below, cells);
-        let found = split(
-            rt,
-            alloc,
-            &later,
-            &first,
-            Aim::Value,
-            workers,
-            access,
-            cells,
-        );
-        below = known_below(later.board, 1, found.as_slice(), told.scoring);
-    }
-    first_by(&told.board, below, cells)
-}
-
-// The board after the first move, with its value: as it is told, or by a search.
-fn first_by<C: Cells>(board: &Board, told: Solved, cells: &mut C) -> Solved {
-    match first_child(board) {
-        Some(child) if child == told.board && told.interval.lower == told.interval.upper => told,
-        Some(child) => Solved::by_search(&child, -65, 65, cells, told.scoring),
-        None => Solved::unknown(*board, told.scoring),
-    }
-}
-
-// Lets the workers search the boards after the moves, with windows at a floor that the first move raises.
-fn split<'t, R: Threads + Sync, C: Cells>(
-    rt: &R,
-    alloc: Global,
-    told: &Solved,
-    first: &Solved,
-    aim: Aim,
-    workers: u8,
-    access: &mut Option<TableAccess<'t>>,
-    cells: &mut C,
-) -> Vec<Solved>
-    requires { IsCrew workers }
-{
-    let query = Query {
-        alloc,
-        aim,
-        known: &[*first],
-    };
-    let frontier = Frontier::ranked(&told.board);
-    let found = searched(
-        rt, alloc, told, &query, &frontier, workers, access, &Open, cells,
-    );
-    children_of(alloc, told, &[*first], 0, found.as_slice())
 }
 
 // What is found of the boards of the frontier: by the workers, and by the caller where they left one.
@@ -326,7 +219,7 @@ fn searched<'t, R: Threads + Sync, G: Gate, C: Cells>(
     rt: &R,
     alloc: Global,
     told: &Solved,
-    query: &Query,
+    known: &[Solved],
     frontier: &Frontier,
     workers: u8,
     access: &mut Option<TableAccess<'t>>,
@@ -335,38 +228,30 @@ fn searched<'t, R: Threads + Sync, G: Gate, C: Cells>(
 ) -> Vec<Solved>
     requires { IsCrew workers }
 {
-    let root = root_by(told, query.known);
+    let root = root_by(told, known);
     let Ok((floor, mut seat)) = Floor::new(alloc, &told.board, told.scoring) else {
-        return searched_alone(alloc, &root, query, frontier, gate, cells);
+        return searched_alone(alloc, &root, known, frontier, gate, cells);
     };
     let mut found = room_for(alloc, frontier.len());
     let _ = floor.raise(&mut seat, &root);
-    let gathered = run_query(
-        rt, alloc, query, frontier, &floor, &mut seat, workers, access, gate,
+    let gathered = run_knowing(
+        rt, alloc, known, frontier, &floor, &mut seat, workers, access, gate,
     );
     for reply in gathered.replies.as_slice() {
         let _ = found.push(reply.solved);
     }
     let left = gathered.drawn.left.as_slice();
     search_left(
-        query, frontier, left, &floor, &mut seat, gate, cells, &mut found,
+        known, frontier, left, &floor, &mut seat, gate, cells, &mut found,
     );
     found
-}
-
-// Room for so many boards; none where there is no memory.
-fn room_for(alloc: Global, count: u32) -> Vec<Solved> {
-    match Vec::with_capacity(alloc, count as usize) {
-        Ok(room) => room,
-        Err(_) => Vec::new(alloc),
-    }
 }
 
 // The same by the caller alone, where there is no memory for a floor.
 fn searched_alone<G: Gate, C: Cells>(
     alloc: Global,
     root: &Solved,
-    query: &Query,
+    known: &[Solved],
     frontier: &Frontier,
     gate: &G,
     cells: &mut C,
@@ -376,7 +261,7 @@ fn searched_alone<G: Gate, C: Cells>(
         if let Some(item) = frontier.entry(number) {
             gate.before(number);
             let least = root.interval.lower;
-            let solved = answered(query, &item, &root.board, least, cells, root.scoring);
+            let solved = answered(known, &item, &root.board, least, cells, root.scoring);
             gate.after(number);
             let _ = found.push(solved);
         }
@@ -386,7 +271,7 @@ fn searched_alone<G: Gate, C: Cells>(
 
 // Searches the items that no worker took, and adds what is found of them.
 fn search_left<G: Gate, C: Cells>(
-    query: &Query,
+    known: &[Solved],
     frontier: &Frontier,
     left: &[u32],
     floor: &Floor,
@@ -399,33 +284,27 @@ fn search_left<G: Gate, C: Cells>(
 {
     for number in left {
         if let Some(item) = frontier.entry(*number) {
-            let solved = search_item(query, &item, *number, floor, seat, gate, cells);
+            let solved = search_item(known, &item, *number, floor, seat, gate, cells);
             let _ = found.push(solved);
         }
     }
 }
 
-// What is known of the board after each move: as before, or else by the boards so many plies below it that were found.
-fn children_of(
-    alloc: Global,
-    told: &Solved,
-    known: &[Solved],
-    plies: u8,
-    found: &[Solved],
-) -> Vec<Solved> {
+// What is known of the board after each move: as before, or else by the boards one ply below it that were found.
+fn children_of(alloc: Global, told: &Solved, known: &[Solved], found: &[Solved]) -> Vec<Solved> {
     let mut children = room_for(alloc, 64);
     for number in 0..64 {
         if let Some(child) = told.board.play(Square::numbered(number)) {
-            let _ = children.push(closer(child, known, plies, found, told.scoring));
+            let _ = children.push(closer(child, known, found, told.scoring));
         }
     }
     children
 }
 
-fn closer(child: Board, known: &[Solved], plies: u8, found: &[Solved], scoring: Scoring) -> Solved {
+fn closer(child: Board, known: &[Solved], found: &[Solved], scoring: Scoring) -> Solved {
     let before = known_of(child, known, scoring);
     if before.interval == Interval::all() {
-        known_below(child, plies, found, scoring)
+        known_below(child, 1, found, scoring)
     } else {
         before
     }

@@ -7,8 +7,7 @@ ghost use Rattle.oth_pool.specs.Working.{CanWork};
 use crate::floor::{Floor, FloorSeat};
 use crate::frontier::{Frontier, Item};
 use crate::gate::Gate;
-use crate::pursuit::{FEWEST_EMPTIES, pursued};
-use crate::query::{Aim, Query, answered, is_settled};
+use crate::query::answered;
 use crate::reply::Reply;
 use crate::tasks::Tasks;
 use crate::work::{Job, Work};
@@ -20,7 +19,7 @@ use std::thread::Threads;
 // Lets each job search items until no number is left, in a thread of its own where one can be made.
 pub(crate) fn work_all<R: Threads + Sync, G: Gate, C: Cells + Send>(
     rt: &R,
-    query: &Query,
+    known: &[Solved],
     frontier: &Frontier,
     tasks: &Tasks,
     floor: &Floor,
@@ -45,7 +44,7 @@ pub(crate) fn work_all<R: Threads + Sync, G: Gate, C: Cells + Send>(
             ensures number { number_of job.new.work.hand ≡ number_of job.old.work.hand }
         {
             search_all(
-                query,
+                known,
                 frontier,
                 tasks,
                 floor,
@@ -59,7 +58,7 @@ pub(crate) fn work_all<R: Threads + Sync, G: Gate, C: Cells + Send>(
 
 // Searches items until no number is left.
 fn search_all<G: Gate, C: Cells>(
-    query: &Query,
+    known: &[Solved],
     frontier: &Frontier,
     tasks: &Tasks,
     floor: &Floor,
@@ -72,7 +71,7 @@ fn search_all<G: Gate, C: Cells>(
     ensures number { number_of work.new.hand ≡ number_of work.old.hand }
 {
     for _ in 0..u64::MAX {
-        if !search_next(query, frontier, tasks, floor, gate, work, cells) {
+        if !search_next(known, frontier, tasks, floor, gate, work, cells) {
             break;
         }
     }
@@ -80,7 +79,7 @@ fn search_all<G: Gate, C: Cells>(
 
 // Draws a number and searches its item. False where there is none.
 fn search_next<G: Gate, C: Cells>(
-    query: &Query,
+    known: &[Solved],
     frontier: &Frontier,
     tasks: &Tasks,
     floor: &Floor,
@@ -101,14 +100,14 @@ fn search_next<G: Gate, C: Cells>(
     let Some(item) = frontier.entry(number) else {
         return false;
     };
-    let solved = search_item(query, &item, number, floor, &mut work.seat, gate, cells);
+    let solved = search_item(known, &item, number, floor, &mut work.seat, gate, cells);
     work.replies.push_reserved(Reply { number, solved });
     true
 }
 
-// Searches an item as far as is asked, with a window at the floor, and raises the floor by what is found.
+// Searches an item with a window at the floor, and raises the floor by what is found.
 pub(crate) fn search_item<G: Gate, C: Cells>(
-    query: &Query,
+    known: &[Solved],
     item: &Item,
     number: u32,
     floor: &Floor,
@@ -122,25 +121,10 @@ pub(crate) fn search_item<G: Gate, C: Cells>(
 {
     gate.before(number);
     let least = floor.read(seat);
-    let solved = if is_long(query, item)
-        && !is_settled(query, item, &floor.board(), least, cells, floor.scoring())
-    {
-        pursued(query, item, floor, seat, cells)
-    } else {
-        answered(query, item, &floor.board(), least, cells, floor.scoring())
-    };
+    let solved = answered(known, item, &floor.board(), least, cells, floor.scoring());
     gate.after(number);
     share(item, floor, seat, &solved, cells);
     solved
-}
-
-// Whether the search of the item is given up and begun anew where the floor rises.
-fn is_long(query: &Query, item: &Item) -> bool {
-    let refutes = match query.aim {
-        Aim::Refute => true,
-        _ => false,
-    };
-    !refutes && !item.same_mover && item.board.empties() >= FEWEST_EMPTIES
 }
 
 // What the solved board, the child itself or one ply below it, alone tells of the child.
@@ -154,13 +138,7 @@ fn child_by(child: Board, solved: &Solved) -> Solved {
 
 // Tells the others what the solved board, two plies below at most, alone tells: of the board after the root's move by the cells,
 // and of the root by the floor.
-pub(crate) fn share<C: Cells>(
-    item: &Item,
-    floor: &Floor,
-    seat: &mut FloorSeat,
-    solved: &Solved,
-    cells: &mut C,
-)
+fn share<C: Cells>(item: &Item, floor: &Floor, seat: &mut FloorSeat, solved: &Solved, cells: &mut C)
     requires { IsSeatOf floor.now seat.old }
     ensures { IsSeatOf floor.now seat.new }
 {

@@ -1,10 +1,13 @@
 //! Want of memory. Each of these tests holds whichever one of its requests for memory is refused; `bench/refusals.py` runs each of
 //! them once for each request, thread starts among them.
 
+use super::gate::Hearing;
 use super::rows::ROWS;
-use super::{A, board, drawn, lifted, solved};
-use crate::{Floor, Frontier, Tasks};
-use oth_rules::Scoring;
+use super::together::BOARDS;
+use super::{A, CORNERS, board, drawn, lifted, solved};
+use crate::{Floor, Frontier, Open, Tasks, solve};
+use oth_rules::{Board, Scoring, Square};
+use oth_search::solve_alone;
 use oth_table::{SharedTable, TableError};
 use std::process::Abort;
 use std::test::Fail;
@@ -59,6 +62,53 @@ fn a_table_of_64_cells(rt: HostRuntime) {
         Ok((table, _)) => assert!(rt; table.cells() == 64),
         Err(error) => assert!(rt; error == TableError::Memory),
     }
+}
+
+// The board after the first move from one of 14 empty squares.
+fn of_13_empties() -> Option<Board> {
+    let [own, opposing] = BOARDS[1];
+    let board = Board::of(own, opposing).ok()?;
+    let moves = board.moves();
+    if moves == 0 {
+        return None;
+    }
+    board.play(Square::first_of(moves))
+}
+
+// A board of so many empty squares that its workers search together.
+fn check_together<R: Threads + Sync + AllocGlobal + Abort>(rt: &R, cells: u32) {
+    let Some(board) = of_13_empties() else {
+        panic!(rt; "no board")
+    };
+    assert!(rt; board.empties() == 13);
+    let Ok(alone) = solve_alone(&board, Scoring::Winner) else {
+        panic!(rt; "no answer")
+    };
+    let alloc = rt.alloc();
+    let found = solve(rt, alloc, &board, 2, cells, &Open, None, Scoring::Winner);
+    assert!(rt; found == Ok(alone));
+}
+
+#[test]
+fn workers_together_without_cells(rt: HostRuntime) {
+    check_together(&rt, 0);
+}
+
+#[test]
+fn workers_together_over_64_cells(rt: HostRuntime) {
+    check_together(&rt, 64);
+}
+
+// The gate hears each of the twelve items once.
+#[test]
+fn each_item_is_heard(rt: HostRuntime) {
+    let gate = Hearing::new();
+    let Ok(board) = Board::of(CORNERS[0], CORNERS[1]) else {
+        panic!(rt; "no board")
+    };
+    let found = solve(&rt, rt.alloc(), &board, 2, 64, &gate, None, Scoring::Winner);
+    assert!(rt; found.is_ok_and(|answer| answer.best == 0x8100_0000_0000_0081));
+    assert!(rt; gate.heard_once(12));
 }
 
 // A floor that is refused a further seat answers the given one as before.
