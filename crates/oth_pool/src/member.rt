@@ -1,6 +1,4 @@
 // One of the workers that search a board together.
-ghost use Rattle.oth_rules.specs.Symmetry.{IsCanonical};
-
 use crate::query::looked_up;
 use crate::team::Team;
 use crate::window::Window;
@@ -8,8 +6,8 @@ use oth_rules::{Board, Scoring, Square};
 use oth_search::{Cells, Solved};
 use std::alloc::Global;
 
-// No search is deeper.
-const MOST_PLIES: usize = 32;
+/// No search that workers share is deeper.
+pub(crate) const MOST_PLIES: u8 = 30;
 
 /// A board whose search is under way, and what it is to decide.
 #[derive(Clone, Copy)]
@@ -35,7 +33,7 @@ pub(crate) struct Member<C> {
 impl<C: Cells> Member<C> {
     /// A worker over these cells, with room for so many boards.
     pub fn of(alloc: Global, cells: C, room: Vec<Solved>) -> Member<C> {
-        let goals = match Vec::with_capacity(alloc, MOST_PLIES) {
+        let goals = match Vec::with_capacity(alloc, usize::from(MOST_PLIES)) {
             Ok(goals) => goals,
             Err(_) => Vec::new(alloc),
         };

@@ -1,8 +1,8 @@
 // Searches that workers share: each leaves to the others the boards that they are at, and gives up what another has found.
-ghost use Rattle.std.specs.Prelude.{◌≡◌, IfSome, ◌<◌, pos, negsuc, ◌≤ℤ◌};
+ghost use Rattle.std.specs.Prelude.{◌≡◌, IfSome, pos, negsuc, ◌≤ℤ◌};
 
 use crate::frontier::can_move;
-use crate::member::{Goal, Member, is_reached};
+use crate::member::{Goal, MOST_PLIES, Member, is_reached};
 use crate::query::is_decided;
 use crate::team::Team;
 use crate::told::passed_on;
@@ -16,9 +16,6 @@ const FEWEST_EMPTIES: u8 = 12;
 // The moves of boards with more empty squares are searched by all workers together, one after the other, since what is searched in
 // vain costs most there.
 const MOST_EMPTIES_DEALT: u8 = 18;
-
-// No search is deeper.
-const MOST_PLIES: u8 = 30;
 
 // How often the moves of a board are gone through. A board that others are at is left to them but in the last round.
 const ROUNDS: u32 = 3;
@@ -176,7 +173,7 @@ struct Node {
     known: Vec<Solved>,
 }
 
-// The same, by its moves, each with so many plies below it.
+// Bounds of the board's value by its moves, below which so many plies are shared. They decide the window unless the search is given up.
 #[cycle(narrowing)]
 fn narrow_moves<C: Cells>(
     board: &Board,

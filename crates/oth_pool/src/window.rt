@@ -1,5 +1,5 @@
 // The window of a search.
-ghost use Rattle.std.specs.Prelude.{pos, negsuc, ◌≤ℤ◌, ◌<ℤ◌};
+ghost use Rattle.std.specs.Prelude.{pos, negsuc, ◌≤ℤ◌};
 ghost use Rattle.oth_search.specs.Bound.{IsWindow};
 
 /// What a search is to decide: whether a value is at most `alpha` or at least `beta`, or what it is between them.

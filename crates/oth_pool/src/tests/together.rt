@@ -1,9 +1,11 @@
 //! Boards whose moves several workers search together: what they answer, and the hints that they give each other.
 
+use crate::member::Member;
+use crate::pursuit::search_moves;
 use crate::team::Team;
 use crate::{Open, solve};
 use oth_rules::{Board, Scoring, Square};
-use oth_search::{Answer, solve_alone};
+use oth_search::{Answer, NoCells, order, solve_alone};
 use std::process::Abort;
 use std::test::Fail;
 use std::thread::Threads;
@@ -13,6 +15,13 @@ pub(super) const BOARDS: [[u64; 2]; 3] = [
     [0x00fc_98c0_a010_0804, 0x0402_673b_5fef_75b8],
     [0x8080_b1df_a743_2740, 0x4f67_4620_18bc_4082],
     [0x450b_3b61_676b_5000, 0x18a4_c49c_9884_a2f0],
+];
+
+// Boards of games, of 14 empty squares, where a side must pass after a move of a board of at least 12.
+const PASSING: [[u64; 2]; 3] = [
+    [0x0008_c0e1_a1ff_bfbf, 0x00e4_1e1e_5a00_4040],
+    [0x8080_a8d6_ea5c_0010, 0x7c6b_5628_15a2_ff00],
+    [0xe0e0_f008_0000_1000, 0x081c_0e37_ff7d_2f7f],
 ];
 
 // The answer of the board of these discs by one thread that keeps nothing.
@@ -66,6 +75,33 @@ fn crews_agree_with_one_over_one_cell(rt: HostRuntime) {
 fn crews_agree_with_one_over_a_table(rt: HostRuntime) {
     check_boards(&rt, 65_536, Scoring::Winner);
     check_boards(&rt, 65_536, Scoring::Discs);
+}
+
+// One worker that keeps nothing settles each move, and comes to the value.
+fn check_settled<R: AllocGlobal + Abort>(rt: &R, words: [u64; 2]) {
+    let Some(alone) = answered_alone(words, Scoring::Winner) else {
+        panic!(rt; "no answer")
+    };
+    let team = Team::new(rt.alloc(), -64, false, Scoring::Winner);
+    let mut member = Member::of(rt.alloc(), NoCells, Vec::new(rt.alloc()));
+    let squares = order(&alone.board);
+    search_moves(&alone.board, squares.as_slice(), &team, &mut member);
+    assert!(rt; team.settled() == squares.len() as u32);
+    assert!(rt; team.floor() == alone.score);
+}
+
+#[test]
+fn one_worker_settles_each_move(rt: HostRuntime) {
+    for words in &BOARDS {
+        check_settled(&rt, *words);
+    }
+}
+
+#[test]
+fn one_worker_settles_each_move_before_a_pass(rt: HostRuntime) {
+    for words in &PASSING {
+        check_settled(&rt, *words);
+    }
 }
 
 #[test]
