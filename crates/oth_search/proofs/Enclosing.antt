@@ -1,5 +1,5 @@
 -- Lemmas on bounds that enclose a value.
-use Rattle.std.proofs.Common.{true, false, ◌≡◌, ℕ, subst, arith, ◌⊎◌, inl, inr}
+use Rattle.std.proofs.Common.{true, false, ◌≡◌, ℕ, subst, sym, arith, ◌⊎◌, inl, inr}
 use Rattle.std.specs.Prelude.{unsigned_abs, ◌-ℤ◌, ◌+ℤ◌, ◌<◌, ℤ, pos, negsuc, neg_ℤ, ◌≤ℤ◌, ◌<ℤ◌}
 use Rattle.std.proofs.lemmas.Int.{ints, by_lt_z}
 use Rattle.oth_rules.specs.declared.scoring.Scoring.{Scoring}
@@ -139,6 +139,12 @@ same_scoring g f p lower upper e h = rw e at h
 -- ---- what two tell of one board
 
 -- the same board by the same scoring
+-- after a forced pass the bounds have the other sign
+pub Encloses-passed : (g : Scoring) (p q : Position) (lower upper low high : ℤ) → q ≡ pass p → can_move p ≡ false → can_move (pass p) ≡ true → Encloses lower upper (value (score_of g) p) → low ≡ neg_ℤ upper → high ≡ neg_ℤ lower → Encloses low high (value (score_of g) q)
+Encloses-passed g p q lower upper low high is none some h e f =
+    let turn = value-pass (score_of g) p none some in
+    subst (λ x. Encloses low high (value (score_of g) x)) (sym is) (record { below = omega (arith, ints, h.above, turn); above = omega (arith, ints, h.below, turn) })
+
 pub Encloses-same : (g f : Scoring) (p q : Position) (lower upper : ℤ) → q ≡ p → f ≡ g → Encloses lower upper (value (score_of f) q) → Encloses lower upper (value (score_of g) p)
 Encloses-same g f p q lower upper e k h = rw (e, k) at h
 

@@ -17,6 +17,7 @@ mod probe;
 mod searching;
 mod solving;
 mod squares;
+mod telling;
 mod window;
 
 pub use answer::Answer;
