@@ -9,4 +9,3 @@ pub mod Handouts
 pub mod Closings
 pub mod Lefts
 pub mod Workings
-pub mod Passed

@@ -5,13 +5,13 @@ use Rattle.std.proofs.lemmas.List.Elements.{All-push, All-nil}
 use Rattle.std.specs.List.{All, sum_by}
 use Rattle.std.proofs.lemmas.List.Sums.{sum_by-cons, sum_by_push}
 use Rattle.std.specs.declared.alloc.Global.{Global}
+use Rattle.oth_rules.specs.declared.scoring.Scoring.{Scoring}
 use Rattle.oth_pool.specs.declared.frontier.item.Item.{Item}
 use Rattle.oth_pool.specs.declared.reply.Reply.{Reply}
 use Rattle.oth_pool.specs.declared.work.Work.{Work}
 use Rattle.oth_pool.specs.declared.work.Job.{Job}
 use Rattle.oth_pool.specs.declared.tasks.state.Tasks.{Tasks}
 use Rattle.oth_pool.specs.declared.tasks.state.Hand.{Hand}
-use Rattle.oth_pool.specs.Watch.{Place, Watcher, IsSeatOf}
 use Rattle.oth_pool.specs.Hands.{IsHandOf, AreAllHands, list_of, number_of}
 use Rattle.oth_pool.specs.Drawing.{lists_of, times_in_all, AreOnce}
 use Rattle.oth_pool.specs.declared.run.Gathered.{Gathered}
@@ -21,34 +21,31 @@ use Rattle.oth_pool.specs.Dealing.{times}
 use Rattle.oth_pool.specs.Working.{IsReplyOf, Holds, CanWork, AreGathered, numbers_of, hand_of, times_by}
 use Rattle.oth_pool.proofs.Dealings.{times-append}
 
-module _ (items : List Item) (tasks : Tasks) (floor : Place) (work : Work) (can : CanWork items tasks floor work) (hand : Hand) (is_hand : IsHandOf tasks hand) where
-  pub ended : list_of hand ≡ list_of work.hand → CanWork items tasks floor (record work { hand = hand })
+module _ (items : List Item) (scoring : Scoring) (tasks : Tasks) (work : Work) (can : CanWork items scoring tasks work) (hand : Hand) (is_hand : IsHandOf tasks hand) where
+  pub ended : list_of hand ≡ list_of work.hand → CanWork items scoring tasks (record work { hand = hand })
   ended same = record {
     hand = is_hand;
     holds = record {
-      seat = can.holds.seat;
       replies = can.holds.replies;
       once = λ x. let o = can.holds.once x in let s : times x (list_of hand) ≡ times x (list_of work.hand) = ap (times x) same in omega arith;
     };
   }
 
-  pub drew : (number : ℕ) → list_of hand ≡ list_of work.hand ++ number ∷ [] → CanWork items tasks floor (record work { hand = hand })
+  pub drew : (number : ℕ) → list_of hand ≡ list_of work.hand ++ number ∷ [] → CanWork items scoring tasks (record work { hand = hand })
   drew number longer = record {
     hand = is_hand;
     holds = record {
-      seat = can.holds.seat;
       replies = can.holds.replies;
       once = λ x. let o = can.holds.once x in let s : times x (list_of hand) ≡ times x (list_of work.hand ++ number ∷ []) = ap (times x) longer in omega (arith, times-append x (list_of work.hand) (number ∷ []));
     };
   }
 
-  pub replied : (number : ℕ) (seat : Watcher) (same : IsSeatOf floor seat) (replies : Vec Reply Global) (r : Reply) → list_of hand ≡ list_of work.hand ++ number ∷ [] → replies.items ≡ work.replies.items ++ r ∷ []
-      → r.number ≡ number → IsReplyOf items r → CanWork items tasks floor (record { hand = hand; seat = seat; replies = replies })
+  pub replied : (number : ℕ) (replies : Vec Reply Global) (r : Reply) → list_of hand ≡ list_of work.hand ++ number ∷ [] → replies.items ≡ work.replies.items ++ r ∷ []
+      → r.number ≡ number → IsReplyOf items scoring r → CanWork items scoring tasks (record { hand = hand; replies = replies })
   replied number seat same replies r longer pushed is right = record {
     hand = is_hand;
     holds = record {
-      seat = same;
-      replies = let P : List Reply → Type 0 = All (IsReplyOf items) in subst P (sym pushed) (All-push (IsReplyOf items) work.replies.items r can.holds.replies right);
+      replies = let P : List Reply → Type 0 = All (IsReplyOf items scoring) in subst P (sym pushed) (All-push (IsReplyOf items scoring) work.replies.items r can.holds.replies right);
       once = λ x.
           let o = can.holds.once x in
           let s : times x (list_of hand) ≡ times x (list_of work.hand ++ number ∷ []) = ap (times x) longer in
@@ -61,10 +58,9 @@ module _ (items : List Item) (tasks : Tasks) (floor : Place) (work : Work) (can 
 pub numbers_push : (x : ℕ) (xs : List Reply) (r : Reply) → times x (numbers_of (xs ++ r ∷ [])) ≡ times x (numbers_of xs) + times x (numbers_of (r ∷ []))
 numbers_push x xs r = ap (times x) (map-append (λ (q : Reply). q.number) xs (r ∷ [])) ∙ times-append x (numbers_of xs) (numbers_of (r ∷ []))
 
-pub no_replies : (items : List Item) (floor : Place) (w : Work) → IsSeatOf floor w.seat → w.replies.items ≡ [] → Holds items floor w
-no_replies items floor w seat none = record {
-  seat = seat;
-  replies = let P : List Reply → Type 0 = All (IsReplyOf items) in subst P (sym none) (All-nil (IsReplyOf items));
+pub no_replies : (items : List Item) (scoring : Scoring) (w : Work) → w.replies.items ≡ [] → Holds items scoring w
+no_replies items scoring w none = record {
+  replies = let P : List Reply → Type 0 = All (IsReplyOf items scoring) in subst P (sym none) (All-nil (IsReplyOf items scoring));
   once = λ x. let n : times x (numbers_of w.replies.items) ≡ 0 = ap (λ l. times x (numbers_of l)) none in omega arith;
 }
 
@@ -81,9 +77,9 @@ times_vecs x [] = refl
 times_vecs x (l ∷ ls) = let rest = times_vecs x ls in omega (arith, sum_by-cons (times x) l.items (map (λ (k : Vec ℕ Global). k.items) ls), sum_by-cons (λ (k : Vec ℕ Global). times x k.items) l ls)
 
 -- what the workers found and what was drawn
-pub gathered : (items : List Item) (count : ℕ) (works : List Work) (hands : List Hand) (g : Gathered) → count ≡ length items → AreOnce count g.drawn → lists_of g.drawn ≡ map list_of hands → hands ≡ map hand_of works
-    → All (IsReplyOf items) g.replies.items → ((x : ℕ) → times x (numbers_of g.replies.items) ≤ times_by x works) → AreGathered items g
-gathered items count works hands g same drawn lists are replies once = record {
+pub gathered : (items : List Item) (scoring : Scoring) (count : ℕ) (works : List Work) (hands : List Hand) (g : Gathered) → count ≡ length items → AreOnce count g.drawn → lists_of g.drawn ≡ map list_of hands → hands ≡ map hand_of works
+    → All (IsReplyOf items scoring) g.replies.items → ((x : ℕ) → times x (numbers_of g.replies.items) ≤ times_by x works) → AreGathered items scoring g
+gathered items scoring count works hands g same drawn lists are replies once = record {
   drawn = let P : ℕ → Type 0 = λ n. AreOnce n g.drawn in subst P same drawn;
   replies = replies;
   once = λ x.
@@ -92,21 +88,21 @@ gathered items count works hands g same drawn lists are replies once = record {
       let o = once x in omega arith;
 }
 
-pub nothing_found : (items : List Item) (count : ℕ) (g : Gathered) → count ≡ length items → AreOnce count g.drawn → g.replies.items ≡ [] → AreGathered items g
-nothing_found items count g same drawn none = record {
+pub nothing_found : (items : List Item) (scoring : Scoring) (count : ℕ) (g : Gathered) → count ≡ length items → AreOnce count g.drawn → g.replies.items ≡ [] → AreGathered items scoring g
+nothing_found items scoring count g same drawn none = record {
   drawn = let P : ℕ → Type 0 = λ n. AreOnce n g.drawn in subst P same drawn;
-  replies = let P : List Reply → Type 0 = All (IsReplyOf items) in subst P (sym none) (All-nil (IsReplyOf items));
+  replies = let P : List Reply → Type 0 = All (IsReplyOf items scoring) in subst P (sym none) (All-nil (IsReplyOf items scoring));
   once = λ x. let n : times x (numbers_of g.replies.items) ≡ 0 = ap (λ l. times x (numbers_of l)) none in omega arith;
 }
 
 pub All-longer : {X : Type 0} (P : X → Type 0) (xs ys : List X) (x : X) → ys ≡ xs ++ x ∷ [] → All P xs → P x → All P ys
 All-longer P xs ys x e all one = subst (All P) (sym e) (All-push P xs x all one)
 
-module _ {C : Type 0} (items : List Item) (tasks : Tasks) (floor : Place) where
+module _ {C : Type 0} (items : List Item) (scoring : Scoring) (tasks : Tasks) where
   hand_in : Job C → Hand
   hand_in j = j.work.hand
 
-  pub jobs_can : (jobs : List (Job C)) → AreAllHands tasks (map (λ (j : Job C). j.work.hand) jobs) → All (λ (j : Job C). Holds items floor j.work) jobs → (i : ℕ) (d : Job C) → i < length jobs → CanWork items tasks floor (get_or jobs i d).work
+  pub jobs_can : (jobs : List (Job C)) → AreAllHands tasks (map (λ (j : Job C). j.work.hand) jobs) → All (λ (j : Job C). Holds items scoring j.work) jobs → (i : ℕ) (d : Job C) → i < length jobs → CanWork items scoring tasks (get_or jobs i d).work
   jobs_can jobs all each i d below = record {
     hand =
         let P : Hand → Type 0 = IsHandOf tasks in
@@ -116,7 +112,7 @@ module _ {C : Type 0} (items : List Item) (tasks : Tasks) (floor : Place) where
   }
 
   pub jobs_did : (old new : List (Job C)) → AreAllHands tasks (map (λ (j : Job C). j.work.hand) old) → length new ≡ length old
-      → ((i : ℕ) (d : Job C) → i < length old → CanWork items tasks floor (get_or new i d).work)
+      → ((i : ℕ) (d : Job C) → i < length old → CanWork items scoring tasks (get_or new i d).work)
       → ((i : ℕ) (d : Job C) → i < length old → number_of (get_or new i d).work.hand ≡ number_of (get_or old i d).work.hand)
       → AreAllHands tasks (map (λ (j : Job C). j.work.hand) new)
   jobs_did [] new all long each same = let z = all.some in absurd (omega arith)

@@ -1,35 +1,35 @@
 -- What workers found.
---     IsReplyOf items reply      the reply is of the board of its number's item
---     CanWork items tasks floor work      the hand and the seat are of these tasks and this floor, and each reply is of a number that the hand drew, once
---     AreGathered items gathered      each number was drawn once or is left; each reply is of a drawn number, once, and of its item's board
+--     IsReplyOf items scoring reply      the reply is of the board of its number's item, by the scoring
+--     CanWork items scoring tasks work      the hand is one of these tasks, and each reply is of a number that the hand drew, once
+--     AreGathered items scoring gathered      each number was drawn once or is left; each reply is of a drawn number, once, and of its item's board
 use Rattle.std.specs.Prelude.{◌≡◌, ℕ, ◌≤◌, List, length, map, All, slice_get, sum_by, Some, option_map}
+use Rattle.oth_rules.specs.declared.scoring.Scoring.{Scoring}
 use Rattle.oth_pool.specs.declared.frontier.item.Item.{Item}
 use Rattle.oth_pool.specs.declared.reply.Reply.{Reply}
 use Rattle.oth_pool.specs.declared.work.Work.{Work}
 use Rattle.oth_pool.specs.declared.run.Gathered.{Gathered}
 use Rattle.oth_pool.specs.declared.tasks.state.Tasks.{Tasks}
 use Rattle.oth_pool.specs.declared.tasks.state.Hand.{Hand}
-use Rattle.oth_pool.specs.Watch.{Place, IsSeatOf}
 use Rattle.oth_pool.specs.Below.{board_of}
 use Rattle.oth_pool.specs.Hands.{IsHandOf, list_of}
 use Rattle.oth_pool.specs.Dealing.{times}
 use Rattle.oth_pool.specs.Drawing.{times_in_all, AreOnce}
 
-pub record IsReplyOf (items : List Item) (r : Reply) : Type 0 where
+pub record IsReplyOf (items : List Item) (scoring : Scoring) (r : Reply) : Type 0 where
   pub board : option_map board_of (slice_get items r.number) ≡ Some r.solved.board
+  pub by : r.solved.scoring ≡ scoring
 
 abbrev pub numbers_of : List Reply → List ℕ
 numbers_of replies = map (λ (r : Reply). r.number) replies
 
--- the seat is of this floor, and each reply is of a number that the hand drew, once, and of its item's board
-pub record Holds (items : List Item) (floor : Place) (w : Work) : Type 0 where
-  pub seat : IsSeatOf floor w.seat
-  pub replies : All (IsReplyOf items) w.replies.items
+-- each reply is of a number that the hand drew, once, and of its item's board by the scoring
+pub record Holds (items : List Item) (scoring : Scoring) (w : Work) : Type 0 where
+  pub replies : All (IsReplyOf items scoring) w.replies.items
   pub once : (x : ℕ) → times x (numbers_of w.replies.items) ≤ times x (list_of w.hand)
 
-pub record CanWork (items : List Item) (tasks : Tasks) (floor : Place) (w : Work) : Type 0 where
+pub record CanWork (items : List Item) (scoring : Scoring) (tasks : Tasks) (w : Work) : Type 0 where
   pub hand : IsHandOf tasks w.hand
-  pub holds : Holds items floor w
+  pub holds : Holds items scoring w
 
 abbrev pub hand_of : Work → Hand
 hand_of w = w.hand
@@ -38,7 +38,7 @@ hand_of w = w.hand
 abbrev pub times_by : ℕ → List Work → ℕ
 times_by x works = sum_by (λ w. times x (list_of (hand_of w))) works
 
-pub record AreGathered (items : List Item) (g : Gathered) : Type 0 where
+pub record AreGathered (items : List Item) (scoring : Scoring) (g : Gathered) : Type 0 where
   pub drawn : AreOnce (length items) g.drawn
-  pub replies : All (IsReplyOf items) g.replies.items
+  pub replies : All (IsReplyOf items scoring) g.replies.items
   pub once : (x : ℕ) → times x (numbers_of g.replies.items) ≤ times_in_all x g.drawn.lists.items

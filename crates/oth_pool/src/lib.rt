@@ -3,21 +3,24 @@
 
 mod access;
 mod collector;
+mod drawn;
 pub mod floor;
 mod frontier;
 mod gate;
-mod member;
-mod pursuit;
-mod query;
+mod height;
+mod hints;
+mod move_order;
+mod narrowing;
 mod reply;
+mod root_move;
 pub mod run;
+mod scene;
 mod solving;
 pub mod tasks;
-mod team;
 #[cfg(test)]
 mod tests;
-mod together;
 mod told;
+mod walk;
 mod window;
 pub mod work;
 mod workers;

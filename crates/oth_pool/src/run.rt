@@ -1,4 +1,4 @@
-// Workers over all items of a frontier.
+//! Workers over all items of a frontier.
 ghost use Rattle.std.specs.Prelude.{◌≡◌, ◌+◌, ◌≤◌, ℕ, IfSome, length, map, vec_len, vec_capacity, All, [], ◌∷◌};
 ghost use Rattle.oth_pool.specs.Watch.{IsSeatOf};
 ghost use Rattle.oth_pool.specs.Hands.{AreAllHands, IsCrew, count_of};
@@ -9,11 +9,16 @@ use crate::access::{TableAccess, WorkerCells};
 use crate::floor::{Floor, FloorSeat};
 use crate::frontier::Frontier;
 use crate::gate::Gate;
+use crate::height::Height;
+use crate::hints::{HintSeat, Hints};
 use crate::reply::Reply;
+use crate::scene::{Plan, Scene, orders_for};
 use crate::tasks::{Drawn, Hand, Tasks};
+use crate::walk::Walk;
 use crate::work::{Job, Work};
 use crate::workers::work_all;
-use oth_search::{Cells, Solved};
+use oth_rules::Scoring;
+use oth_search::{Cells, Solved, order};
 use std::alloc::Global;
 use std::thread::Threads;
 
@@ -22,6 +27,22 @@ use std::thread::Threads;
 pub struct Gathered {
     pub drawn: Drawn,
     pub replies: Vec<Reply>,
+}
+
+/// What a search is made with: the threads, the memory, the gate that hears of each item, and the number of workers.
+#[derive(Clone, Copy)]
+pub(crate) struct Means<'m, R, G> {
+    pub rt: &'m R,
+    pub alloc: Global,
+    pub gate: &'m G,
+    pub workers: u8,
+}
+
+// What the workers share besides the table.
+#[derive(Clone, Copy)]
+struct Shared<'s> {
+    floor: &'s Floor,
+    hints: Option<&'s Hints>,
 }
 
 /// Lets so many workers, 1 to 16, search the items of the frontier, each over cells of the table where there is one and a seat of
@@ -40,148 +61,179 @@ pub fn run_workers<'t, R: Threads + Sync, G: Gate>(
     requires crew { IsCrew workers }
     requires seat { IsSeatOf floor.now seat.old }
     ensures seat { IsSeatOf floor.now seat.new }
-    ensures gathered { AreGathered frontier.now result }
+    ensures gathered { AreGathered frontier.now floor.now.root.scoring result }
 {
-    run_knowing(rt, alloc, &[], frontier, floor, seat, workers, table, gate)
+    let root = floor.board();
+    let squares = order(&root);
+    let scene = Scene {
+        frontier,
+        root,
+        squares: squares.as_slice(),
+        plan: Plan::of(floor.scoring(), root.empties(), workers, table.is_some()),
+    };
+    let means = Means {
+        rt,
+        alloc,
+        gate,
+        workers,
+    };
+    run(&means, &scene, floor, seat, table).0
 }
 
-// The same, where so much is known of the boards after the root's moves.
-pub(crate) fn run_knowing<'t, R: Threads + Sync, G: Gate>(
-    rt: &R,
-    alloc: Global,
-    known: &[Solved],
-    frontier: &Frontier,
+/// The same, and what the workers found of the boards after the root's moves.
+pub(crate) fn run<'t, R: Threads + Sync, G: Gate>(
+    means: &Means<R, G>,
+    scene: &Scene,
     floor: &Floor,
     seat: &mut FloorSeat,
-    workers: u8,
     table: &mut Option<TableAccess<'t>>,
-    gate: &G,
-) -> Gathered
-    requires crew { IsCrew workers }
+) -> (Gathered, Vec<Solved>)
+    requires crew { IsCrew means.now.workers }
     requires seat { IsSeatOf floor.now seat.old }
     ensures seat { IsSeatOf floor.now seat.new }
-    ensures gathered { AreGathered frontier.now result }
+    ensures gathered { AreGathered scene.now.frontier.now scene.now.plan.scoring result.0 }
 {
-    let Ok((tasks, hands)) = Tasks::new(alloc, frontier, workers) else {
-        return nothing(alloc, frontier);
+    let alloc = means.alloc;
+    let Ok((tasks, hands)) = Tasks::new(alloc, scene.frontier, means.workers) else {
+        return nothing(alloc, scene);
+    };
+    let hints = hints_for(means, scene);
+    let shared = Shared {
+        floor,
+        hints: hints.as_ref(),
     };
     let count = hands.len();
-    let Some(seats) = seats_of(alloc, floor, seat, count) else {
-        return without_jobs(alloc, frontier, tasks, hands);
+    let Some(walks) = walks_of(alloc, scene.plan, count, &shared, seat, table) else {
+        return without_jobs(alloc, scene, tasks, hands);
     };
-    let (Ok(jobs), Ok(room)) = (
+    let (Ok(jobs), Ok(room), Ok(replies)) = (
         Vec::with_capacity(alloc, count),
         Vec::with_capacity(alloc, count),
+        Vec::with_capacity(alloc, scene.frontier.len() as usize),
     ) else {
-        return without_jobs(alloc, frontier, tasks, hands);
+        return without_jobs(alloc, scene, tasks, hands);
     };
-    let jobs = jobs_of(alloc, frontier, &tasks, floor, hands, seats, table, jobs);
-    let jobs = worked(rt, known, frontier, &tasks, floor, gate, jobs);
-    let replies = replies_of(alloc, frontier, floor, jobs.as_slice());
+    let jobs = jobs_of(alloc, scene, hands, walks, jobs);
+    let jobs = worked(means, scene, &tasks, jobs);
+    let replies = replies_of(scene, jobs.as_slice(), replies);
+    let found = found_by(alloc, jobs.as_slice());
     let hands = hands_in(room, jobs);
     let drawn = tasks.close(hands);
-    Gathered { drawn, replies }
+    (Gathered { drawn, replies }, found)
+}
+
+// The hints of several workers; one worker needs none.
+fn hints_for<R, G>(means: &Means<R, G>, scene: &Scene) -> Option<Hints> {
+    if means.workers == 1 {
+        return None;
+    }
+    Hints::new(means.alloc, orders_for(scene.root.empties()))
 }
 
 // All is left.
-fn nothing(alloc: Global, frontier: &Frontier) -> Gathered
-    ensures { AreGathered frontier.now result }
+fn nothing(alloc: Global, scene: &Scene) -> (Gathered, Vec<Solved>)
+    ensures { AreGathered scene.now.frontier.now scene.now.plan.scoring result.0 }
 {
-    Gathered {
-        drawn: Drawn::nothing(alloc, frontier.len()),
+    let gathered = Gathered {
+        drawn: Drawn::nothing(alloc, scene.frontier.len()),
         replies: Vec::new(alloc),
-    }
+    };
+    (gathered, Vec::new(alloc))
 }
 
 // The hands are closed before anything is drawn with them.
-fn without_jobs(alloc: Global, frontier: &Frontier, tasks: Tasks, hands: Vec<Hand>) -> Gathered
+fn without_jobs(
+    alloc: Global,
+    scene: &Scene,
+    tasks: Tasks,
+    hands: Vec<Hand>,
+) -> (Gathered, Vec<Solved>)
     requires hands { AreAllHands tasks hands.items }
-    requires count { count_of tasks ≡ length frontier.now }
-    ensures { AreGathered frontier.now result }
+    requires count { count_of tasks ≡ length scene.now.frontier.now }
+    ensures { AreGathered scene.now.frontier.now scene.now.plan.scoring result.0 }
 {
-    Gathered {
+    let _items = scene.frontier.len();
+    let gathered = Gathered {
         drawn: tasks.close(hands),
         replies: Vec::new(alloc),
-    }
+    };
+    (gathered, Vec::new(alloc))
 }
 
-// So many further seats of the floor.
-fn seats_of(
+// What so many workers search with.
+fn walks_of<'w, 't>(
     alloc: Global,
-    floor: &Floor,
-    seat: &mut FloorSeat,
+    plan: Plan,
     count: usize,
-) -> Option<Vec<FloorSeat>>
-    requires { IsSeatOf floor.now seat.old }
-    ensures seat { IsSeatOf floor.now seat.new }
-    ensures many { IfSome result (λ seats. vec_len seats ≡ count) }
-    ensures seats { IfSome result (λ seats. All (IsSeatOf floor.now) seats.items) }
+    shared: &Shared<'w>,
+    seat: &mut FloorSeat,
+    table: &mut Option<TableAccess<'t>>,
+) -> Option<Vec<Walk<'w, WorkerCells<'t>>>>
+    requires { IsSeatOf shared.now.floor.now seat.old }
+    ensures seat { IsSeatOf shared.now.floor.now seat.new }
+    ensures many { IfSome result (λ walks. vec_len walks ≡ count) }
 {
-    let Ok(mut seats) = Vec::with_capacity(alloc, count) else {
+    let Ok(mut walks) = Vec::with_capacity(alloc, count) else {
         return None;
     };
     for _ in 0..count {
-        let Ok(own) = floor.seat(alloc, seat) else {
+        let Ok(own) = shared.floor.seat(alloc, seat) else {
             return None;
         };
-        seats.push_reserved(own);
+        let height = Height::shared(shared.floor, own);
+        let hints = seat_of(shared.hints);
+        let cells = WorkerCells::of(alloc, table);
+        walks.push_reserved(Walk::of(alloc, plan, cells, height, hints));
     }
-    Some(seats)
+    Some(walks)
+}
+
+fn seat_of<'h>(hints: Option<&'h Hints>) -> Option<HintSeat<'h>> {
+    match hints {
+        Some(hints) => HintSeat::of(hints),
+        None => None,
+    }
 }
 
 // A job for each hand.
-fn jobs_of<'t>(
+fn jobs_of<'w, C: Drop>(
     alloc: Global,
-    frontier: &Frontier,
-    tasks: &Tasks,
-    floor: &Floor,
+    scene: &Scene,
     hands: Vec<Hand>,
-    mut seats: Vec<FloorSeat>,
-    table: &mut Option<TableAccess<'t>>,
-    mut jobs: Vec<Job<WorkerCells<'t>>>,
-) -> Vec<Job<WorkerCells<'t>>>
-    requires hands { AreAllHands tasks.now hands.items }
-    requires seats { All (IsSeatOf floor.now) seats.items }
-    requires many { vec_len seats ≡ vec_len hands }
+    mut walks: Vec<Walk<'w, C>>,
+    mut jobs: Vec<Job<'w, C>>,
+) -> Vec<Job<'w, C>>
+    requires many { vec_len walks ≡ vec_len hands }
     requires room { (vec_len jobs ≡ 0) × (vec_len hands ≤ vec_capacity jobs) }
     ensures hands { map (λ j. j.work.hand) result.items ≡ hands.items }
-    ensures each { All (λ j. Holds frontier.now floor.now j.work) result.items }
+    ensures each { All (λ j. Holds scene.now.frontier.now scene.now.plan.scoring j.work) result.items }
     ensures many { vec_len result ≡ vec_len hands }
 {
-    let _count = tasks.count;
     for hand in hands {
-        let Some(seat) = seats.pop() else {
+        let Some(walk) = walks.pop() else {
             unreachable!()
         };
-        let replies = room_for(alloc, frontier.len());
-        let work = Work {
-            hand,
-            seat,
-            replies,
-        };
-        let cells = WorkerCells::of(alloc, table);
-        jobs.push_reserved(Job { work, cells });
+        let replies = room_for(alloc, scene.frontier.len());
+        let work = Work { hand, replies };
+        jobs.push_reserved(Job { work, walk });
     }
     jobs
 }
 
-// The jobs, when each has searched until no number was left.
-fn worked<R: Threads + Sync, G: Gate, C: Cells + Send + Drop>(
-    rt: &R,
-    known: &[Solved],
-    frontier: &Frontier,
+// The jobs, when each has searched until nothing was left.
+fn worked<'w, R: Threads + Sync, G: Gate, C: Cells + Send + Drop>(
+    means: &Means<R, G>,
+    scene: &Scene,
     tasks: &Tasks,
-    floor: &Floor,
-    gate: &G,
-    mut jobs: Vec<Job<C>>,
-) -> Vec<Job<C>>
+    mut jobs: Vec<Job<'w, C>>,
+) -> Vec<Job<'w, C>>
     requires hands { AreAllHands tasks.now (map (λ j. j.work.hand) jobs.items) }
-    requires each { All (λ j. Holds frontier.now floor.now j.work) jobs.items }
+    requires each { All (λ j. Holds scene.now.frontier.now scene.now.plan.scoring j.work) jobs.items }
     ensures hands { AreAllHands tasks.now (map (λ j. j.work.hand) result.items) }
-    ensures each { All (λ j. Holds frontier.now floor.now j.work) result.items }
-    ensures many { vec_len result ≡ vec_len jobs }
+    ensures each { All (λ j. Holds scene.now.frontier.now scene.now.plan.scoring j.work) result.items }
+    ensures many { vec_len result ≡ vec_len jobs.entry }
 {
-    work_all(rt, known, frontier, tasks, floor, gate, jobs.as_mut_slice());
+    work_all(means.rt, scene, tasks, means.gate, jobs.as_mut_slice());
     jobs
 }
 
@@ -195,56 +247,63 @@ pub(crate) fn room_for<T: Drop>(alloc: Global, count: u32) -> Vec<T>
     }
 }
 
-// All replies of the jobs.
-fn replies_of<C>(alloc: Global, frontier: &Frontier, floor: &Floor, jobs: &[Job<C>]) -> Vec<Reply>
-    requires { All (λ j. Holds frontier.now floor.now j.work) jobs.now }
-    ensures replies { All (IsReplyOf frontier.now) result.items }
+// All replies of the jobs, as far as there is room for them.
+fn replies_of<'w, C>(scene: &Scene, jobs: &[Job<'w, C>], room: Vec<Reply>) -> Vec<Reply>
+    requires each { All (λ j. Holds scene.now.frontier.now scene.now.plan.scoring j.work) jobs.now }
+    requires room { room.items ≡ [] }
+    ensures replies { All (IsReplyOf scene.now.frontier.now scene.now.plan.scoring) result.items }
     ensures once { (x : ℕ) → times x (numbers_of result.items) ≤ times_by x (map (λ j. j.work) jobs.now) }
 {
-    let _scoring = floor.scoring();
-    let mut replies = room_for(alloc, frontier.len());
+    let mut replies = room;
     for job in jobs {
-        take_all(frontier, &mut replies, job.work.replies.as_slice());
+        take_all(scene, &mut replies, job.work.replies.as_slice());
     }
     replies
 }
 
+// What the workers found of the boards after the root's moves.
+fn found_by<'w, C>(alloc: Global, jobs: &[Job<'w, C>]) -> Vec<Solved> {
+    let mut found = Vec::new(alloc);
+    for job in jobs {
+        for solved in job.walk.found.as_slice() {
+            let _ = found.push(*solved);
+        }
+    }
+    found
+}
+
 // The hands of the jobs, in the room.
-fn hands_in<C: Drop>(mut room: Vec<Hand>, jobs: Vec<Job<C>>) -> Vec<Hand>
+fn hands_in<'w, C: Drop>(mut room: Vec<Hand>, jobs: Vec<Job<'w, C>>) -> Vec<Hand>
     requires { (vec_len room ≡ 0) × (vec_len jobs ≤ vec_capacity room) }
-    ensures { result.items ≡ map (λ j. j.work.hand) jobs.items }
+    ensures { result.items ≡ map (λ j. j.work.hand) jobs.entry.items }
 {
     for job in jobs {
-        let Job { work, cells: _ } = job;
-        let Work {
-            hand,
-            seat: _,
-            replies: _,
-        } = work;
+        let Job { work, walk: _ } = job;
+        let Work { hand, replies: _ } = work;
         room.push_reserved(hand);
     }
     room
 }
 
 // Adds these replies, as far as there is room.
-fn take_all(frontier: &Frontier, replies: &mut Vec<Reply>, more: &[Reply])
-    requires old { All (IsReplyOf frontier.now) replies.old.items }
-    requires more { All (IsReplyOf frontier.now) more.now }
-    ensures all { All (IsReplyOf frontier.now) replies.new.items }
+fn take_all(scene: &Scene, replies: &mut Vec<Reply>, more: &[Reply])
+    requires old { All (IsReplyOf scene.now.frontier.now scene.now.plan.scoring) replies.old.items }
+    requires more { All (IsReplyOf scene.now.frontier.now scene.now.plan.scoring) more.now }
+    ensures all { All (IsReplyOf scene.now.frontier.now scene.now.plan.scoring) replies.new.items }
     ensures once { (x : ℕ) → times x (numbers_of replies.new.items) ≤ times x (numbers_of replies.old.items) + times x (numbers_of more.now) }
 {
     for reply in more {
-        take_one(frontier, replies, reply);
+        take_one(scene, replies, reply);
     }
 }
 
-fn take_one(frontier: &Frontier, replies: &mut Vec<Reply>, reply: &Reply)
-    requires old { All (IsReplyOf frontier.now) replies.old.items }
-    requires one { IsReplyOf frontier.now reply.now }
-    ensures all { All (IsReplyOf frontier.now) replies.new.items }
+fn take_one(scene: &Scene, replies: &mut Vec<Reply>, reply: &Reply)
+    requires old { All (IsReplyOf scene.now.frontier.now scene.now.plan.scoring) replies.old.items }
+    requires one { IsReplyOf scene.now.frontier.now scene.now.plan.scoring reply.now }
+    ensures all { All (IsReplyOf scene.now.frontier.now scene.now.plan.scoring) replies.new.items }
     ensures once { (x : ℕ) → times x (numbers_of replies.new.items) ≤ times x (numbers_of replies.old.items) + times x (numbers_of (reply.now ∷ [])) }
 {
-    let _items = frontier.len();
+    let _items = scene.frontier.len();
     if replies.len() < replies.capacity() {
         replies.push_reserved(*reply);
     }

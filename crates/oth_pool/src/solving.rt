@@ -1,4 +1,4 @@
-// The whole search of a board.
+//! The whole search of a board.
 ghost use Rattle.std.specs.Prelude.{◌≡◌, ◌↔◌, ◌<◌, ◌≤◌, true, IsTrue, IfOk, IfErr, length};
 ghost use Rattle.oth_rules.specs.Position.{empty_count};
 ghost use Rattle.oth_rules.specs.Move.{can_move};
@@ -8,26 +8,29 @@ ghost use Rattle.oth_pool.specs.Hands.{IsCrew};
 ghost use Rattle.oth_pool.specs.Watch.{IsSeatOf};
 
 use crate::access::{TableAccess, WorkerCells};
-use crate::floor::{Floor, FloorSeat};
+use crate::collector::Collector;
+use crate::drawn::search_item;
+use crate::floor::Floor;
 use crate::frontier::Frontier;
 use crate::gate::Gate;
-use crate::query::answered;
-use crate::run::{room_for, run_knowing};
-use crate::together::known_together;
-use crate::told::{answer_in, bounds_in, passed_on};
-use crate::workers::search_item;
+use crate::height::Height;
+use crate::reply::Reply;
+use crate::run::{Means, room_for, run};
+use crate::scene::{Plan, Scene};
+use crate::told::{answer_in, bounds_in};
+use crate::walk::Walk;
 use oth_book::Book;
 use oth_rules::{Board, Scoring, Square};
 use oth_search::{
-    Answer, Cells, Interval, Solved, before_pass, ended, known_below, known_of, order, solve_moves,
+    Answer, Cells, Solved, before_pass, ended, known_below, known_of, order, solve_moves,
 };
 use oth_table::SharedTable;
 use std::alloc::Global;
 use std::thread::Threads;
 use thiserror::Error;
 
-// Boards with fewer empty squares are searched sooner than workers are started.
-const FEWEST_EMPTIES_SHARED: u8 = 13;
+// Below fewer empty squares more than two workers cost more than they bring.
+const FEWEST_EMPTIES_CREWED: u8 = 12;
 
 /// Why a board isn't solved: the first of these that holds.
 #[derive(Clone, Copy, PartialEq, Eq, Debug, Error)]
@@ -75,7 +78,13 @@ pub fn solve<R: Threads + Sync, G: Gate>(
         return Ok(answer);
     }
     let told = bounds_in(book, board, scoring);
-    Ok(answer(rt, alloc, &told, workers, cells, gate))
+    let means = Means {
+        rt,
+        alloc,
+        gate,
+        workers: crew(workers, empties),
+    };
+    Ok(answer(&means, &told, cells))
 }
 
 fn is_power(cells: u32) -> bool
@@ -89,17 +98,22 @@ fn is_power(cells: u32) -> bool
     false
 }
 
+// So many of the workers as pay for a board with so many empty squares.
+fn crew(workers: u8, empties: u8) -> u8
+    requires { IsCrew workers }
+    ensures { IsCrew result }
+{
+    if empties < FEWEST_EMPTIES_CREWED {
+        workers.min(2)
+    } else {
+        workers
+    }
+}
+
 // The answer of the board of which so much is told.
-fn answer<R: Threads + Sync, G: Gate>(
-    rt: &R,
-    alloc: Global,
-    told: &Solved,
-    workers: u8,
-    cells: u32,
-    gate: &G,
-) -> Answer
+fn answer<R: Threads + Sync, G: Gate>(means: &Means<R, G>, told: &Solved, cells: u32) -> Answer
     requires few { IsSolvable told.now.board }
-    requires crew { IsCrew workers }
+    requires crew { IsCrew means.now.workers }
     ensures board { result.board ≡ told.now.board }
     ensures scoring { result.scoring ≡ told.now.scoring }
 {
@@ -108,34 +122,31 @@ fn answer<R: Threads + Sync, G: Gate>(
         return ended(board, told.scoring);
     }
     if board.moves() == 0 {
-        let passed = passed_on(*told);
-        let answer = answer_moves(rt, alloc, &passed, workers, cells, gate);
+        let answer = answer_moves(means, &told.passed(), cells);
         return before_pass(board, answer);
     }
-    answer_moves(rt, alloc, told, workers, cells, gate)
+    answer_moves(means, told, cells)
 }
 
 // The answer where the mover has a move, over a table where there is one.
 fn answer_moves<R: Threads + Sync, G: Gate>(
-    rt: &R,
-    alloc: Global,
+    means: &Means<R, G>,
     told: &Solved,
-    workers: u8,
     cells: u32,
-    gate: &G,
 ) -> Answer
     requires some { can_move told.now.board ≡ true }
     requires few { IsSolvable told.now.board }
-    requires crew { IsCrew workers }
+    requires crew { IsCrew means.now.workers }
     ensures board { result.board ≡ told.now.board }
     ensures scoring { result.scoring ≡ told.now.scoring }
 {
-    match SharedTable::new(alloc, useful(cells, told.board.empties()), told.scoring) {
+    let cells = useful(cells, told.board.empties());
+    match SharedTable::new(means.alloc, cells, told.scoring) {
         Ok((table, seat)) => {
             let mut access = Some(TableAccess::of(&table, seat));
-            answer_over(rt, alloc, told, workers, &mut access, gate)
+            answer_over(means, told, &mut access)
         }
-        Err(_) => answer_over(rt, alloc, told, workers, &mut None, gate),
+        Err(_) => answer_over(means, told, &mut None),
     }
 }
 
@@ -144,170 +155,142 @@ fn useful(cells: u32, empties: u8) -> u32 {
     match empties {
         0..=9 => cells.min(1 << 6),
         10..=12 => cells.min(1 << 10),
-        13..=14 => cells.min(1 << 13),
+        13..=14 => cells.min(1 << 12),
+        15..=16 => cells.min(1 << 14),
+        17 => cells.min(1 << 15),
         _ => cells,
     }
 }
 
-// The same: by the boards after the moves first, then by the items of the frontier, and then by what they left open.
+// The same: by the items of the frontier, and then by what they left open.
 fn answer_over<'t, R: Threads + Sync, G: Gate>(
-    rt: &R,
-    alloc: Global,
+    means: &Means<R, G>,
     told: &Solved,
-    workers: u8,
     access: &mut Option<TableAccess<'t>>,
-    gate: &G,
 ) -> Answer
     requires some { can_move told.now.board ≡ true }
     requires few { IsSolvable told.now.board }
-    requires crew { IsCrew workers }
+    requires crew { IsCrew means.now.workers }
     ensures board { result.board ≡ told.now.board }
     ensures scoring { result.scoring ≡ told.now.scoring }
 {
-    let mut cells = WorkerCells::of(alloc, access);
-    let known = known_moves(rt, alloc, told, workers, access, &mut cells);
     let frontier = Frontier::of(&told.board, 2);
-    let found = searched(
-        rt,
-        alloc,
-        told,
-        known.as_slice(),
-        &frontier,
-        workers,
-        access,
-        gate,
-        &mut cells,
+    let squares = order(&told.board);
+    let plan = Plan::of(
+        told.scoring,
+        told.board.empties(),
+        means.workers,
+        access.is_some(),
     );
-    let known = children_of(alloc, told, known.as_slice(), found.as_slice());
+    let scene = Scene {
+        frontier: &frontier,
+        root: told.board,
+        squares: squares.as_slice(),
+        plan,
+    };
+    let known = searched(means, &scene, told, access);
     let root = root_by(told, known.as_slice());
+    let mut cells = WorkerCells::of(means.alloc, access);
     solve_moves(root, known.as_slice(), &mut cells)
 }
 
-// What the caller and the workers find of the boards after the moves, so far that the best are told from the rest.
-fn known_moves<'t, R: Threads + Sync>(
-    rt: &R,
-    alloc: Global,
+// What is found of the boards after the root's moves: by the workers, and by the caller where they left an item.
+fn searched<'t, R: Threads + Sync, G: Gate>(
+    means: &Means<R, G>,
+    scene: &Scene,
     told: &Solved,
-    workers: u8,
     access: &mut Option<TableAccess<'t>>,
-    cells: &mut WorkerCells<'t>,
-) -> Vec<Solved> {
-    let empties = told.board.empties();
-    if workers > 1 && FEWEST_EMPTIES_SHARED <= empties {
-        known_together(rt, alloc, told, workers, access, cells)
-    } else {
-        known_alone(alloc, told, cells)
-    }
-}
-
-// The same by the caller alone.
-fn known_alone<C: Cells>(alloc: Global, told: &Solved, cells: &mut C) -> Vec<Solved> {
-    let mut known = room_for(alloc, 64);
-    let squares = order(&told.board);
-    for square in squares.as_slice() {
-        let root = root_by(told, known.as_slice());
-        if let Some(child) = root.board.play(*square) {
-            let limit = -root.interval.lower;
-            let _ = known.push(Solved::at_most(&child, limit, cells, root.scoring));
-        }
-    }
-    known
-}
-
-// What is found of the boards of the frontier: by the workers, and by the caller where they left one.
-fn searched<'t, R: Threads + Sync, G: Gate, C: Cells>(
-    rt: &R,
-    alloc: Global,
-    told: &Solved,
-    known: &[Solved],
-    frontier: &Frontier,
-    workers: u8,
-    access: &mut Option<TableAccess<'t>>,
-    gate: &G,
-    cells: &mut C,
 ) -> Vec<Solved>
-    requires { IsCrew workers }
+    requires { IsCrew means.now.workers }
 {
-    let root = root_by(told, known);
+    let alloc = means.alloc;
     let Ok((floor, mut seat)) = Floor::new(alloc, &told.board, told.scoring) else {
-        return searched_alone(alloc, &root, known, frontier, gate, cells);
+        return searched_alone(means, scene, told, access);
     };
-    let mut found = room_for(alloc, frontier.len());
-    let _ = floor.raise(&mut seat, &root);
-    let gathered = run_knowing(
-        rt, alloc, known, frontier, &floor, &mut seat, workers, access, gate,
-    );
+    let _ = floor.raise(&mut seat, told);
+    let (gathered, found) = run(means, scene, &floor, &mut seat, access);
+    let mut collector = Collector::new(scene.frontier, told.scoring);
     for reply in gathered.replies.as_slice() {
-        let _ = found.push(reply.solved);
+        let _ = collector.take(*reply);
     }
-    let left = gathered.drawn.left.as_slice();
-    search_left(
-        known, frontier, left, &floor, &mut seat, gate, cells, &mut found,
-    );
-    found
+    let cells = WorkerCells::of(alloc, access);
+    let plan = Plan::alone(told.scoring);
+    let mut walk = Walk::of(alloc, plan, cells, Height::shared(&floor, seat), None);
+    walk.found = found;
+    for number in gathered.drawn.left.as_slice() {
+        search_left(scene, *number, means.gate, &mut walk, &mut collector);
+    }
+    children_of(scene, &collector, &mut walk)
 }
 
 // The same by the caller alone, where there is no memory for a floor.
-fn searched_alone<G: Gate, C: Cells>(
-    alloc: Global,
-    root: &Solved,
-    known: &[Solved],
-    frontier: &Frontier,
-    gate: &G,
-    cells: &mut C,
+fn searched_alone<'t, R: Threads + Sync, G: Gate>(
+    means: &Means<R, G>,
+    scene: &Scene,
+    told: &Solved,
+    access: &mut Option<TableAccess<'t>>,
 ) -> Vec<Solved> {
-    let mut found = room_for(alloc, frontier.len());
-    for number in 0..frontier.len() {
-        if let Some(item) = frontier.entry(number) {
-            gate.before(number);
-            let least = root.interval.lower;
-            let solved = answered(known, &item, &root.board, least, cells, root.scoring);
-            gate.after(number);
-            let _ = found.push(solved);
-        }
+    let cells = WorkerCells::of(means.alloc, access);
+    let plan = Plan::alone(told.scoring);
+    let mut walk = Walk::of(means.alloc, plan, cells, Height::Own(*told), None);
+    let mut collector = Collector::new(scene.frontier, told.scoring);
+    for number in 0..scene.frontier.len() {
+        search_left(scene, number, means.gate, &mut walk, &mut collector);
     }
-    found
+    children_of(scene, &collector, &mut walk)
 }
 
-// Searches the items that no worker took, and adds what is found of them.
+// Searches an item that no worker took, and keeps what is found of it.
 fn search_left<G: Gate, C: Cells>(
-    known: &[Solved],
-    frontier: &Frontier,
-    left: &[u32],
-    floor: &Floor,
-    seat: &mut FloorSeat,
+    scene: &Scene,
+    number: u32,
     gate: &G,
-    cells: &mut C,
-    found: &mut Vec<Solved>,
-)
-    requires { IsSeatOf floor.now seat.old }
-{
-    for number in left {
-        if let Some(item) = frontier.entry(*number) {
-            let solved = search_item(known, &item, *number, floor, seat, gate, cells);
-            let _ = found.push(solved);
-        }
+    walk: &mut Walk<C>,
+    collector: &mut Collector,
+) {
+    if let Some(item) = scene.frontier.entry(number) {
+        let solved = search_item(scene, number, &item, gate, walk);
+        let _ = collector.take(Reply { number, solved });
     }
 }
 
-// What is known of the board after each move: as before, or else by the boards one ply below it that were found.
-fn children_of(alloc: Global, told: &Solved, known: &[Solved], found: &[Solved]) -> Vec<Solved> {
-    let mut children = room_for(alloc, 64);
-    for number in 0..64 {
-        if let Some(child) = told.board.play(Square::numbered(number)) {
-            let _ = children.push(closer(child, known, found, told.scoring));
+// What is known of the boards after the root's moves, by what workers found of them and by the replies. The floor is raised by each.
+fn children_of<C: Cells>(scene: &Scene, collector: &Collector, walk: &mut Walk<C>) -> Vec<Solved> {
+    let replies = replies_of(walk.alloc, scene.frontier.len(), collector);
+    let mut children = room_for(walk.alloc, 64);
+    for square in scene.squares {
+        if let Some(child) = scene.root.play(*square) {
+            let by_workers = closest_of(child, walk.found.as_slice(), scene.plan.scoring);
+            let by_replies = known_below(child, 1, replies.as_slice(), scene.plan.scoring);
+            let known = by_workers.joined(&by_replies);
+            walk.raise_by(&scene.root, *square, &known);
+            let _ = children.push(known);
         }
     }
     children
 }
 
-fn closer(child: Board, known: &[Solved], found: &[Solved], scoring: Scoring) -> Solved {
-    let before = known_of(child, known, scoring);
-    if before.interval == Interval::all() {
-        known_below(child, 1, found, scoring)
-    } else {
-        before
+// What was found of the items.
+fn replies_of(alloc: Global, count: u32, collector: &Collector) -> Vec<Solved> {
+    let mut replies = room_for(alloc, count);
+    for number in 0..count {
+        if let Some(solved) = collector.solved(number) {
+            let _ = replies.push(solved);
+        }
     }
+    replies
+}
+
+// What all of these tell of the board.
+fn closest_of(board: Board, found: &[Solved], scoring: Scoring) -> Solved
+    ensures board { result.board ≡ board }
+    ensures scoring { result.scoring ≡ scoring }
+{
+    let mut closest = Solved::unknown(board, scoring);
+    for solved in found {
+        closest = closest.joined(solved);
+    }
+    closest
 }
 
 // The greatest lower bound of a board that what is told of it and what is known of the boards after its moves give.

@@ -2,10 +2,10 @@
 
 mod agreement;
 mod book;
+mod crews;
 mod gate;
 mod refused;
 mod rows;
-mod together;
 
 ghost use Rattle.std.specs.Prelude.{◌≡◌, ◌<◌, ◌≤◌, ℕ, IfSome, length, slice_index_or};
 ghost use Rattle.oth_rules.specs.Position.{empty_count};

@@ -1,11 +1,9 @@
-// What a book tells of a board before it is searched.
-ghost use Rattle.std.specs.Prelude.{◌≡◌, IfSome, true, false};
-ghost use Rattle.oth_rules.specs.Position.{pass};
-ghost use Rattle.oth_rules.specs.Move.{can_move};
+//! What a book tells of a board before it is searched.
+ghost use Rattle.std.specs.Prelude.{◌≡◌, IfSome};
 
 use oth_book::Book;
 use oth_rules::{Board, Scoring};
-use oth_search::{Answer, Interval, Solved};
+use oth_search::{Answer, Solved};
 
 // The answer of a book by this scoring, where it has the board with exact bounds.
 pub(crate) fn answer_in(book: Option<&Book>, board: &Board, scoring: Scoring) -> Option<Answer>
@@ -33,22 +31,5 @@ pub(crate) fn bounds_in(book: Option<&Book>, board: &Board, scoring: Scoring) ->
     match book.find_bounds(board) {
         Some(told) => told,
         None => Solved::unknown(*board, scoring),
-    }
-}
-
-// Of the board after a forced pass, what is told of the one before it.
-pub(crate) fn passed_on(told: Solved) -> Solved
-    requires none { can_move told.board ≡ false }
-    requires some { can_move (pass told.board) ≡ true }
-    ensures board { result.board ≡ pass told.board }
-    ensures scoring { result.scoring ≡ told.scoring }
-{
-    Solved {
-        board: told.board.pass(),
-        scoring: told.scoring,
-        interval: Interval {
-            lower: -told.interval.upper,
-            upper: -told.interval.lower,
-        },
     }
 }

@@ -1,6 +1,8 @@
-// The window of a search.
+//! The window of a search.
 ghost use Rattle.std.specs.Prelude.{pos, negsuc, ◌≤ℤ◌};
 ghost use Rattle.oth_search.specs.Bound.{IsWindow};
+
+use oth_search::{Interval, Solved};
 
 /// What a search is to decide: whether a value is at most `alpha` or at least `beta`, or what it is between them.
 #[derive(Clone, Copy)]
@@ -75,4 +77,39 @@ impl Window {
             beta: self.beta,
         })
     }
+
+    /// Whether these bounds decide it.
+    pub fn is_decided(self, bounds: Interval) -> bool {
+        bounds.decides(self.alpha, self.beta)
+    }
 }
+
+/// Whether the value of the board after a root's move is known, or that the root gets less than so much by it.
+pub(crate) fn is_settled(child: &Solved, least: i8) -> bool
+    requires low { negsuc 63 ≤ℤ least }
+    requires high { least ≤ℤ pos 64 }
+{
+    child.interval.lower == child.interval.upper || child.interval.lower > -least
+}
+
+/// The window that comes next for the board after a root's move, where its value is at most so much and the root has a floor: at
+/// first a null one at the floor, then some below the bound, and at last one for the value.
+pub(crate) fn next_window(most: i8, floor: i8, falls: u8) -> Window
+    requires low { negsuc 63 ≤ℤ floor }
+    requires high { floor ≤ℤ pos 64 }
+    requires least { negsuc 63 ≤ℤ most }
+    requires most { most ≤ℤ pos 64 }
+{
+    if floor == -64 {
+        Window::all()
+    } else if most > -floor {
+        Window::at(1 - floor)
+    } else if falls < NULL_WINDOWS {
+        Window::at(most)
+    } else {
+        Window::below(most)
+    }
+}
+
+// How many null windows are tried below a bound, before a search for the value.
+const NULL_WINDOWS: u8 = 2;

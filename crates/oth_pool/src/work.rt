@@ -1,19 +1,18 @@
-// What one worker has of its own.
-use crate::floor::FloorSeat;
+//! What one worker has of its own.
 use crate::reply::Reply;
 use crate::tasks::Hand;
+use crate::walk::Walk;
 
-/// What one worker draws with, reads the floor with, and found.
+/// What a worker draws with, and its replies.
 #[derive(Drop)]
 pub struct Work {
     pub(crate) hand: Hand,
-    pub(crate) seat: FloorSeat,
     pub(crate) replies: Vec<Reply>,
 }
 
-/// A worker's work, and the cells over which it searches.
+/// A worker's work, and what it searches with.
 #[derive(Drop)]
-pub struct Job<C> {
-    pub(crate) work: Work,
-    pub(crate) cells: C,
+pub(crate) struct Job<'w, C> {
+    pub work: Work,
+    pub walk: Walk<'w, C>,
 }

@@ -1,9 +1,9 @@
 //! Want of memory. Each of these tests holds whichever one of its requests for memory is refused; `bench/refusals.py` runs each of
 //! them once for each request, thread starts among them.
 
+use super::crews::BOARDS;
 use super::gate::Hearing;
 use super::rows::ROWS;
-use super::together::BOARDS;
 use super::{A, CORNERS, board, drawn, lifted, solved};
 use crate::{Floor, Frontier, Open, Tasks, solve};
 use oth_rules::{Board, Scoring, Square};

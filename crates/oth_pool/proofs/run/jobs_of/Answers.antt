@@ -1,27 +1,21 @@
 use Rattle.std.proofs.Common.{◌∷◌, ◌++◌, [], map, ap, ◌∙◌, arith, length-append, Some}
 use Rattle.std.proofs.lemmas.List.{map-append}
-use Rattle.std.proofs.lemmas.List.Elements.{All-pop}
-use Rattle.oth_pool.specs.declared.access.WorkerCells.{WorkerCells}
 use Rattle.oth_pool.specs.declared.work.Job.{Job}
 use Rattle.oth_pool.specs.declared.tasks.state.Hand.{Hand}
-use Rattle.oth_pool.specs.Watch.{Watcher, IsSeatOf}
 use Rattle.oth_pool.specs.Working.{Holds}
 use Rattle.oth_pool.proofs.Workings.{All-longer, no_replies}
 use Rattle.oth_pool.proofs.run.jobs_of.Goals as goal
 
 pub loop-hand-preserved : goal.loop-hand-preserved
-loop-hand-preserved c =
+loop-hand-preserved g c =
     let inv = c.loop-hand.invariant in
-    let f : Job WorkerCells → Hand = λ j. j.work.hand in
-    let H : Job WorkerCells → Type 0 = λ j. Holds c.args.frontier.now c.args.floor.now j.work in
-    let S : Watcher → Type 0 = IsSeatOf c.args.floor.now in
-    let popped = All-pop S c.loop-hand.seats.items c.pop.new.self.items (Some c.in-Some-pop.seat) c.in-Some-pop.ensures.items inv.3 in
+    let f : Job g.row.C.Denot → Hand = λ j. j.work.hand in
+    let H : Job g.row.C.Denot → Type 0 = λ j. Holds c.args.scene.now.frontier.now c.args.scene.now.plan.scoring j.work in
     let pushed = c.push_reserved.ensures in
     let one_less = c.in-Some-pop.ensures.len in (
       ap (map f) pushed.items ∙ (map-append f c.loop-hand.jobs.items _ ∙ ap (λ l. l ++ c.in-Some.hand ∷ []) inv.0),
-      All-longer H c.loop-hand.jobs.items c.push_reserved.new.self.items _ pushed.items inv.1 (no_replies _ _ _ popped.1 c.room_for-replies.ensures),
+      All-longer H c.loop-hand.jobs.items c.push_reserved.new.self.items _ pushed.items inv.1 (no_replies _ _ _ c.room_for-replies.ensures),
       omega (arith, length-append c.loop-hand.yielded (c.in-Some.hand ∷ [])),
-      popped.0,
       omega (arith, pushed.len, length-append c.loop-hand.yielded (c.in-Some.hand ∷ [])),
       omega (arith, pushed.capacity),
     )

@@ -1,11 +1,14 @@
 //! Boards whose moves several workers search together: what they answer, and the hints that they give each other.
 
-use crate::member::Member;
-use crate::pursuit::search_moves;
-use crate::team::Team;
-use crate::{Open, solve};
+use crate::drawn::settle_all;
+use crate::height::Height;
+use crate::hints::{HintSeat, Hints};
+use crate::move_order::MoveOrder;
+use crate::scene::{Plan, Scene};
+use crate::walk::Walk;
+use crate::{Frontier, Open, solve};
 use oth_rules::{Board, Scoring, Square};
-use oth_search::{Answer, NoCells, order, solve_alone};
+use oth_search::{Answer, NoCells, Solved, order, solve_alone};
 use std::process::Abort;
 use std::test::Fail;
 use std::thread::Threads;
@@ -82,12 +85,25 @@ fn check_settled<R: AllocGlobal + Abort>(rt: &R, words: [u64; 2]) {
     let Some(alone) = answered_alone(words, Scoring::Winner) else {
         panic!(rt; "no answer")
     };
-    let team = Team::new(rt.alloc(), -64, false, Scoring::Winner);
-    let mut member = Member::of(rt.alloc(), NoCells, Vec::new(rt.alloc()));
+    let frontier = Frontier::of(&alone.board, 1);
     let squares = order(&alone.board);
-    search_moves(&alone.board, squares.as_slice(), &team, &mut member);
-    assert!(rt; team.settled() == squares.len() as u32);
-    assert!(rt; team.floor() == alone.score);
+    let plan = Plan {
+        scoring: Scoring::Winner,
+        fewest: 12,
+        dealt: 64,
+        shares: false,
+    };
+    let scene = Scene {
+        frontier: &frontier,
+        root: alone.board,
+        squares: squares.as_slice(),
+        plan,
+    };
+    let height = Height::Own(Solved::unknown(alone.board, Scoring::Winner));
+    let mut walk = Walk::of(rt.alloc(), plan, NoCells, height, None);
+    settle_all(&scene, &mut walk);
+    assert!(rt; walk.settled() == squares.len() as u64);
+    assert!(rt; walk.floor() == alone.score);
 }
 
 #[test]
@@ -104,47 +120,72 @@ fn one_worker_settles_each_move_before_a_pass(rt: HostRuntime) {
     }
 }
 
-#[test]
-fn a_floor_of_hints_never_falls(rt: HostRuntime) {
-    for reached in [-64, -3, 64] {
-        let team = Team::new(rt.alloc(), reached, true, Scoring::Winner);
-        assert!(rt; team.floor() == reached);
-        for score in [-64, 0, 64, -1] {
-            let before = team.floor();
-            team.raise(score);
-            assert!(rt; team.floor() == before.max(score));
-        }
+fn hint_seat<'h>(hints: &'h Option<Hints>) -> Option<HintSeat<'h>> {
+    match hints {
+        Some(hints) => HintSeat::of(hints),
+        None => None,
     }
 }
 
 #[test]
 fn a_marked_board_is_searched_until_its_mark_is_gone(rt: HostRuntime) -> Result<(), Fail> {
-    let team = Team::new(rt.alloc(), -64, true, Scoring::Winner);
+    let hints = Hints::new(rt.alloc(), 1);
+    let (Some(mut mine), Some(mut theirs)) = (hint_seat(&hints), hint_seat(&hints)) else {
+        panic!(rt; "no hints")
+    };
     let (Ok(one), Ok(other)) = (
         Board::of(BOARDS[0][0], BOARDS[0][1]),
         Board::of(BOARDS[1][0], BOARDS[1][1]),
     ) else {
         panic!(rt; "no boards")
     };
-    assert!(rt; !team.is_searched(&one) && !team.is_searched(&other));
-    team.begin(&one);
-    assert!(rt; team.is_searched(&one) && !team.is_searched(&other));
-    team.end(&other);
-    assert!(rt; team.is_searched(&one));
-    team.end(&one);
-    assert!(rt; !team.is_searched(&one));
+    assert!(rt; !theirs.is_searched(&one) && !theirs.is_searched(&other));
+    mine.begin(&one);
+    assert!(rt; theirs.is_searched(&one) && !theirs.is_searched(&other));
+    mine.end(&other);
+    assert!(rt; theirs.is_searched(&one));
+    mine.end(&one);
+    assert!(rt; !theirs.is_searched(&one));
     Ok(())
 }
 
 #[test]
 fn moves_are_settled_one_by_one(rt: HostRuntime) {
-    let team = Team::new(rt.alloc(), -64, false, Scoring::Discs);
-    assert!(rt; team.settled() == 0);
+    let hints = Hints::new(rt.alloc(), 1);
+    let (Some(mut mine), Some(mut theirs)) = (hint_seat(&hints), hint_seat(&hints)) else {
+        panic!(rt; "no hints")
+    };
+    assert!(rt; theirs.settled() == 0);
     for number in 0..64 {
         let square = Square::numbered(number);
-        assert!(rt; !team.is_settled(square));
-        team.settle(square);
-        team.settle(square);
-        assert!(rt; team.is_settled(square) && team.settled() == u32::from(number) + 1);
+        assert!(rt; !theirs.is_settled(square));
+        mine.settle(square);
+        mine.settle(square);
+        assert!(rt; theirs.is_settled(square) && theirs.settled() == u64::from(number) + 1);
     }
+}
+
+#[test]
+fn an_order_is_kept_for_its_board(rt: HostRuntime) {
+    let hints = Hints::new(rt.alloc(), 64);
+    let (Some(mut mine), Some(mut theirs)) = (hint_seat(&hints), hint_seat(&hints)) else {
+        panic!(rt; "no hints")
+    };
+    let (Ok(board), Ok(other)) = (
+        Board::of(BOARDS[0][0], BOARDS[0][1]),
+        Board::of(BOARDS[1][0], BOARDS[1][1]),
+    ) else {
+        panic!(rt; "no boards")
+    };
+    let squares = order(&board);
+    assert!(rt; theirs.order_of(&board).is_none());
+    mine.keep_order(&board, MoveOrder::of(squares.as_slice()));
+    assert!(rt; theirs.order_of(&other).is_none());
+    let Some(kept) = theirs.order_of(&board) else {
+        panic!(rt; "no order")
+    };
+    assert!(rt; kept.of_moves(board.moves()).as_slice() == squares.as_slice());
+    let last = squares[squares.len() - 1];
+    let turned = kept.with_first(last).of_moves(board.moves());
+    assert!(rt; turned.len() == squares.len() && turned[0] == last && turned[1] == squares[0]);
 }

@@ -1,8 +1,11 @@
-use Rattle.std.proofs.Common.{◌+◌, ◌*◌}
-use Rattle.oth_pool.proofs.pursuit.+narrowing.Given as goal
+use Rattle.std.proofs.Common.{◌+◌, ◌*◌, ◌≡◌}
+use Rattle.oth_pool.proofs.narrowing.+narrowing.Given as goal
 
 abbrev pub decreases-narrow : goal.decreases-narrow
 decreases-narrow g l = 5 * l.plies
+
+abbrev pub decreases-narrow_past : goal.decreases-narrow_past
+decreases-narrow_past g l = 5 * l.plies + 1
 
 abbrev pub decreases-narrow_moves : goal.decreases-narrow_moves
 decreases-narrow_moves g l = 5 * l.plies + 4

@@ -1,9 +1,0 @@
-use Rattle.std.proofs.Common.{arith}
-use Rattle.std.proofs.lemmas.Int.{ints}
-use Rattle.oth_pool.proofs.Passed.{Encloses-passed}
-use Rattle.oth_pool.proofs.told.passed_on.Goals as goal
-
-pub invariant_of-result-2 : goal.invariant_of-result-2
-invariant_of-result-2 c =
-    let s = c.args.told in
-    record { encloses = Encloses-passed s.scoring s.board _ s.interval.lower s.interval.upper _ _ c.pass.ensures c.requires.none c.requires.some s.encloses (omega (arith, ints)) (omega (arith, ints)) }

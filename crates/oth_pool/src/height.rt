@@ -1,0 +1,52 @@
+//! The floor as one worker sees it.
+ghost use Rattle.std.specs.Prelude.{pos, negsuc, ◌≤ℤ◌};
+ghost use Rattle.oth_pool.specs.Watch.{IsSeatOf};
+
+use crate::floor::{Floor, FloorSeat};
+use oth_search::Solved;
+
+/// A floor that workers share, with a seat of it.
+#[derive(Drop)]
+pub(crate) struct SharedHeight<'f> {
+    floor: &'f Floor,
+    seat: FloorSeat,
+    ghost sits: { IsSeatOf floor.now seat },
+}
+
+/// The greatest score that the root is known to reach, which a worker reads and raises: the floor that workers share, or bounds of its
+/// own where there is no memory for a floor.
+#[derive(Drop)]
+pub(crate) enum Height<'f> {
+    Shared(SharedHeight<'f>),
+    Own(Solved),
+}
+
+impl<'f> Height<'f> {
+    /// The shared floor by this seat of it.
+    pub fn shared(floor: &'f Floor, seat: FloorSeat) -> Height<'f>
+        requires { IsSeatOf floor.now seat }
+    {
+        Height::Shared(SharedHeight { floor, seat })
+    }
+
+    /// What the root reaches by all that is known.
+    pub fn least(&mut self) -> i8
+        ensures low { negsuc 63 ≤ℤ result }
+        ensures high { result ≤ℤ pos 64 }
+    {
+        match self {
+            Height::Shared(shared) => shared.floor.read(&mut shared.seat),
+            Height::Own(root) => root.interval.lower,
+        }
+    }
+
+    /// Tells bounds of the root.
+    pub fn raise(&mut self, bound: &Solved) {
+        match self {
+            Height::Shared(shared) => {
+                let _ = shared.floor.raise(&mut shared.seat, bound);
+            }
+            Height::Own(root) => *root = root.joined(bound),
+        }
+    }
+}

@@ -1,0 +1,120 @@
+//! A move of the root, searched until it needs no further search.
+ghost use Rattle.std.specs.Prelude.{◌≡◌, pos, negsuc, ◌≤ℤ◌};
+
+use crate::narrowing::{narrow, upper_of};
+use crate::walk::{MOST_PLIES, Walk};
+use crate::window::{Window, is_settled, next_window};
+use oth_rules::{Board, Square};
+use oth_search::{Cells, Interval, Solved, known_below};
+
+// How often the window is set anew, by a risen floor or a closer bound.
+const MOST_WINDOWS: u32 = 256;
+
+// How many searches may bring nothing new.
+const MOST_IN_VAIN: u8 = 4;
+
+/// A move of the root, and the board after it.
+#[derive(Clone, Copy)]
+pub(crate) struct RootMove {
+    pub root: Board,
+    pub square: Square,
+    pub child: Board,
+}
+
+impl RootMove {
+    /// The root's move to this square, where it is legal.
+    pub fn of(root: Board, square: Square) -> Option<RootMove> {
+        let child = root.play(square)?;
+        Some(RootMove {
+            root,
+            square,
+            child,
+        })
+    }
+
+    /// Searches the board after the move until it is settled: its value is known, or that the root gets less than the floor by it.
+    pub fn settle<C: Cells>(&self, walk: &mut Walk<C>) {
+        if walk.is_settled(self.square) {
+            return;
+        }
+        walk.begin(&self.child);
+        let found = self.pursue(walk);
+        walk.end(&self.child);
+        walk.keep(self.square, found);
+    }
+
+    // What is found of the board after the move, until it is settled by this worker or another.
+    fn pursue<C: Cells>(&self, walk: &mut Walk<C>) -> Solved {
+        let mut found = Solved::unknown(self.child, walk.plan.scoring);
+        let mut falls = 0u8;
+        let mut vain = 0u8;
+        for _ in 0..MOST_WINDOWS {
+            let least = walk.floor();
+            if vain == MOST_IN_VAIN || walk.is_settled(self.square) || is_settled(&found, least) {
+                return found;
+            }
+            walk.go_on(self.square, least);
+            let most = upper_of(&found);
+            let window = next_window(most, least, falls);
+            found = found.joined(&narrow(self.child, window, MOST_PLIES, walk));
+            walk.raise_by(&self.root, self.square, &found);
+            if upper_of(&found) < most {
+                falls = falls.saturating_add(1);
+            } else if walk.floor() == least {
+                vain = vain.saturating_add(1);
+            }
+        }
+        found
+    }
+
+    /// Searches a reply to the move as far as it tells something of the root, and tells the others what it alone tells.
+    pub fn search_reply<C: Cells>(
+        &self,
+        board: Board,
+        is_eldest: bool,
+        walk: &mut Walk<C>,
+    ) -> Solved {
+        let known = walk.told(&self.child);
+        let least = walk.floor();
+        if is_settled(&known, least) {
+            return walk.told(&board);
+        }
+        walk.go_on(self.square, least);
+        walk.begin(&board);
+        let found = if least > -64 {
+            narrow(board, Window::at(least), MOST_PLIES, walk)
+        } else if is_eldest || known.interval.lower == -64 {
+            narrow(board, Window::all(), MOST_PLIES, walk)
+        } else {
+            narrow_down(board, -known.interval.lower, walk)
+        };
+        walk.end(&board);
+        self.share(&found, walk);
+        found
+    }
+
+    // Tells the others what the solved board, the child itself or one ply below it, alone tells: of the child by the cells, and of the
+    // root by the floor.
+    fn share<C: Cells>(&self, solved: &Solved, walk: &mut Walk<C>) {
+        if solved.interval == Interval::all() {
+            return;
+        }
+        let known = known_below(self.child, 1, &[*solved], solved.scoring);
+        walk.put(&known);
+        walk.raise_by(&self.root, self.square, &known);
+        walk.keep(self.square, known);
+    }
+}
+
+// The value where it is less than this score, else that it isn't: by a null window, and below it where that fails low.
+fn narrow_down<C: Cells>(board: Board, score: i8, walk: &mut Walk<C>) -> Solved
+    requires low { negsuc 63 ≤ℤ score }
+    requires high { score ≤ℤ pos 64 }
+{
+    let probed = narrow(board, Window::at(score), MOST_PLIES, walk);
+    if probed.interval.lower >= score || probed.interval.lower == probed.interval.upper {
+        return probed;
+    }
+    let rest = Window::below(upper_of(&probed));
+    narrow(board, rest, MOST_PLIES, walk).joined(&probed)
+}

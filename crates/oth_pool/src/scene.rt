@@ -1,0 +1,79 @@
+//! What all workers of a search have in common.
+ghost use Rattle.std.specs.Prelude.{◌≡◌};
+
+use crate::frontier::Frontier;
+use oth_rules::{Board, Scoring, Square};
+
+/// The board that is solved, its frontier, its moves in the order in which they are searched, and how the search is made.
+#[derive(Clone, Copy)]
+pub(crate) struct Scene<'s> {
+    pub frontier: &'s Frontier,
+    pub root: Board,
+    pub squares: &'s [Square],
+    pub plan: Plan,
+}
+
+/// How a search is made and shared out.
+#[derive(Clone, Copy)]
+pub(crate) struct Plan {
+    pub scoring: Scoring,
+    /// Boards with fewer empty squares are searched to the end by whoever is there.
+    pub fewest: u8,
+    /// The moves of boards with more empty squares are searched by several workers together for longer, since what is searched in vain
+    /// costs most there.
+    pub dealt: u8,
+    /// Whether several workers learn from a table what the others found.
+    pub shares: bool,
+}
+
+impl Plan {
+    /// The plan of so many workers below a root with so many empty squares, with a table or without one.
+    pub fn of(scoring: Scoring, empties: u8, workers: u8, has_table: bool) -> Plan
+        ensures { result.scoring ≡ scoring }
+    {
+        if workers == 1 {
+            Plan::alone(scoring)
+        } else {
+            Plan::together(scoring, empties, has_table)
+        }
+    }
+
+    /// The plan of one worker.
+    pub fn alone(scoring: Scoring) -> Plan
+        ensures { result.scoring ≡ scoring }
+    {
+        Plan {
+            scoring,
+            fewest: 64,
+            dealt: 64,
+            shares: false,
+        }
+    }
+
+    // The plan of several workers.
+    fn together(scoring: Scoring, empties: u8, shares: bool) -> Plan
+        ensures { result.scoring ≡ scoring }
+    {
+        let (fewest, dealt) = match empties {
+            0..=18 => (9, 11),
+            19 => (10, 12),
+            _ => (11, 14),
+        };
+        Plan {
+            scoring,
+            fewest,
+            dealt,
+            shares,
+        }
+    }
+}
+
+/// For so many boards an order of moves is kept, where the root has so many empty squares.
+pub(crate) fn orders_for(empties: u8) -> u16 {
+    match empties {
+        0..=13 => 1,
+        14..=15 => 256,
+        16..=17 => 2_048,
+        _ => 8_192,
+    }
+}

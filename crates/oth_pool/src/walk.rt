@@ -1,0 +1,226 @@
+//! One worker's way through the tree: what it searches over, what it knows, and which searches it has under way.
+ghost use Rattle.std.specs.Prelude.{◌≡◌, pos, negsuc, ◌≤ℤ◌};
+ghost use Rattle.std.specs.Prelude.{length, ◌≤◌};
+
+use crate::height::Height;
+use crate::hints::HintSeat;
+use crate::move_order::MoveOrder;
+use crate::scene::Plan;
+use crate::window::{Window, is_settled};
+use arrayvec::ArrayVec;
+use oth_rules::{Board, Square};
+use oth_search::{Cells, Entry, Solved, order};
+use std::alloc::Global;
+
+/// No search that workers share is deeper.
+pub(crate) const MOST_PLIES: u8 = 30;
+
+// Boards with fewer empty squares are ordered anew each time.
+const FEWEST_EMPTIES_KEPT: u8 = 13;
+
+// A search under way: the canonical image of its board, and what it is to decide.
+#[derive(Clone, Copy)]
+struct Goal {
+    image: Board,
+    window: Window,
+}
+
+/// What a worker searches over and with, and what it found.
+#[derive(Drop)]
+pub(crate) struct Walk<'w, C> {
+    pub alloc: Global,
+    pub plan: Plan,
+    pub cells: C,
+    height: Height<'w>,
+    hints: Option<HintSeat<'w>>,
+    // The root's move below which it searches, and the floor at which it does.
+    square: Square,
+    least: i8,
+    // The boards from there on whose searches are under way.
+    goals: Vec<Goal>,
+    // The root's moves that it has settled itself.
+    settled: u64,
+    /// What it found of boards after the root's moves.
+    pub found: Vec<Solved>,
+}
+
+impl<'w, C: Cells> Walk<'w, C> {
+    /// A worker that has searched nothing yet. Its lists take memory as they grow; where there is none they keep less.
+    pub fn of(
+        alloc: Global,
+        plan: Plan,
+        cells: C,
+        height: Height<'w>,
+        hints: Option<HintSeat<'w>>,
+    ) -> Walk<'w, C> {
+        Walk {
+            alloc,
+            plan,
+            cells,
+            height,
+            hints,
+            square: Square::numbered(0),
+            least: 64,
+            goals: Vec::new(alloc),
+            settled: 0,
+            found: Vec::new(alloc),
+        }
+    }
+
+    /// What the root reaches by all that is known.
+    pub fn floor(&mut self) -> i8
+        ensures low { negsuc 63 ≤ℤ result }
+        ensures high { result ≤ℤ pos 64 }
+    {
+        self.height.least()
+    }
+
+    /// Raises the floor by what a move of the root alone tells of it.
+    pub fn raise_by(&mut self, root: &Board, square: Square, child: &Solved) {
+        if let Ok(bound) = Solved::lift(root, square, child) {
+            self.height.raise(&bound);
+        }
+    }
+
+    /// It goes on below this move of the root, at this floor.
+    pub fn go_on(&mut self, square: Square, least: i8) {
+        self.square = square;
+        self.least = least;
+    }
+
+    /// Whether the root's move needs no further search.
+    pub fn is_settled(&mut self, square: Square) -> bool {
+        if self.settled & square.word() != 0 {
+            return true;
+        }
+        match &mut self.hints {
+            Some(hints) => hints.is_settled(square),
+            None => false,
+        }
+    }
+
+    /// How many of the root's moves need no further search.
+    pub fn settled(&mut self) -> u64 {
+        match &mut self.hints {
+            Some(hints) => hints.settled(),
+            None => u64::from(self.settled.count_ones()),
+        }
+    }
+
+    /// Keeps what was found of the board after a root's move, and tells where the move needs no further search.
+    pub fn keep(&mut self, square: Square, child: Solved) {
+        let least = self.floor();
+        if !is_settled(&child, least) || self.found.push(child).is_err() {
+            return;
+        }
+        self.settled |= square.word();
+        if let Some(hints) = &mut self.hints {
+            hints.settle(square);
+        }
+    }
+
+    /// What the cells tell of the board.
+    pub fn told(&mut self, board: &Board) -> Solved
+        ensures { result.board ≡ board.now }
+    {
+        Solved::looked_up(board, &mut self.cells, self.plan.scoring)
+    }
+
+    /// Puts what was found into the cells, if that is anything.
+    pub fn put(&mut self, solved: &Solved) {
+        if solved.interval.lower > -64 || solved.interval.upper < 64 {
+            self.cells.put(&Entry::of(solved));
+        }
+    }
+
+    /// Whether another worker seems to search the board.
+    pub fn is_taken(&mut self, board: &Board) -> bool {
+        match &mut self.hints {
+            Some(hints) => hints.is_searched(board),
+            None => false,
+        }
+    }
+
+    /// Whether another worker seems to search the board, of which this one could learn what it finds.
+    pub fn is_left(&mut self, board: &Board) -> bool {
+        self.plan.shares && self.is_taken(board)
+    }
+
+    /// Marks the board as one that is being searched.
+    pub fn begin(&mut self, board: &Board) {
+        if let Some(hints) = &mut self.hints {
+            hints.begin(board);
+        }
+    }
+
+    /// Takes the mark of the board away.
+    pub fn end(&mut self, board: &Board) {
+        if let Some(hints) = &mut self.hints {
+            hints.end(board);
+        }
+    }
+
+    /// One search more is under way. How many were before.
+    pub fn enter(&mut self, board: &Board, window: Window) -> usize {
+        let depth = self.goals.len();
+        if self.plan.shares {
+            let (image, _) = board.canonical();
+            let _ = self.goals.push(Goal { image, window });
+        }
+        depth
+    }
+
+    /// Only so many are under way.
+    pub fn leave(&mut self, depth: usize) {
+        self.goals.truncate(depth);
+    }
+
+    /// Whether what it searches is of no more use: the floor has risen, the root's move is settled, or the cells tell what one of the
+    /// searches under way is to decide.
+    pub fn gives_up(&mut self) -> bool {
+        self.floor() > self.least || self.is_settled(self.square) || self.is_any_decided()
+    }
+
+    fn is_any_decided(&mut self) -> bool {
+        for goal in self.goals.as_slice() {
+            if is_decided(goal, &mut self.cells, self.plan) {
+                return true;
+            }
+        }
+        false
+    }
+
+    /// Each legal move of the board once, in the order in which it is searched: the one that is kept, where one is.
+    pub fn order(&mut self, board: &Board) -> ArrayVec<Square, 64> {
+        if board.empties() < FEWEST_EMPTIES_KEPT {
+            return order(board);
+        }
+        let Some(hints) = &mut self.hints else {
+            return order(board);
+        };
+        if let Some(kept) = hints.order_of(board) {
+            return kept.of_moves(board.moves());
+        }
+        let squares = order(board);
+        hints.keep_order(board, MoveOrder::of(squares.as_slice()));
+        squares
+    }
+
+    /// The move comes first when the board's moves are searched again.
+    pub fn prefer(&mut self, board: &Board, square: Square) {
+        if board.empties() < FEWEST_EMPTIES_KEPT {
+            return;
+        }
+        if let Some(hints) = &mut self.hints {
+            if let Some(kept) = hints.order_of(board) {
+                hints.keep_order(board, kept.with_first(square));
+            }
+        }
+    }
+}
+
+// Whether the cells tell what the search is to decide.
+fn is_decided<C: Cells>(goal: &Goal, cells: &mut C, plan: Plan) -> bool {
+    let told = Solved::looked_up(&goal.image, cells, plan.scoring);
+    goal.window.is_decided(told.interval)
+}
