@@ -1,12 +1,2 @@
-pub mod Histories
-pub mod Floors
-pub mod Belows
-pub mod Rooms
-pub mod Dealings
-pub mod Handings
-pub mod Settlings
-pub mod Handouts
-pub mod Closings
-pub mod Lefts
 pub mod Workings
 pub mod Passed

@@ -1,12 +1,12 @@
 // Searches that workers share: each leaves to the others the boards that they are at, and gives up what another has found.
 ghost use Rattle.std.specs.Prelude.{◌≡◌, IfSome, pos, negsuc, ◌≤ℤ◌};
 
-use crate::frontier::can_move;
 use crate::member::{Goal, MOST_PLIES, Member, is_reached};
 use crate::query::is_decided;
 use crate::team::Team;
 use crate::told::passed_on;
 use crate::window::Window;
+use oth_pieces::can_move;
 use oth_rules::{Board, Square};
 use oth_search::{Cells, Entry, Solved, known_below, order};
 

@@ -2,7 +2,7 @@
 ghost use Rattle.std.specs.Prelude.{◌≡◌, pos, negsuc, ◌≤ℤ◌};
 ghost use Rattle.oth_search.specs.Bound.{IsWindow};
 
-use crate::frontier::Item;
+use oth_pieces::Item;
 use oth_rules::{Board, Scoring};
 use oth_search::{Cells, Solved, known_of};
 

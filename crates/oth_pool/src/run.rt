@@ -1,18 +1,15 @@
 // Workers over all items of a frontier.
 ghost use Rattle.std.specs.Prelude.{◌≡◌, ◌+◌, ◌≤◌, ℕ, IfSome, length, map, vec_len, vec_capacity, All, [], ◌∷◌};
-ghost use Rattle.oth_pool.specs.Watch.{IsSeatOf};
-ghost use Rattle.oth_pool.specs.Hands.{AreAllHands, IsCrew, count_of};
-ghost use Rattle.oth_pool.specs.Dealing.{times};
+ghost use Rattle.oth_pieces.specs.Watch.{IsSeatOf};
+ghost use Rattle.oth_pieces.specs.Hands.{AreAllHands, IsCrew, count_of};
+ghost use Rattle.oth_pieces.specs.Dealing.{times};
 ghost use Rattle.oth_pool.specs.Working.{Holds, AreGathered, IsReplyOf, numbers_of, times_by};
 
 use crate::access::{TableAccess, WorkerCells};
-use crate::floor::{Floor, FloorSeat};
-use crate::frontier::Frontier;
 use crate::gate::Gate;
-use crate::reply::Reply;
-use crate::tasks::{Drawn, Hand, Tasks};
 use crate::work::{Job, Work};
 use crate::workers::work_all;
+use oth_pieces::{Drawn, Floor, FloorSeat, Frontier, Hand, Reply, Tasks};
 use oth_search::{Cells, Solved};
 use std::alloc::Global;
 use std::thread::Threads;
@@ -148,7 +145,7 @@ fn jobs_of<'t>(
     ensures each { All (λ j. Holds frontier.now floor.now j.work) result.items }
     ensures many { vec_len result ≡ vec_len hands }
 {
-    let _count = tasks.count;
+    let _count = tasks.count();
     for hand in hands {
         let Some(seat) = seats.pop() else {
             unreachable!()

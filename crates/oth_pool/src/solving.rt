@@ -4,12 +4,10 @@ ghost use Rattle.oth_rules.specs.Position.{empty_count};
 ghost use Rattle.oth_rules.specs.Move.{can_move};
 ghost use Rattle.oth_pool.specs.Solving.{IsPower, IsSolvable, Refuses, Accepts};
 ghost use Rattle.oth_search.specs.Full.{IsFullMinimax};
-ghost use Rattle.oth_pool.specs.Hands.{IsCrew};
-ghost use Rattle.oth_pool.specs.Watch.{IsSeatOf};
+ghost use Rattle.oth_pieces.specs.Hands.{IsCrew};
+ghost use Rattle.oth_pieces.specs.Watch.{IsSeatOf};
 
 use crate::access::{TableAccess, WorkerCells};
-use crate::floor::{Floor, FloorSeat};
-use crate::frontier::Frontier;
 use crate::gate::Gate;
 use crate::query::answered;
 use crate::run::{room_for, run_knowing};
@@ -17,6 +15,7 @@ use crate::together::known_together;
 use crate::told::{answer_in, bounds_in, passed_on};
 use crate::workers::search_item;
 use oth_book::Book;
+use oth_pieces::{Floor, FloorSeat, Frontier};
 use oth_rules::{Board, Scoring, Square};
 use oth_search::{
     Answer, Cells, Interval, Solved, before_pass, ended, known_below, known_of, order, solve_moves,

@@ -1,7 +1,5 @@
 // What one worker has of its own.
-use crate::floor::FloorSeat;
-use crate::reply::Reply;
-use crate::tasks::Hand;
+use oth_pieces::{FloorSeat, Hand, Reply};
 
 /// What one worker draws with, reads the floor with, and found.
 #[derive(Drop)]

@@ -1,16 +1,13 @@
 // Threads that search the items of a frontier.
 ghost use Rattle.std.specs.Prelude.{◌≡◌, ℕ, ◌<◌, length, slice_index_or};
-ghost use Rattle.oth_pool.specs.Watch.{IsSeatOf};
-ghost use Rattle.oth_pool.specs.Hands.{number_of};
+ghost use Rattle.oth_pieces.specs.Watch.{IsSeatOf};
+ghost use Rattle.oth_pieces.specs.Hands.{number_of};
 ghost use Rattle.oth_pool.specs.Working.{CanWork};
 
-use crate::floor::{Floor, FloorSeat};
-use crate::frontier::{Frontier, Item};
 use crate::gate::Gate;
 use crate::query::answered;
-use crate::reply::Reply;
-use crate::tasks::Tasks;
 use crate::work::{Job, Work};
+use oth_pieces::{Floor, FloorSeat, Frontier, Item, Reply, Tasks};
 use oth_rules::Board;
 use oth_search::{Cells, Entry, Solved, known_below};
 use std::thread;

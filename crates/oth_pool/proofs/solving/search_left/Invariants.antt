@@ -1,4 +1,4 @@
-use Rattle.oth_pool.specs.Watch.{IsSeatOf}
+use Rattle.oth_pieces.specs.Watch.{IsSeatOf}
 use Rattle.oth_pool.proofs.solving.search_left.Given as goal
 
 abbrev pub invariant-loop-number : goal.invariant-loop-number
