@@ -1,10 +1,11 @@
 -- How the hands are made.
 use Rattle.std.proofs.Common.{◌≡◌, ◌⊎◌, ⊎_elim, inl, inr, ℕ, zero, suc, ◌+◌, ◌<◌, ◌≤◌, List, [], ◌∷◌, ◌++◌, length, get_or, set, take, sym, refl, ap, ◌∙◌, subst, arith, slice_index_or, vec_len, Vec, false, Result, Ok, Err, IfOk, length-append, length-set, get_or-set_same, get_or-set_other}
+use Rattle.std.specs.Prelude.{vec_capacity}
 use mathlib.Core.Logic.{dite}
 use native.Mathlib.Decide.{ℕ_discrete}
 use Rattle.std.specs.declared.alloc.Global.{Global}
 use Rattle.std.specs.declared.alloc.AllocError.{AllocError}
-use Rattle.oth_pieces.specs.Hands.{Owner, StaysOwner, StayOwners, IsTokenOf, AreTokensOf, HasOnly, OwnerFits, OwnersFit, PileFits, HasRoom, IsHandOf, IsNewHand, AreHandsOf, AreAllHands, AreFresh, number_of, taken_with}
+use Rattle.oth_pieces.specs.Hands.{Owner, StaysOwner, StayOwners, IsTokenOf, AreTokensOf, HasOnly, OwnerFits, OwnersFit, PileFits, HasRoom, IsHandOf, IsNewHand, AreHandsOf, AreAllHands, AreFresh, HaveRoom, number_of, taken_with}
 use Rattle.std.specs.List.{sum_by, All}
 use Rattle.oth_pieces.specs.declared.tasks.state.Hand.{Hand}
 use Rattle.oth_pieces.specs.declared.tasks.state.Parts.{Parts}
@@ -114,9 +115,9 @@ none_taken x (t ∷ ts) none =
     let first = none 0 t (omega arith) in
     let rest = none_taken x ts (λ d p below. none (suc d) p (omega arith)) in omega (arith, sum_by-cons (taken_with x) t ts)
 
-pub new_hand : (tasks : Tasks) (number : ℕ) (owner : Owner) (pile : Vec Token Global) (list : Vec ℕ Global) (room : Parts) → number < vec_len tasks.thieves → OwnerFits tasks number owner → PileFits tasks pile → list.items ≡ [] → HasRoom (vec_len tasks.thieves) room
+pub new_hand : (tasks : Tasks) (number : ℕ) (owner : Owner) (pile : Vec Token Global) (list : Vec ℕ Global) (room : Parts) → number < vec_len tasks.thieves → OwnerFits tasks number owner → PileFits tasks pile → list.items ≡ [] → 870 ≤ vec_capacity list → HasRoom (vec_len tasks.thieves) room
     → IsNewHand tasks number (record { number = number; owner = owner; passes = pile; list = list; ended = false; room = room })
-new_hand tasks number owner pile list room below fits passes empty has_room = (
+new_hand tasks number owner pile list room below fits passes empty long has_room = (
   record {
     fits = record {
       number = below;
@@ -138,6 +139,7 @@ new_hand tasks number owner pile list room below fits passes empty has_room = (
   refl,
   empty,
   refl,
+  long,
 )
 
 -- the owners and piles that are left, and the hands made, the last first
@@ -196,6 +198,9 @@ all_hands tasks n hands some new = record {
 
 pub all_fresh : (tasks : Tasks) (n : ℕ) (hands : List Hand) → AreHandsOf tasks n hands → AreFresh hands
 all_fresh tasks n hands new i h below = let one = new.2 i h (let l = new.0 in omega arith) in (one.2, one.3)
+
+pub all_have_room : (tasks : Tasks) (n : ℕ) (hands : List Hand) → AreHandsOf tasks n hands → HaveRoom hands
+all_have_room tasks n hands new i h below = (new.2 i h (let l = new.0 in omega arith)).4
 
 -- after one hand has drawn
 pub one_drew : (tasks : Tasks) (hands : List Hand) (at : ℕ) (old new : Hand) → AreAllHands tasks hands → at < length hands → old ≡ slice_index_or hands at old → IsHandOf tasks new → number_of new ≡ number_of old

@@ -8,3 +8,4 @@ pub mod Settlings
 pub mod Handouts
 pub mod Closings
 pub mod Lefts
+pub mod Turnings

@@ -1,6 +1,7 @@
 -- Hands of the same tasks.
 --     IsHandOf tasks hand      the hand's deque and passes are those of the tasks, and its list is what it has taken
 --     list_of hand, number_of hand, has_ended hand      what it has drawn, its place among the hands, whether it gets no more
+--     room_of hand, HaveRoom hands      for how many numbers it has room; each of them has room for those of any frontier
 --     AreHandsOf tasks n hands, AreAllHands tasks hands      so many new hands of the tasks; all hands of the tasks, each at its place
 --     Draws tasks old new found      the same but for the number found, which isn't in the list yet
 use Rattle.std.specs.Prelude.{◌≡◌, ℕ, ◌+◌, ◌%◌, ◌<◌, ◌≤◌, Bool, true, false, ◌&&◌, ◌==◌, nat_lt, if◌then◌else◌, List, [], length, slice_index_or, sum_by, All, vec_len, vec_capacity, Vec, ◌⊎◌, Option, Some, option_to_list}
@@ -67,6 +68,10 @@ number_of h = h.number
 
 abbrev pub has_ended : Hand → Bool
 has_ended h = h.ended
+
+-- for how many numbers the hand's list has room
+abbrev pub room_of : Hand → ℕ
+room_of h = vec_capacity h.list
 
 -- how many numbers there are
 abbrev pub count_of : Tasks → ℕ
@@ -135,7 +140,7 @@ pub record PileFits (tasks : Tasks) (pile : Vec (Pass ℕ Share Global) Global) 
   pub knows : (d : ℕ) (p : Pass ℕ Share Global) → d < vec_len tasks.thieves → HasOnly (vec_len tasks.thieves) tasks.count d (view (slice_index_or pile.items d p))
 
 abbrev pub IsNewHand : Tasks → ℕ → Hand → Type 0
-IsNewHand tasks number h = IsHandOf tasks h × (number_of h ≡ number) × (list_of h ≡ []) × (has_ended h ≡ false)
+IsNewHand tasks number h = IsHandOf tasks h × (number_of h ≡ number) × (list_of h ≡ []) × (has_ended h ≡ false) × (870 ≤ room_of h)
 
 abbrev pub AreHandsOf : Tasks → ℕ → List Hand → Type 0
 AreHandsOf tasks n hands = (length hands ≡ n) × (vec_len tasks.thieves ≡ n) × ((i : ℕ) (h : Hand) → i < n → IsNewHand tasks i (slice_index_or hands i h))
@@ -149,3 +154,7 @@ pub record AreAllHands (tasks : Tasks) (hands : List Hand) : Type 0 where
 -- no hand has drawn
 abbrev pub AreFresh : List Hand → Type 0
 AreFresh hands = All (λ (h : Hand). (list_of h ≡ []) × (has_ended h ≡ false)) hands
+
+-- each hand can draw all numbers of a frontier
+abbrev pub HaveRoom : List Hand → Type 0
+HaveRoom hands = All (λ (h : Hand). 870 ≤ room_of h) hands

@@ -7,3 +7,4 @@ pub mod Dealing
 pub mod Hands
 pub mod Settling
 pub mod Drawing
+pub mod Turning

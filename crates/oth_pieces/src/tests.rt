@@ -149,6 +149,27 @@ fn the_second_hand_draws_first(rt: HostRuntime) -> Result<(), Fail> {
     Ok(())
 }
 
+// Each hand draws the number of its own deque that has the least rank; one without a rank comes last.
+#[test]
+fn numbers_are_drawn_by_rank(rt: HostRuntime) -> Result<(), Fail> {
+    let Some(root) = board(MANY_ITEMS) else {
+        panic!(rt; "no board")
+    };
+    let frontier = Frontier::of(&root, 1);
+    assert!(rt; frontier.len() > 6);
+    let Ok((tasks, mut hands)) = Tasks::by_rank(rt.alloc(), &frontier, &[9, 9, 0, 1, 5], 2) else {
+        panic!(rt; "no tasks")
+    };
+    assert!(rt; drawn(&tasks, &mut hands, 0) == Some(2));
+    assert!(rt; drawn(&tasks, &mut hands, 0) == Some(4));
+    assert!(rt; drawn(&tasks, &mut hands, 1) == Some(3));
+    assert!(rt; drawn(&tasks, &mut hands, 0) == Some(0));
+    assert!(rt; drawn(&tasks, &mut hands, 1) == Some(1));
+    assert!(rt; drawn(&tasks, &mut hands, 1) == Some(5));
+    assert!(rt; drawn(&tasks, &mut hands, 0) == Some(6));
+    Ok(())
+}
+
 // The hand draws until there is nothing left.
 fn draw_out(tasks: &Tasks, hand: &mut Hand)
     requires { IsHandOf tasks.now hand.old }

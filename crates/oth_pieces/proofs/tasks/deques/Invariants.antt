@@ -1,6 +1,0 @@
-use Rattle.std.proofs.Common.{◌≡◌, length, vec_capacity}
-use Rattle.oth_pieces.specs.Hands.{AreDealt}
-use Rattle.oth_pieces.proofs.tasks.deques.Given as goal
-
-abbrev pub invariant-loop-deque : goal.invariant-loop-deque
-invariant-loop-deque l = (length l.owners.items ≡ l.deque) × (vec_capacity l.owners ≡ l.hands) × AreDealt l.hands l.count l.owners.items
