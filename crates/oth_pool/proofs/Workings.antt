@@ -6,20 +6,20 @@ use Rattle.std.specs.List.{All, sum_by}
 use Rattle.std.proofs.lemmas.List.Sums.{sum_by-cons, sum_by_push}
 use Rattle.std.specs.declared.alloc.Global.{Global}
 use Rattle.oth_rules.specs.declared.scoring.Scoring.{Scoring}
-use Rattle.oth_pool.specs.declared.frontier.item.Item.{Item}
-use Rattle.oth_pool.specs.declared.reply.Reply.{Reply}
+use Rattle.oth_pieces.specs.declared.frontier.item.Item.{Item}
+use Rattle.oth_pieces.specs.declared.reply.Reply.{Reply}
 use Rattle.oth_pool.specs.declared.work.Work.{Work}
 use Rattle.oth_pool.specs.declared.work.Job.{Job}
-use Rattle.oth_pool.specs.declared.tasks.state.Tasks.{Tasks}
-use Rattle.oth_pool.specs.declared.tasks.state.Hand.{Hand}
-use Rattle.oth_pool.specs.Hands.{IsHandOf, AreAllHands, list_of, number_of}
-use Rattle.oth_pool.specs.Drawing.{lists_of, times_in_all, AreOnce}
+use Rattle.oth_pieces.specs.declared.tasks.state.Tasks.{Tasks}
+use Rattle.oth_pieces.specs.declared.tasks.state.Hand.{Hand}
+use Rattle.oth_pieces.specs.Hands.{IsHandOf, AreAllHands, list_of, number_of}
+use Rattle.oth_pieces.specs.Drawing.{lists_of, times_in_all, AreOnce}
 use Rattle.oth_pool.specs.declared.run.Gathered.{Gathered}
-use Rattle.oth_pool.proofs.Closings.{get_or_map, length_map}
-use Rattle.oth_pool.proofs.Handouts.{each_drew}
-use Rattle.oth_pool.specs.Dealing.{times}
+use Rattle.oth_pieces.proofs.Closings.{get_or_map, length_map}
+use Rattle.oth_pieces.proofs.Handouts.{each_drew}
+use Rattle.oth_pieces.specs.Dealing.{times}
 use Rattle.oth_pool.specs.Working.{IsReplyOf, Holds, CanWork, AreGathered, numbers_of, hand_of, times_by}
-use Rattle.oth_pool.proofs.Dealings.{times-append}
+use Rattle.oth_pieces.proofs.Dealings.{times-append}
 
 module _ (items : List Item) (scoring : Scoring) (tasks : Tasks) (work : Work) (can : CanWork items scoring tasks work) (hand : Hand) (is_hand : IsHandOf tasks hand) where
   pub ended : list_of hand ≡ list_of work.hand → CanWork items scoring tasks (record work { hand = hand })

@@ -1,11 +1,2 @@
-pub mod History
-pub mod Floor
-pub mod Watch
-pub mod Below
-pub mod Collecting
-pub mod Dealing
-pub mod Hands
-pub mod Settling
-pub mod Drawing
 pub mod Working
 pub mod Solving

@@ -4,7 +4,7 @@ use Rattle.std.specs.Prelude.{◌≡◌, ◌⊎◌, ℕ, ◌^◌, ◌<◌, ◌�
 use Rattle.oth_rules.specs.Position.{Position, empty_count}
 use Rattle.oth_pool.specs.declared.solving.SolveError.{SolveError}
 use Rattle.oth_pool.specs.declared.solving.SolveError.TheVariants.{TooManyEmpties, Workers, Cells}
-use Rattle.oth_pool.specs.Hands.{IsCrew}
+use Rattle.oth_pieces.specs.Hands.{IsCrew}
 
 abbrev pub IsPower : ℕ → Type 0
 IsPower cells = (k : ℕ) × (k ≤ 18) × (cells ≡ 2 ^ k)

@@ -4,16 +4,16 @@
 --     AreGathered items scoring gathered      each number was drawn once or is left; each reply is of a drawn number, once, and of its item's board
 use Rattle.std.specs.Prelude.{◌≡◌, ℕ, ◌≤◌, List, length, map, All, slice_get, sum_by, Some, option_map}
 use Rattle.oth_rules.specs.declared.scoring.Scoring.{Scoring}
-use Rattle.oth_pool.specs.declared.frontier.item.Item.{Item}
-use Rattle.oth_pool.specs.declared.reply.Reply.{Reply}
+use Rattle.oth_pieces.specs.declared.frontier.item.Item.{Item}
+use Rattle.oth_pieces.specs.declared.reply.Reply.{Reply}
 use Rattle.oth_pool.specs.declared.work.Work.{Work}
 use Rattle.oth_pool.specs.declared.run.Gathered.{Gathered}
-use Rattle.oth_pool.specs.declared.tasks.state.Tasks.{Tasks}
-use Rattle.oth_pool.specs.declared.tasks.state.Hand.{Hand}
-use Rattle.oth_pool.specs.Below.{board_of}
-use Rattle.oth_pool.specs.Hands.{IsHandOf, list_of}
-use Rattle.oth_pool.specs.Dealing.{times}
-use Rattle.oth_pool.specs.Drawing.{times_in_all, AreOnce}
+use Rattle.oth_pieces.specs.declared.tasks.state.Tasks.{Tasks}
+use Rattle.oth_pieces.specs.declared.tasks.state.Hand.{Hand}
+use Rattle.oth_pieces.specs.Below.{board_of}
+use Rattle.oth_pieces.specs.Hands.{IsHandOf, list_of}
+use Rattle.oth_pieces.specs.Dealing.{times}
+use Rattle.oth_pieces.specs.Drawing.{times_in_all, AreOnce}
 
 pub record IsReplyOf (items : List Item) (scoring : Scoring) (r : Reply) : Type 0 where
   pub board : option_map board_of (slice_get items r.number) ≡ Some r.solved.board

@@ -1,7 +1,7 @@
 //! The search of drawn items, and of the moves of the root that they leave open.
 ghost use Rattle.std.specs.Prelude.{◌≡◌};
 
-use crate::frontier::{Item, can_move};
+use oth_pieces::{Item, can_move};
 use crate::gate::Gate;
 use crate::narrowing::narrow;
 use crate::root_move::RootMove;

@@ -1,8 +1,8 @@
 //! The floor as one worker sees it.
 ghost use Rattle.std.specs.Prelude.{pos, negsuc, ◌≤ℤ◌};
-ghost use Rattle.oth_pool.specs.Watch.{IsSeatOf};
+ghost use Rattle.oth_pieces.specs.Watch.{IsSeatOf};
 
-use crate::floor::{Floor, FloorSeat};
+use oth_pieces::{Floor, FloorSeat};
 use oth_search::Solved;
 
 /// A floor that workers share, with a seat of it.

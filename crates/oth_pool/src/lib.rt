@@ -1,22 +1,17 @@
-//! What the workers of one search share: the floor, the frontier, the tasks and the collector.
+//! The search of one board by several workers: what they take from the tasks, what they tell each other, and the answer.
 #![tactic(auto)]
 
 mod access;
-mod collector;
 mod drawn;
-pub mod floor;
-mod frontier;
 mod gate;
 mod height;
 mod hints;
 mod move_order;
 mod narrowing;
-mod reply;
 mod root_move;
 pub mod run;
 mod scene;
 mod solving;
-pub mod tasks;
 #[cfg(test)]
 mod tests;
 mod told;
@@ -26,11 +21,10 @@ pub mod work;
 mod workers;
 
 pub use access::{TableAccess, WorkerCells};
-pub use collector::Collector;
-pub use floor::{Floor, FloorError, FloorSeat, Stranger};
-pub use frontier::{Frontier, Item, MOST_ITEMS};
 pub use gate::{Gate, Open};
-pub use reply::{Refusal, Reply};
+pub use oth_pieces::{
+    Collector, Drawn, Floor, FloorError, FloorSeat, Frontier, Hand, Item, MOST_ITEMS, Refusal,
+    Reply, Stranger, Tasks, TasksError,
+};
 pub use run::{Gathered, run_workers};
 pub use solving::{SolveError, solve};
-pub use tasks::{Drawn, Hand, Tasks, TasksError};

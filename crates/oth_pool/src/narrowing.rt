@@ -2,7 +2,7 @@
 ghost use Rattle.std.specs.Prelude.{◌≡◌, pos, negsuc, ◌≤ℤ◌, false};
 ghost use Rattle.oth_rules.specs.Move.{can_move};
 
-use crate::frontier::can_move;
+use oth_pieces::can_move;
 use crate::walk::Walk;
 use crate::window::Window;
 use oth_rules::{Board, Square};

@@ -1,19 +1,19 @@
 //! Workers over all items of a frontier.
 ghost use Rattle.std.specs.Prelude.{◌≡◌, ◌+◌, ◌≤◌, ℕ, IfSome, length, map, vec_len, vec_capacity, All, [], ◌∷◌};
-ghost use Rattle.oth_pool.specs.Watch.{IsSeatOf};
-ghost use Rattle.oth_pool.specs.Hands.{AreAllHands, IsCrew, count_of};
-ghost use Rattle.oth_pool.specs.Dealing.{times};
+ghost use Rattle.oth_pieces.specs.Watch.{IsSeatOf};
+ghost use Rattle.oth_pieces.specs.Hands.{AreAllHands, IsCrew, count_of};
+ghost use Rattle.oth_pieces.specs.Dealing.{times};
 ghost use Rattle.oth_pool.specs.Working.{Holds, AreGathered, IsReplyOf, numbers_of, times_by};
 
 use crate::access::{TableAccess, WorkerCells};
-use crate::floor::{Floor, FloorSeat};
-use crate::frontier::Frontier;
+use oth_pieces::{Floor, FloorSeat};
+use oth_pieces::Frontier;
 use crate::gate::Gate;
 use crate::height::Height;
 use crate::hints::{HintSeat, Hints};
-use crate::reply::Reply;
+use oth_pieces::Reply;
 use crate::scene::{Plan, Scene, orders_for};
-use crate::tasks::{Drawn, Hand, Tasks};
+use oth_pieces::{Drawn, Hand, Tasks};
 use crate::walk::Walk;
 use crate::work::{Job, Work};
 use crate::workers::work_all;

@@ -1,7 +1,7 @@
 //! What all workers of a search have in common.
 ghost use Rattle.std.specs.Prelude.{◌≡◌};
 
-use crate::frontier::Frontier;
+use oth_pieces::Frontier;
 use oth_rules::{Board, Scoring, Square};
 
 /// The board that is solved, its frontier, its moves in the order in which they are searched, and how the search is made.

@@ -1,6 +1,6 @@
 //! What one worker has of its own.
-use crate::reply::Reply;
-use crate::tasks::Hand;
+use oth_pieces::Reply;
+use oth_pieces::Hand;
 use crate::walk::Walk;
 
 /// What a worker draws with, and its replies.

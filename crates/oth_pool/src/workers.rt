@@ -1,13 +1,13 @@
 //! Threads that draw items and search them.
 ghost use Rattle.std.specs.Prelude.{◌≡◌, ℕ, ◌<◌, length, slice_index_or};
-ghost use Rattle.oth_pool.specs.Hands.{number_of};
+ghost use Rattle.oth_pieces.specs.Hands.{number_of};
 ghost use Rattle.oth_pool.specs.Working.{CanWork};
 
 use crate::drawn::{search_item, settle_all};
 use crate::gate::Gate;
-use crate::reply::Reply;
+use oth_pieces::Reply;
 use crate::scene::Scene;
-use crate::tasks::Tasks;
+use oth_pieces::Tasks;
 use crate::walk::Walk;
 use crate::work::{Job, Work};
 use oth_search::Cells;

@@ -1,7 +1,7 @@
 use Rattle.std.proofs.Common.{◌∷◌, ◌++◌, [], map, ap, ◌∙◌, arith, length-append, Some}
 use Rattle.std.proofs.lemmas.List.{map-append}
 use Rattle.oth_pool.specs.declared.work.Job.{Job}
-use Rattle.oth_pool.specs.declared.tasks.state.Hand.{Hand}
+use Rattle.oth_pieces.specs.declared.tasks.state.Hand.{Hand}
 use Rattle.oth_pool.specs.Working.{Holds}
 use Rattle.oth_pool.proofs.Workings.{All-longer, no_replies}
 use Rattle.oth_pool.proofs.run.jobs_of.Goals as goal

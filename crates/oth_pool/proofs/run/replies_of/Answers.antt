@@ -1,9 +1,9 @@
 use Rattle.std.proofs.Common.{◌≡◌, ◌+◌, ◌++◌, ◌∷◌, [], ℕ, List, map, take, ap, ◌∙◌, sym, subst, arith}
 use Rattle.std.proofs.lemmas.List.{take_more, take_all}
 use Rattle.std.specs.List.{All}
-use Rattle.oth_pool.specs.declared.reply.Reply.{Reply}
+use Rattle.oth_pieces.specs.declared.reply.Reply.{Reply}
 use Rattle.oth_pool.specs.declared.work.Job.{Job}
-use Rattle.oth_pool.specs.Dealing.{times}
+use Rattle.oth_pieces.specs.Dealing.{times}
 use Rattle.oth_pool.specs.Working.{IsReplyOf, Holds, numbers_of, times_by}
 use Rattle.oth_pool.proofs.Workings.{times_more}
 use Rattle.oth_pool.proofs.run.replies_of.Goals as goal

@@ -1,6 +1,6 @@
 use Rattle.std.proofs.Common.{◌≤◌, ℕ, map, take}
 use Rattle.std.specs.List.{All}
-use Rattle.oth_pool.specs.Dealing.{times}
+use Rattle.oth_pieces.specs.Dealing.{times}
 use Rattle.oth_pool.specs.Working.{IsReplyOf, numbers_of, times_by}
 use Rattle.oth_pool.proofs.run.replies_of.Given as goal
 

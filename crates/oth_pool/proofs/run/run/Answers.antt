@@ -2,8 +2,8 @@ use Rattle.std.proofs.Common.{◌≤◌, ◌∙◌, ℕ, List, map, subst}
 use Rattle.oth_pool.specs.declared.access.WorkerCells.{WorkerCells}
 use Rattle.oth_pool.specs.declared.work.Job.{Job}
 use Rattle.oth_pool.specs.declared.run.Gathered.{Gathered}
-use Rattle.oth_pool.specs.Hands.{count_of}
-use Rattle.oth_pool.specs.Dealing.{times}
+use Rattle.oth_pieces.specs.Hands.{count_of}
+use Rattle.oth_pieces.specs.Dealing.{times}
 use Rattle.oth_pool.specs.Working.{numbers_of, times_by}
 use Rattle.oth_pool.proofs.Workings.{gathered, twice}
 use Rattle.oth_pool.proofs.run.run.Goals as goal

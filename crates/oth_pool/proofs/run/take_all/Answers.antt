@@ -1,7 +1,7 @@
 use Rattle.std.proofs.Common.{◌≡◌, ◌+◌, ◌++◌, ◌∷◌, [], ℕ, List, take, ap, ◌∙◌, sym, arith}
 use Rattle.std.proofs.lemmas.List.{take_more, take_all}
-use Rattle.oth_pool.specs.declared.reply.Reply.{Reply}
-use Rattle.oth_pool.specs.Dealing.{times}
+use Rattle.oth_pieces.specs.declared.reply.Reply.{Reply}
+use Rattle.oth_pieces.specs.Dealing.{times}
 use Rattle.oth_pool.specs.Working.{numbers_of}
 use Rattle.oth_pool.proofs.Workings.{numbers_push}
 use Rattle.oth_pool.proofs.run.take_all.Goals as goal

@@ -1,6 +1,6 @@
 use Rattle.std.proofs.Common.{◌≡◌, vec_len}
 use Rattle.std.specs.Prelude.{vec_capacity}
-use Rattle.oth_pool.specs.Watch.{IsSeatOf}
+use Rattle.oth_pieces.specs.Watch.{IsSeatOf}
 use Rattle.oth_pool.proofs.run.walks_of.Given as goal
 
 abbrev pub invariant-loop : goal.invariant-loop

@@ -1,9 +1,9 @@
 use Rattle.std.proofs.Common.{◌≡◌, ◌<◌, ℕ, List, length, get_or, map, sym, ap, subst, arith}
 use Rattle.std.specs.List.{All}
 use Rattle.oth_pool.specs.declared.work.Job.{Job}
-use Rattle.oth_pool.specs.Hands.{AreAllHands}
+use Rattle.oth_pieces.specs.Hands.{AreAllHands}
 use Rattle.oth_pool.specs.Working.{Holds, CanWork}
-use Rattle.oth_pool.proofs.Handouts.{written_back}
+use Rattle.oth_pieces.proofs.Handouts.{written_back}
 use Rattle.oth_pool.proofs.Workings.{jobs_can, jobs_did}
 use Rattle.oth_pool.proofs.run.worked.Goals as goal
 

@@ -1,5 +1,5 @@
 use Rattle.std.proofs.Common.{◌≡◌}
-use Rattle.oth_pool.specs.Hands.{number_of}
+use Rattle.oth_pieces.specs.Hands.{number_of}
 use Rattle.oth_pool.specs.Working.{CanWork}
 use Rattle.oth_pool.proofs.workers.search_all.Given as goal
 

@@ -1,0 +1,11 @@
+pub mod Histories
+pub mod Floors
+pub mod Belows
+pub mod Rooms
+pub mod Dealings
+pub mod Handings
+pub mod Settlings
+pub mod Handouts
+pub mod Closings
+pub mod Lefts
+pub mod Turnings

@@ -1,0 +1,5 @@
+use Rattle.oth_pieces.proofs.Dealings.{pushes}
+use Rattle.oth_pieces.proofs.tasks.dealing.deal.Goals as goal
+
+pub push_as-requires-clause-pushes : goal.push_as-requires-clause-pushes
+push_as-requires-clause-pushes c = pushes _ _ _ c.loop-number.invariant.0 c.loop-number.invariant.1

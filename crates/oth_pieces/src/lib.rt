@@ -1,0 +1,16 @@
+//! What the workers of one search share: the floor, the frontier, the tasks and the collector.
+#![tactic(auto)]
+
+mod collector;
+pub mod floor;
+mod frontier;
+mod reply;
+pub mod tasks;
+#[cfg(test)]
+mod tests;
+
+pub use collector::Collector;
+pub use floor::{Floor, FloorError, FloorSeat, Stranger};
+pub use frontier::{Frontier, Item, MOST_ITEMS, can_move};
+pub use reply::{Refusal, Reply};
+pub use tasks::{Drawn, Hand, Tasks, TasksError};
