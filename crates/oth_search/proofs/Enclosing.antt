@@ -13,7 +13,7 @@ use Rattle.oth_rules.proofs.SearchLaws.{IsScore-value, IsScore-score_of, is_over
 use Rattle.oth_rules.specs.Move.{is_over, after, can_move}
 use Rattle.oth_search.proofs.SquareSets.{Takes}
 use Rattle.oth_search.proofs.Replies.{NoneAbove, NoneAbove-next, NoneAbove-end}
-use Rattle.oth_search.specs.Bound.{BoundsAt, IsInterval, Encloses}
+use Rattle.oth_search.specs.Bound.{BoundsAt, IsInterval, Encloses, Decides}
 
 -- the canonical image has the same value
 pub Encloses-canonical : (g : Scoring) (p q : Position) (lower upper : ℤ) → q ≡ canonical p → Encloses lower upper (value (score_of g) p) → Encloses lower upper (value (score_of g) q)
@@ -66,6 +66,13 @@ narrower lower upper low high at found i from to above below =
     by_lt_z at found
     (λ h. let m = above h in omega (arith, ints, m.0, m.1, i.ordered))
     (λ h. let m = below h in omega (arith, ints, m.0, m.1, i.ordered))
+
+-- a probe decides the window that has nothing between its ends
+pub Decides-probed : (alpha at found lower upper low high : ℤ) → at ≡ alpha → (at <ℤ found → (low ≡ found) × (high ≡ upper)) → (found ≤ℤ at → (low ≡ lower) × (high ≡ found)) → Decides low high alpha (alpha +ℤ pos 1)
+Decides-probed alpha at found lower upper low high e above below =
+    by_lt_z at found
+    (λ h. let m = above h in inr (inl (omega (arith, ints, m.0))))
+    (λ h. let m = below h in inr (inr (omega (arith, ints, m.1))))
 
 -- the end of the game
 pub IsScore-over : (g : Scoring) (p : Position) (r : ℤ) → r ≡ score_of g p → IsScore r

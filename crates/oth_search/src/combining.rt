@@ -4,8 +4,8 @@ ghost use Rattle.oth_rules.specs.Position.{pass};
 ghost use Rattle.oth_rules.specs.Move.{can_move};
 
 use crate::bounds::{Interval, Solved};
-use crate::ordering::order;
 use crate::searching::greater;
+use crate::squares::{first, without};
 use oth_rules::{Board, Scoring};
 
 /// What these tell of the board itself.
@@ -49,9 +49,11 @@ fn known_by_moves(board: Board, plies: u8, known: &[Solved], scoring: Scoring) -
     }
     let mut lower = -64;
     let mut upper = -64;
-    let squares = order(&board);
-    for square in squares.as_slice() {
-        let child = board.play_legal(*square);
+    let mut rest = board.moves();
+    while rest != 0 {
+        let square = first(rest);
+        rest = without(rest, square);
+        let child = board.play_legal(square);
         let reply = known_below(child, plies - 1, known, scoring).interval;
         lower = greater(lower, -reply.upper);
         upper = greater(upper, -reply.lower);

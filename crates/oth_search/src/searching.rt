@@ -1,4 +1,4 @@
-ghost use Rattle.std.specs.Prelude.{◌≡◌, ℕ, ℤ, ◌<◌, neg_ℤ, pos, true, ◌⊎◌, ◌≤ℤ◌, ◌<ℤ◌};
+ghost use Rattle.std.specs.Prelude.{◌≡◌, ℕ, ℤ, ◌<◌, neg_ℤ, pos, true, ◌⊎◌, ◌≤ℤ◌, ◌<ℤ◌, ◌+ℤ◌};
 ghost use Rattle.oth_rules.specs.Position.{pass};
 ghost use Rattle.oth_rules.specs.Move.{can_move};
 ghost use Rattle.oth_rules.specs.Score.{score_of};
@@ -9,7 +9,7 @@ ghost use Rattle.oth_search.specs.Bound.{BoundsAt, IsThreshold, IsWindow, Enclos
 use crate::answer::Answer;
 use crate::bounds::{Interval, Solved};
 use crate::cells::Cells;
-use crate::deep::known;
+use crate::deep::{known, probe_with};
 use crate::entry::Entry;
 use crate::window::search_window;
 use oth_rules::{Board, Scoring};
@@ -63,6 +63,18 @@ impl Solved {
             scoring,
             interval,
         }
+    }
+
+    /// The board with bounds that tell on which side of `alpha` its value lies, by a search with no other question.
+    pub fn by_probe<C: Cells>(board: &Board, alpha: i8, cells: &mut C, scoring: Scoring) -> Solved
+        requires { IsThreshold alpha }
+        ensures board { result.board ≡ board.now }
+        ensures scoring { result.scoring ≡ scoring }
+        ensures decides { Decides result.interval.lower result.interval.upper alpha (alpha +ℤ pos 1) }
+        ensures fixed { C.fixed cells.new ≡ C.fixed cells.old }
+    {
+        let found = probe_with(*board, alpha, cells, scoring);
+        Solved::unknown(*board, scoring).narrowed(alpha, found)
     }
 
     /// The board of an answer with its score as both bounds.

@@ -1,7 +1,7 @@
-use Rattle.std.proofs.Common.{ℕ, refl, ◌∙◌, arith, rules}
+use Rattle.std.proofs.Common.{ℕ, refl, ◌∙◌, arith}
 use Rattle.std.proofs.lemmas.Int.{ints}
-use Rattle.oth_search.proofs.SquareSets.{Takes-next, FromPlace-end}
-use Rattle.oth_search.proofs.Replies.{NoneAbove-list, can_move-from_moves, can_move-from_none, can_move-passed}
+use Rattle.oth_search.proofs.SquareSets.{Takes-without, In-none}
+use Rattle.oth_search.proofs.Replies.{NoneAbove-moves, can_move-from_moves, can_move-from_none, can_move-passed}
 use Rattle.oth_search.proofs.Enclosing.{MovesLoop-start, MovesLoop-next, MovesLoop-end, same_scoring}
 use Rattle.oth_search.proofs.combining.+combining.Goals as goal
 
@@ -21,25 +21,23 @@ pub known_below-turned-requires-clause-some : goal.known_below-turned-requires-c
 known_below-turned-requires-clause-some t c =
     can_move-passed c.args.board c.pass-passed.result _ c.pass-passed.ensures c.moves-2.ensures c.if-moves-ne0-2.true
 
-pub known_by_moves-loop-square-init : goal.known_by_moves-loop-square-init
-known_by_moves-loop-square-init t c =
+pub known_by_moves-loop-rest-init : goal.known_by_moves-loop-rest-init
+known_by_moves-loop-rest-init t c =
     MovesLoop-start c.args.scoring c.args.board _ _ _ refl refl
-    (NoneAbove-list c.args.scoring c.args.board _ _ _ c.as_slice-square-items.ensures.value c.order-squares.ensures)
+    (NoneAbove-moves c.args.scoring c.args.board _ _ c.moves-rest.ensures)
 
 pub known_by_moves-play_legal-child-requires : goal.known_by_moves-play_legal-child-requires
 known_by_moves-play_legal-child-requires t c =
-    c.loop-square.invariant.replies.untried _ (c.loop-square.square-index, omega arith, omega (arith, c.loop-square-test.true), search rules)
+    c.loop-rest.invariant.replies.untried _ c.first-square.ensures.member
 
-pub known_by_moves-loop-square-preserved : goal.known_by_moves-loop-square-preserved
-known_by_moves-loop-square-preserved t c =
-    let xs = c.as_slice-square-items.result.now in
-    let i = c.loop-square.square-index in
-    let s : ℕ = c.square-item.result in
+pub known_by_moves-loop-rest-preserved : goal.known_by_moves-loop-rest-preserved
+known_by_moves-loop-rest-preserved t c =
+    let s : ℕ = c.first-square.result in
     let r = c.known_below.result in
     let low = c.greater-lower.ensures in
     let high = c.greater-upper.ensures in
-    MovesLoop-next c.args.scoring c.args.board r.board _ s _ _ _ r.interval.lower r.interval.upper _ _ c.greater-lower.result c.greater-upper.result _ _ c.loop-square.invariant
-    (Takes-next xs i s (omega (arith, c.loop-square-test.true)) (search rules))
+    MovesLoop-next c.args.scoring c.args.board r.board _ s _ _ _ r.interval.lower r.interval.upper _ _ c.greater-lower.result c.greater-upper.result _ _ c.loop-rest.invariant
+    (Takes-without _ s _ c.first-square.ensures.member c.without-rest.ensures.rest)
     (c.known_below.ensures.board ∙ c.play_legal-child.ensures)
     r.interval.is_interval
     (same_scoring c.args.scoring r.scoring r.board _ _ c.known_below.ensures.scoring r.encloses)
@@ -52,4 +50,4 @@ known_by_moves-loop-square-preserved t c =
 
 pub known_by_moves-invariant_of-result-2 : goal.known_by_moves-invariant_of-result-2
 known_by_moves-invariant_of-result-2 t c =
-    record { encloses = MovesLoop-end c.args.scoring c.args.board _ _ _ c.loop-square.invariant (λ s h. FromPlace-end _ _ s (omega (arith, c.loop-square-test.false)) h) c.requires }
+    record { encloses = MovesLoop-end c.args.scoring c.args.board _ _ _ c.loop-rest.invariant (In-none _ c.loop-rest-test.false) c.requires }
