@@ -1,4 +1,4 @@
-ghost use Rattle.std.specs.Prelude.{◌≡◌, ℕ, ◌<◌, neg_ℤ, pos, true};
+ghost use Rattle.std.specs.Prelude.{◌≡◌, ℕ, ◌<◌, neg_ℤ, pos, true, IfSome};
 ghost use Rattle.std.specs.List.{All};
 ghost use Rattle.oth_rules.specs.Move.{can_move};
 ghost use Rattle.oth_rules.specs.Score.{score_of};
@@ -97,6 +97,9 @@ fn probe_ordered<C: Cells>(node: Node, alpha: i8, cells: &mut C, scoring: Scorin
         return probe_children(node, middle.as_slice(), alpha, cells, scoring);
     }
     let plain: ArrayVec<Child, 32> = children(&node);
+    if let Some(found) = known_above(&node.board, plain.as_slice(), alpha, cells, scoring) {
+        return found;
+    }
     let looked: ArrayVec<Child, 32> = looked_at(&node, plain.as_slice());
     probe_children(node, looked.as_slice(), alpha, cells, scoring)
 }
@@ -134,6 +137,30 @@ fn probe_children<C: Cells>(
         }
     }
     best
+}
+
+/// A bound above `alpha`, if the cells tell one of a child.
+fn known_above<C: Cells>(
+    parent: &Board,
+    children: &[Child],
+    alpha: i8,
+    cells: &mut C,
+    scoring: Scoring,
+) -> Option<i8>
+    requires { All (IsChild parent.now) children.now }
+    ensures value { IfSome result (BoundsAt (value (score_of scoring) parent.now) alpha) }
+    ensures fixed { C.fixed cells.new ≡ C.fixed cells.old }
+{
+    for child in children {
+        if child.moves != 0 {
+            let known = known(&child.board.canonical().0, cells, scoring);
+            let reply = -known.interval.upper;
+            if reply > alpha {
+                return Some(reply);
+            }
+        }
+    }
+    None
 }
 
 /// What the cells tell of a canonical board.
