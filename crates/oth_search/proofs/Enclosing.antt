@@ -1,5 +1,5 @@
 -- Lemmas on bounds that enclose a value.
-use Rattle.std.proofs.Common.{true, false, ◌≡◌, ℕ, subst, sym, arith, ◌⊎◌, inl, inr}
+use Rattle.std.proofs.Common.{true, false, ◌≡◌, ℕ, refl, subst, sym, arith, ◌⊎◌, inl, inr}
 use Rattle.std.specs.Prelude.{unsigned_abs, ◌-ℤ◌, ◌+ℤ◌, ◌<◌, ℤ, pos, negsuc, neg_ℤ, ◌≤ℤ◌, ◌<ℤ◌}
 use Rattle.std.proofs.lemmas.Int.{ints, by_lt_z}
 use Rattle.oth_rules.specs.declared.scoring.Scoring.{Scoring}
@@ -89,6 +89,16 @@ pub Encloses-lift : (g : Scoring) (p q : Position) (s : ℕ) (lower upper low hi
 Encloses-lift g p q s lower upper low high legal is h e f =
     let v = subst (λ x. Encloses lower upper (value (score_of g) x)) is h in
     record { below = omega (arith, ints, v.above, value-move_bound (score_of g) p s legal); above = omega (arith, ints, (IsScore-value g p).high) }
+
+-- .. and where that is above the threshold it bounds the value
+pub BoundsAt-child : (g : Scoring) (p q : Position) (s : ℕ) (alpha lower upper r : ℤ) → IsLegal p s → q ≡ after p s → IsInterval lower upper → Encloses lower upper (value (score_of g) q) → r ≡ neg_ℤ upper → alpha <ℤ r → BoundsAt (value (score_of g) p) alpha r
+BoundsAt-child g p q s alpha lower upper r legal is i h e above =
+    let lifted = Encloses-lift g p q s lower upper r (pos 64) legal is h e refl in
+    record {
+      score = record { low = omega (arith, ints, i.high); high = omega (arith, ints, i.low, i.ordered) };
+      fails_low = λ k. absurd (omega (arith, ints));
+      fails_high = λ k. lifted.below;
+    }
 
 -- the value of an answer
 pub IsScore-answer : (g : Scoring) (p : Position) (r : ℤ) → r ≡ value (score_of g) p → IsScore r

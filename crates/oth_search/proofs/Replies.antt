@@ -55,10 +55,14 @@ NoneAbove-end g p left best n none some =
     let reached = value-move_reached (score_of g) p some in
     ⊎_elim (λ h. absurd (none reached.0 h)) (λ bound. rw (reached.2) bound) (n.tried reached.0 reached.1)
 
+-- the squares of the word of the moves are legal
+pub legal-moves : (p : Position) (moves : ℕ) → moves ≡ word_of (is_legal p) → (s : ℕ) → In moves s → IsLegal p s
+legal-moves p moves e s h = record { on_board = h.on_board; legal = sym (has-moves p s h.on_board) ∙ ap (λ w. has w s) (sym e) ∙ h.member }
+
 -- at the start every legal square is left
 pub NoneAbove-moves : (g : Scoring) (p : Position) (moves : ℕ) (best : ℤ) → moves ≡ word_of (is_legal p) → NoneAbove g p (In moves) best
 NoneAbove-moves g p moves best e = record {
-  untried = λ s h. record { on_board = h.on_board; legal = sym (has-moves p s h.on_board) ∙ ap (λ w. has w s) (sym e) ∙ h.member };
+  untried = legal-moves p moves e;
   tried = λ s h. inl (record { on_board = h.on_board; member = ap (λ w. has w s) e ∙ has-moves p s h.on_board ∙ h.legal });
 }
 

@@ -1,13 +1,13 @@
 -- Lemmas on sets of squares.
-use Rattle.std.proofs.Common.{◌≡◌, ◌≢◌, ◌⊎◌, inl, inr, ⊎_elim, ℕ, ◌+◌, ◌*◌, ◌%◌, ◌^◌, ◌<◌, ◌≤◌, List, length, get_or, true, false, bit_and, bit_or, arith, ap, sym, ◌∙◌, w64}
+use Rattle.std.proofs.Common.{◌≡◌, ◌≢◌, ◌⊎◌, inl, inr, ⊎_elim, ℕ, ◌+◌, ◌*◌, ◌%◌, ◌^◌, ◌<◌, ◌≤◌, List, length, get_or, true, false, bit_and, bit_or, arith, refl, ap, sym, ◌∙◌, w64}
 use Rattle.std.specs.Int.{bit_not, bit_at}
 use Rattle.std.specs.Prelude.{◌==◌}
 use Rattle.std.proofs.lemmas.Nat.Bits.{bit_at_clear_same, bit_at_clear_other, bit_at_set_same, bit_at_set_other, bit_at-zero}
 use Rattle.std.proofs.lemmas.Nat.{and_le_l, pow_below}
 use Rattle.std.proofs.lemmas.List.{get_or_default}
-use Rattle.std.proofs.lemmas.Bool.{and_parts, false≢true, cases_eq, cases_lt}
+use Rattle.std.proofs.lemmas.Bool.{and_parts, false≢true, cases_eq, cases_lt, eq-eqb}
 use Rattle.oth_rules.specs.Square.{has}
-use Rattle.oth_rules.proofs.Bits.{has-and}
+use Rattle.oth_rules.proofs.Bits.{has-and, has-pow}
 use Rattle.oth_search.specs.Squares.{In, Without, With}
 
 -- one square less is left
@@ -35,6 +35,13 @@ Without-place n k h = record {
 
 pub In-both : (set early s : ℕ) → s < 64 → has (bit_and set early) s ≡ true → In set s
 In-both set early s within member = record { on_board = within; member = (and_parts (has set s) (has early s) (sym (has-and set early s) ∙ member)).0 }
+
+-- a set that keeps the word of a square has the square
+pub In-word : (set k word : ℕ) → k < 64 → word ≡ 2 ^ k → bit_and set word ≡ word → In set k
+In-word set k word h e same = record {
+  on_board = h;
+  member = (and_parts (has set k) (has word k) (sym (has-and set word k) ∙ ap (λ w. has w k) same ∙ ap (λ w. has w k) e ∙ has-pow k k ∙ eq-eqb k k refl)).0;
+}
 
 pub Without-first : (n k bit : ℕ) → k < 64 → bit ≡ 2 ^ k → Without n k (bit_and n (bit_not w64 bit))
 Without-first n k bit h e = rw (one-square k bit h e) (Without-place n k h)

@@ -6,3 +6,4 @@ pub mod Replies
 pub mod Entries
 pub mod Lasts
 pub mod Full
+pub mod Children

@@ -1,57 +1,71 @@
-ghost use Rattle.std.specs.Prelude.{◌≡◌, ℕ, ◌<◌, neg_ℤ, pos, true};
-ghost use Rattle.oth_rules.specs.Square.{word_of};
-ghost use Rattle.oth_rules.specs.Move.{is_legal, can_move};
+ghost use Rattle.std.specs.Prelude.{◌≡◌, ℕ, ◌<◌, neg_ℤ, pos, true, IfSome};
+ghost use Rattle.std.specs.List.{All};
+ghost use Rattle.oth_rules.specs.Move.{can_move};
 ghost use Rattle.oth_rules.specs.Score.{score_of};
 ghost use Rattle.oth_rules.specs.Value.{value};
 ghost use Rattle.oth_rules.specs.Symmetry.{IsCanonical};
 ghost use Rattle.oth_search.specs.Bound.{BoundsAt, IsThreshold};
+ghost use Rattle.oth_search.specs.Children.{IsChild};
 
 use crate::bounds::Solved;
 use crate::cells::Cells;
+use crate::child::Child;
+use crate::children::{children, looked_at, next_child};
 use crate::entry::Entry;
-use crate::ordering::ordered;
+use crate::node::Node;
+use crate::outlook::FEWEST_EMPTIES_LOOKED;
 use crate::probe::probe;
+use crate::squares::without;
+use arrayvec::ArrayVec;
 use oth_rules::{Board, Scoring};
 
 /// Boards with fewer empty squares are searched without an order.
-const FEWEST_EMPTIES_ORDERED: u8 = 7;
+const FEWEST_EMPTIES_ORDERED: u8 = 6;
 
 /// Boards with fewer empty squares are not kept.
 const FEWEST_EMPTIES_KEPT: u8 = 8;
 
 /// As `probe`, with the cells.
-#[cycle(deep)]
 pub fn probe_with<C: Cells>(board: Board, alpha: i8, cells: &mut C, scoring: Scoring) -> i8
     requires { IsThreshold alpha }
     ensures value { BoundsAt (value (score_of scoring) board) alpha result }
     ensures fixed { C.fixed cells.new ≡ C.fixed cells.old }
 {
+    probe_node(Node::of(board), alpha, cells, scoring)
+}
+
+/// The same, where the moves are known.
+#[cycle(deep)]
+fn probe_node<C: Cells>(node: Node, alpha: i8, cells: &mut C, scoring: Scoring) -> i8
+    requires { IsThreshold alpha }
+    ensures value { BoundsAt (value (score_of scoring) node.board) alpha result }
+    ensures fixed { C.fixed cells.new ≡ C.fixed cells.old }
+{
+    let board = node.board;
     if board.empties() < FEWEST_EMPTIES_ORDERED {
         return probe(board, alpha, scoring);
     }
-    let moves = board.moves();
-    if moves != 0 {
-        return probe_kept(board, moves, alpha, cells, scoring);
+    if node.moves != 0 {
+        return probe_kept(node, alpha, cells, scoring);
     }
-    let passed = board.pass();
-    let replies = passed.moves();
-    if replies != 0 {
-        return -probe_kept(passed, replies, -alpha - 1, cells, scoring);
+    let passed = Node::of(board.pass());
+    if passed.moves != 0 {
+        return -probe_kept(passed, -alpha - 1, cells, scoring);
     }
     board.final_score(scoring)
 }
 
 /// Looks the board up, and puts what it found unless the entry decides.
 #[cycle(deep)]
-fn probe_kept<C: Cells>(board: Board, moves: u64, alpha: i8, cells: &mut C, scoring: Scoring) -> i8
+fn probe_kept<C: Cells>(node: Node, alpha: i8, cells: &mut C, scoring: Scoring) -> i8
     requires threshold { IsThreshold alpha }
-    requires some { can_move board ≡ true }
-    requires legal { moves ≡ word_of (is_legal board) }
-    ensures value { BoundsAt (value (score_of scoring) board) alpha result }
+    requires some { can_move node.board ≡ true }
+    ensures value { BoundsAt (value (score_of scoring) node.board) alpha result }
     ensures fixed { C.fixed cells.new ≡ C.fixed cells.old }
 {
+    let board = node.board;
     if board.empties() < FEWEST_EMPTIES_KEPT {
-        return probe_ordered(board, moves, alpha, cells, scoring);
+        return probe_ordered(node, alpha, cells, scoring);
     }
     let known = known(&board.canonical().0, cells, scoring);
     if known.interval.lower > alpha {
@@ -60,30 +74,61 @@ fn probe_kept<C: Cells>(board: Board, moves: u64, alpha: i8, cells: &mut C, scor
     if known.interval.upper <= alpha {
         return known.interval.upper;
     }
-    let found = probe_ordered(board, moves, alpha, cells, scoring);
+    let found = probe_ordered(node, alpha, cells, scoring);
     cells.put(&Entry::canonical(&known.narrowed(alpha, found)));
     found
 }
 
-/// Searches the replies in their order.
+/// Searches the children in their order. Where few squares are empty a short list has room for all of them.
 #[cycle(deep)]
-pub fn probe_ordered<C: Cells>(
-    board: Board,
-    moves: u64,
+fn probe_ordered<C: Cells>(node: Node, alpha: i8, cells: &mut C, scoring: Scoring) -> i8
+    requires threshold { IsThreshold alpha }
+    requires some { can_move node.board ≡ true }
+    ensures value { BoundsAt (value (score_of scoring) node.board) alpha result }
+    ensures fixed { C.fixed cells.new ≡ C.fixed cells.old }
+{
+    let empties = node.board.empties();
+    if empties <= 8 {
+        let short: ArrayVec<Child, 8> = children(&node);
+        return probe_children(node, short.as_slice(), alpha, cells, scoring);
+    }
+    if empties < FEWEST_EMPTIES_LOOKED {
+        let middle: ArrayVec<Child, 10> = children(&node);
+        return probe_children(node, middle.as_slice(), alpha, cells, scoring);
+    }
+    let plain: ArrayVec<Child, 32> = children(&node);
+    if let Some(found) = known_above(&node.board, plain.as_slice(), alpha, cells, scoring) {
+        return found;
+    }
+    let looked: ArrayVec<Child, 32> = looked_at(&node, plain.as_slice());
+    probe_children(node, looked.as_slice(), alpha, cells, scoring)
+}
+
+/// Searches these children and any other, the best-ranked first.
+#[cycle(deep)]
+fn probe_children<C: Cells>(
+    node: Node,
+    children: &[Child],
     alpha: i8,
     cells: &mut C,
     scoring: Scoring,
 ) -> i8
     requires threshold { IsThreshold alpha }
-    requires some { can_move board ≡ true }
-    requires legal { moves ≡ word_of (is_legal board) }
-    ensures value { BoundsAt (value (score_of scoring) board) alpha result }
+    requires some { can_move node.board ≡ true }
+    requires children { All (IsChild node.board) children.now }
+    ensures value { BoundsAt (value (score_of scoring) node.board) alpha result }
     ensures fixed { C.fixed cells.new ≡ C.fixed cells.old }
 {
     let mut best = -64;
-    let squares = ordered(&board, moves);
-    for square in squares.as_slice() {
-        let reply = -probe_with(board.play_legal(*square), -alpha - 1, cells, scoring);
+    let mut left = node.moves;
+    while left != 0 {
+        let child = next_child(&node.board, children, left);
+        left = without(left, child.square);
+        let next = Node {
+            board: child.board,
+            moves: child.moves,
+        };
+        let reply = -probe_node(next, -alpha - 1, cells, scoring);
         if reply > alpha {
             return reply;
         }
@@ -92,6 +137,30 @@ pub fn probe_ordered<C: Cells>(
         }
     }
     best
+}
+
+/// A bound above `alpha`, if the cells tell one of a child.
+fn known_above<C: Cells>(
+    parent: &Board,
+    children: &[Child],
+    alpha: i8,
+    cells: &mut C,
+    scoring: Scoring,
+) -> Option<i8>
+    requires { All (IsChild parent.now) children.now }
+    ensures value { IfSome result (BoundsAt (value (score_of scoring) parent.now) alpha) }
+    ensures fixed { C.fixed cells.new ≡ C.fixed cells.old }
+{
+    for child in children {
+        if child.moves != 0 {
+            let known = known(&child.board.canonical().0, cells, scoring);
+            let reply = -known.interval.upper;
+            if reply > alpha {
+                return Some(reply);
+            }
+        }
+    }
+    None
 }
 
 /// What the cells tell of a canonical board.

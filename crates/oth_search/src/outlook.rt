@@ -1,15 +1,18 @@
-//! A guess of how well a board stands by a look some plies ahead, for the order of moves. No answer depends on it.
+//! A guess of how well a board stands by a look a ply ahead, for the order of moves. No answer depends on it.
 ghost use Rattle.std.specs.Prelude.{◌<◌, ◌≤◌, pos, neg_ℤ, ◌≤ℤ◌};
 
 use crate::ordering::{CORNERS, around, count};
 use crate::squares::{first, without};
 use oth_rules::Board;
 
-/// Boards with fewer empty squares are not looked ahead from.
-const FEWEST_EMPTIES: u8 = 13;
+/// The children of boards with fewer empty squares are not looked at.
+pub const FEWEST_EMPTIES_LOOKED: u8 = 11;
 
-/// The most plies of a look ahead.
-const MOST_PLIES: u8 = 4;
+/// Those of boards with fewer empty squares are looked at as they stand, and others a ply ahead.
+const FEWEST_EMPTIES_AHEAD: u8 = 12;
+
+/// The points above the least so far up to which a child is looked at closely.
+const MARGIN: i16 = 30;
 
 /// The points of a disc when the game is over.
 const DISC: i16 = 100;
@@ -44,6 +47,22 @@ impl Outlook {
         }
     }
 
+    /// The one with fewer points.
+    pub fn lesser(self, other: Outlook) -> Outlook {
+        if other.points < self.points {
+            other
+        } else {
+            self
+        }
+    }
+
+    /// What is enough to be looked at no longer, where this is the least so far.
+    pub fn enough(self) -> Outlook {
+        Outlook {
+            points: (self.points + MARGIN).min(6400),
+        }
+    }
+
     /// How much it is above the worst one.
     pub fn above_worst(self) -> u16
         ensures { result ≤ 12800 }
@@ -52,43 +71,32 @@ impl Outlook {
     }
 }
 
-/// How many plies are looked ahead beyond a move of a board with so many empty squares, if that pays.
-pub fn plies_ahead(empties: u8) -> Option<u8> {
-    if empties < FEWEST_EMPTIES {
-        return None;
+/// What a child with these moves seems to be worth for its mover, for the order of the children of a board with so many empty
+/// squares: after one more ply, or for few as it stands. Less exact from `enough` on.
+pub fn outlook_of(child: &Board, moves: u64, empties: u8, enough: Outlook) -> Outlook {
+    if empties < FEWEST_EMPTIES_AHEAD {
+        return standing(child, moves);
     }
-    Some((empties - FEWEST_EMPTIES).min(MOST_PLIES))
-}
-
-/// What it seems to be worth for the mover after so many plies of best moves by both; less exact from `enough` on.
-#[cycle(ahead)]
-pub fn look_ahead(board: Board, plies: u8, enough: Outlook) -> Outlook {
-    if plies == 0 {
-        return standing(&board);
-    }
-    let moves = board.moves();
     if moves != 0 {
-        return look_past_moves(&board, moves, plies, enough);
+        return look_past_moves(child, moves, enough);
     }
-    let passed = board.pass();
-    if passed.moves() != 0 {
-        return look_ahead(passed, plies - 1, Outlook::BEST).turned();
+    let passed = child.pass();
+    let replies = passed.moves();
+    if replies != 0 {
+        return standing(&passed, replies).turned();
     }
-    by_discs(&board)
+    by_discs(child)
 }
 
-/// The same, where the mover has these moves.
-#[cycle(ahead)]
-fn look_past_moves(board: &Board, moves: u64, plies: u8, enough: Outlook) -> Outlook
-    requires { 0 < plies }
-{
+/// The best standing after a move.
+fn look_past_moves(board: &Board, moves: u64, enough: Outlook) -> Outlook {
     let mut best = Outlook::WORST;
     let mut rest = moves;
     while rest != 0 {
         let square = first(rest);
         rest = without(rest, square);
         if let Some(child) = board.play(square) {
-            best = best.better(look_ahead(child, plies - 1, best.turned()).turned());
+            best = best.better(standing(&child, child.moves()).turned());
         }
         if best.points >= enough.points {
             return best;
@@ -104,18 +112,18 @@ fn by_discs(board: &Board) -> Outlook {
     }
 }
 
-/// By the mover's strength and the opponent's.
-fn standing(board: &Board) -> Outlook {
+/// By the strength of the mover, who has these moves, and the opponent's.
+fn standing(board: &Board, moves: u64) -> Outlook {
+    let passed = board.pass();
     Outlook {
-        points: strength(board) as i16 - strength(&board.pass()) as i16,
+        points: strength(board, moves) as i16 - strength(&passed, passed.moves()) as i16,
     }
 }
 
 /// How strong the mover is: moves, corners among them, squares beside opposing discs, and corners that are taken.
-fn strength(board: &Board) -> u16
+fn strength(board: &Board, moves: u64) -> u16
     ensures { result ≤ 4800 }
 {
-    let moves = board.moves();
     16 * count(moves)
         + 16 * count(moves & CORNERS)
         + 3 * count(around(board.opp()) & board.empty_squares())

@@ -48,6 +48,14 @@ pub fn odd_quadrants(set: u64) -> u64 {
     odd
 }
 
+/// Whether the square is in the set.
+pub fn holds(set: u64, square: Square) -> bool
+    ensures { IsTrue result → In set square }
+{
+    let word = square.word();
+    set & word == word
+}
+
 /// The set without a square of it.
 pub fn without(set: u64, square: Square) -> u64
     requires { In set square }

@@ -1,21 +1,19 @@
-use Rattle.std.proofs.Common.{ℕ, refl, ◌∙◌, arith, rules}
+use Rattle.std.proofs.Common.{refl, ◌∙◌, arith}
 use Rattle.std.specs.Prelude.{ℤ, neg_ℤ}
 use Rattle.std.proofs.lemmas.Int.{ints}
-use Rattle.oth_rules.specs.Laws.{IsLegal}
-use Rattle.oth_search.proofs.SquareSets.{Takes-next, FromPlace-end}
+use Rattle.oth_search.proofs.SquareSets.{Takes-without, In-none}
 use Rattle.oth_search.proofs.Enclosing.{BoundsAt-lower, BoundsAt-upper, BoundsAt-same, Encloses-known, value-known, IsCanonical-canonical}
-use Rattle.oth_search.proofs.Replies.{BoundsAt-reply, BoundsAt-cut, BoundsAt-pass, BoundsAt-over, ReplyLoop-start, ReplyLoop-keeps, ReplyLoop-takes, ReplyLoop-end, NoneAbove-list, can_move-from_moves, can_move-from_none, fewer_after, same_after_pass}
+use Rattle.oth_search.proofs.Replies.{BoundsAt-reply, BoundsAt-cut, BoundsAt-pass, BoundsAt-over, ReplyLoop-start, ReplyLoop-keeps, ReplyLoop-takes, ReplyLoop-end, NoneAbove-moves, can_move-from_moves, can_move-from_none, fewer_after, same_after_pass}
 use Rattle.oth_search.proofs.deep.+deep.Goals as goal
-use Rattle.oth_search.proofs.deep.+deep.Goals.{probe_ordered-then-reply-best, probe_ordered-else-reply-best}
 
 pub probe_kept-known-known-requires : goal.probe_kept-known-known-requires
-probe_kept-known-known-requires g t c = IsCanonical-canonical c.args.board c.canonical.result.0 c.canonical.ensures.board
+probe_kept-known-known-requires g t c = IsCanonical-canonical c.args.node.board c.canonical.result.0 c.canonical.ensures.board
 
 pub probe_kept-returns-then-known-alpha-clause-value : goal.probe_kept-returns-then-known-alpha-clause-value
 probe_kept-returns-then-known-alpha-clause-value g t c =
     let k = c.known-known.result in
     BoundsAt-lower _ c.args.alpha k.interval.lower k.interval.upper _
-    (Encloses-known c.args.scoring k.scoring c.args.board c.canonical.result.0 k.board _ _ c.canonical.ensures.board c.known-known.ensures.board c.known-known.ensures.scoring k.encloses)
+    (Encloses-known c.args.scoring k.scoring c.args.node.board c.canonical.result.0 k.board _ _ c.canonical.ensures.board c.known-known.ensures.board c.known-known.ensures.scoring k.encloses)
     k.interval.is_interval
     (omega (arith, ints))
     (omega (arith, ints, c.if-known-alpha.true))
@@ -24,7 +22,7 @@ pub probe_kept-returns-then-known-alpha-2-clause-value : goal.probe_kept-returns
 probe_kept-returns-then-known-alpha-2-clause-value g t c =
     let k = c.known-known.result in
     BoundsAt-upper _ c.args.alpha k.interval.lower k.interval.upper _
-    (Encloses-known c.args.scoring k.scoring c.args.board c.canonical.result.0 k.board _ _ c.canonical.ensures.board c.known-known.ensures.board c.known-known.ensures.scoring k.encloses)
+    (Encloses-known c.args.scoring k.scoring c.args.node.board c.canonical.result.0 k.board _ _ c.canonical.ensures.board c.known-known.ensures.board c.known-known.ensures.scoring k.encloses)
     k.interval.is_interval
     (omega (arith, ints))
     (omega (arith, ints, c.if-known-alpha-2.true))
@@ -33,119 +31,118 @@ pub probe_kept-narrowed-requires : goal.probe_kept-narrowed-requires
 probe_kept-narrowed-requires g t c =
     let k = c.known-known.result in
     BoundsAt-same _ _ _ _ _ _
-    (value-known c.args.scoring k.scoring c.args.board c.canonical.result.0 k.board c.canonical.ensures.board c.known-known.ensures.board c.known-known.ensures.scoring)
+    (value-known c.args.scoring k.scoring c.args.node.board c.canonical.result.0 k.board c.canonical.ensures.board c.known-known.ensures.board c.known-known.ensures.scoring)
     refl (omega (arith, ints)) c.probe_ordered-found.ensures.value
 
 pub probe_kept-canonical-requires-2 : goal.probe_kept-canonical-requires-2
 probe_kept-canonical-requires-2 g t c =
-    IsCanonical-canonical c.args.board c.narrowed.result.board (c.narrowed.ensures.board ∙ c.known-known.ensures.board ∙ c.canonical.ensures.board)
+    IsCanonical-canonical c.args.node.board c.narrowed.result.board (c.narrowed.ensures.board ∙ c.known-known.ensures.board ∙ c.canonical.ensures.board)
 
-pub probe_ordered-loop-square-init : goal.probe_ordered-loop-square-init
-probe_ordered-loop-square-init g t c = (
-  ReplyLoop-start c.args.scoring c.args.board _ _ _ refl (omega (arith, ints, c.requires.threshold.low))
-      (NoneAbove-list c.args.scoring c.args.board _ _ _ c.as_slice-square-items.ensures.value c.ordered-squares.ensures),
+pub probe_children-loop-left-init : goal.probe_children-loop-left-init
+probe_children-loop-left-init g t c = (
+  ReplyLoop-start c.args.scoring c.args.node.board _ _ _ refl (omega (arith, ints, c.requires.threshold.low))
+      (NoneAbove-moves c.args.scoring c.args.node.board c.args.node.moves _ c.args.node.legal),
   refl,
 )
 
-pub probe_ordered-play_legal-requires : goal.probe_ordered-play_legal-requires
-probe_ordered-play_legal-requires g t c =
-    c.loop-square.invariant.0.replies.untried _ (c.loop-square.square-index, omega arith, omega (arith, c.loop-square-test.true), search rules)
+pub probe_children-next_child-child-requires-clause-legal : goal.probe_children-next_child-child-requires-clause-legal
+probe_children-next_child-child-requires-clause-legal g t c = c.loop-left.invariant.0.replies.untried
 
-pub probe_ordered-probe_with-reply-requires : goal.probe_ordered-probe_with-reply-requires
-probe_ordered-probe_with-reply-requires g t c =
-    let legal : IsLegal c.args.board c.square-item.result =
-    c.loop-square.invariant.0.replies.untried _ (c.loop-square.square-index, omega arith, omega (arith, c.loop-square-test.true), search rules) in
+pub probe_children-probe_node-reply-requires : goal.probe_children-probe_node-reply-requires
+probe_children-probe_node-reply-requires g t c =
+    let made = c.next_child-child.ensures.child in
     λ κs within. (
-      omega (arith, c.decreases, fewer_after c.args.board c.play_legal.result _ c.play_legal.ensures legal),
+      omega (arith, c.decreases, fewer_after c.args.node.board c.next_child-child.result.board _ made.board made.legal),
       (
         within,
         record { low = omega (arith, ints, c.requires.threshold.high); high = omega (arith, ints, c.requires.threshold.low) },
       ),
     )
 
-pub probe_ordered-returns-then-reply-alpha-clause-value : goal.probe_ordered-returns-then-reply-alpha-clause-value
-probe_ordered-returns-then-reply-alpha-clause-value g t c =
-    let s : ℕ = c.square-item.result in
-    BoundsAt-cut c.args.scoring c.args.board s c.args.alpha _
-    (c.loop-square.invariant.0.replies.untried s (c.loop-square.square-index, omega arith, omega (arith, c.loop-square-test.true), search rules))
-    (BoundsAt-reply c.args.scoring c.args.board c.play_legal.result s c.args.alpha _ _ c.probe_with-reply.result c.play_legal.ensures (omega (arith, ints)) (omega (arith, ints)) c.probe_with-reply.ensures.value)
+pub probe_children-returns-then-reply-alpha-clause-value : goal.probe_children-returns-then-reply-alpha-clause-value
+probe_children-returns-then-reply-alpha-clause-value g t c =
+    let made = c.next_child-child.ensures.child in
+    BoundsAt-cut c.args.scoring c.args.node.board c.next_child-child.result.square c.args.alpha _ made.legal
+    (BoundsAt-reply c.args.scoring c.args.node.board c.next_child-child.result.board c.next_child-child.result.square c.args.alpha _ _ c.probe_node-reply.result made.board (omega (arith, ints)) (omega (arith, ints)) c.probe_node-reply.ensures.value)
     (omega (arith, ints, c.if-reply-alpha.true))
 
-pub probe_ordered-loop-square-preserved : goal.probe_ordered-loop-square-preserved
-probe_ordered-loop-square-preserved g t c =
-    let xs = c.as_slice-square-items.result.now in
-    let i = c.loop-square.square-index in
-    let s : ℕ = c.square-item.result in
-    let r : ℤ = neg_ℤ c.probe_with-reply.result in
-    let takes = Takes-next xs i s (omega (arith, c.loop-square-test.true)) (search rules) in
-    let same = c.probe_with-reply.ensures.fixed ∙ c.loop-square.invariant.1 in
-    elim c.if-reply-best.branch [
-      | probe_ordered-then-reply-best w ↦ (
-        rw (w.best-is) (ReplyLoop-takes c.args.scoring c.args.board _ _ s _ _ _ c.loop-square.invariant.0 takes
-            (BoundsAt-reply c.args.scoring c.args.board c.play_legal.result s _ _ _ c.probe_with-reply.result c.play_legal.ensures (omega (arith, ints)) (omega (arith, ints)) c.probe_with-reply.ensures.value)
-            (omega (arith, ints, c.if-reply-alpha.false))
-            (omega (arith, ints, w.if-reply-best.true))),
-        same,
-      )
-      | probe_ordered-else-reply-best w ↦ (
-        rw (w.best-is) (ReplyLoop-keeps c.args.scoring c.args.board _ _ s _ _ r c.loop-square.invariant.0 takes
-            (BoundsAt-reply c.args.scoring c.args.board c.play_legal.result s _ _ r c.probe_with-reply.result c.play_legal.ensures (omega (arith, ints)) refl c.probe_with-reply.ensures.value)
-            (omega (arith, ints, w.if-reply-best.false))),
-        same,
-      )
-    ]
+pub probe_children-loop-left-preserved : goal.probe_children-loop-left-preserved
+probe_children-loop-left-preserved g t c =
+    let child = c.next_child-child.result in
+    let made = c.next_child-child.ensures.child in
+    let r : ℤ = neg_ℤ c.probe_node-reply.result in (
+      ReplyLoop-keeps c.args.scoring c.args.node.board _ _ child.square _ _ r c.loop-left.invariant.0
+          (Takes-without _ _ _ c.next_child-child.ensures.member c.without-left.ensures.rest)
+          (BoundsAt-reply c.args.scoring c.args.node.board child.board child.square _ _ r c.probe_node-reply.result made.board (omega (arith, ints)) refl c.probe_node-reply.ensures.value)
+          (omega (arith, ints, c.if-reply-best.false)),
+      c.probe_node-reply.ensures.fixed ∙ c.loop-left.invariant.1,
+    )
 
-pub probe_ordered-returns-clause-value : goal.probe_ordered-returns-clause-value
-probe_ordered-returns-clause-value g t c =
-    ReplyLoop-end c.args.scoring c.args.board c.args.alpha _ _ _ c.loop-square.invariant.0 (omega (arith, ints))
-    (λ s h. FromPlace-end _ _ s (omega (arith, c.loop-square-test.false)) h) c.requires.some
+pub probe_children-loop-left-preserved-then-reply-best : goal.probe_children-loop-left-preserved-then-reply-best
+probe_children-loop-left-preserved-then-reply-best g t c =
+    let child = c.next_child-child.result in
+    let made = c.next_child-child.ensures.child in (
+      ReplyLoop-takes c.args.scoring c.args.node.board _ _ child.square _ _ _ c.loop-left.invariant.0
+          (Takes-without _ _ _ c.next_child-child.ensures.member c.without-left.ensures.rest)
+          (BoundsAt-reply c.args.scoring c.args.node.board child.board child.square _ _ _ c.probe_node-reply.result made.board (omega (arith, ints)) (omega (arith, ints)) c.probe_node-reply.ensures.value)
+          (omega (arith, ints, c.if-reply-alpha.false))
+          (omega (arith, ints, c.if-reply-best.true)),
+      c.probe_node-reply.ensures.fixed ∙ c.loop-left.invariant.1,
+    )
 
-pub probe_with-probe_kept-requires : goal.probe_with-probe_kept-requires
-probe_with-probe_kept-requires g t c =
+pub probe_children-returns-clause-value : goal.probe_children-returns-clause-value
+probe_children-returns-clause-value g t c =
+    ReplyLoop-end c.args.scoring c.args.node.board c.args.alpha _ _ _ c.loop-left.invariant.0 (omega (arith, ints)) (In-none _ c.loop-left-test.false) c.requires.some
+
+pub probe_children-returns-then-reply-alpha-clause-fixed : goal.probe_children-returns-then-reply-alpha-clause-fixed
+probe_children-returns-then-reply-alpha-clause-fixed g t c = c.probe_node-reply.ensures.fixed ∙ c.loop-left.invariant.1
+
+pub probe_children-returns-clause-fixed : goal.probe_children-returns-clause-fixed
+probe_children-returns-clause-fixed g t c = c.loop-left.invariant.1
+
+pub probe_node-probe_kept-requires : goal.probe_node-probe_kept-requires
+probe_node-probe_kept-requires g t c =
     λ κs within. (
       omega (arith, c.decreases),
       (
         within,
         (
           record { low = omega (arith, ints, c.requires.low); high = omega (arith, ints, c.requires.high) },
-          (can_move-from_moves c.args.board _ c.moves-moves.ensures c.if-moves-ne0.true, c.moves-moves.ensures),
+          can_move-from_moves c.args.node.board _ c.args.node.legal c.if-node-ne0.true,
         ),
       ),
     )
 
-pub probe_with-probe_kept-requires-then-replies-ne0 : goal.probe_with-probe_kept-requires-then-replies-ne0
-probe_with-probe_kept-requires-then-replies-ne0 g t c =
+pub probe_node-probe_kept-requires-then-passed-ne0 : goal.probe_node-probe_kept-requires-then-passed-ne0
+probe_node-probe_kept-requires-then-passed-ne0 g t c =
+    let passed = c.of-passed.result in
     λ κs within. (
-      omega (arith, c.decreases, same_after_pass c.args.board c.pass-passed.result c.pass-passed.ensures),
+      omega (arith, c.decreases, same_after_pass c.args.node.board passed.board (c.of-passed.ensures ∙ c.pass.ensures)),
       (
         within,
         (
           record { low = omega (arith, ints, c.requires.high); high = omega (arith, ints, c.requires.low) },
-          (can_move-from_moves c.pass-passed.result _ c.moves-replies.ensures c.if-replies-ne0.true, c.moves-replies.ensures),
+          can_move-from_moves passed.board _ passed.legal c.if-passed-ne0.true,
         ),
       ),
     )
 
-pub probe_with-returns-then-replies-ne0-clause-value : goal.probe_with-returns-then-replies-ne0-clause-value
-probe_with-returns-then-replies-ne0-clause-value g t c =
-    BoundsAt-pass c.args.scoring c.args.board c.pass-passed.result c.args.alpha _ _ c.probe_kept-then-replies-ne0.result
-    c.pass-passed.ensures
-    (can_move-from_none c.args.board _ c.moves-moves.ensures c.if-moves-ne0.false)
-    (can_move-from_moves c.pass-passed.result _ c.moves-replies.ensures c.if-replies-ne0.true)
+pub probe_node-returns-then-passed-ne0-clause-value : goal.probe_node-returns-then-passed-ne0-clause-value
+probe_node-returns-then-passed-ne0-clause-value g t c =
+    let passed = c.of-passed.result in
+    BoundsAt-pass c.args.scoring c.args.node.board passed.board c.args.alpha _ _ c.probe_kept-then-passed-ne0.result
+    (c.of-passed.ensures ∙ c.pass.ensures)
+    (can_move-from_none c.args.node.board _ c.args.node.legal c.if-node-ne0.false)
+    (can_move-from_moves passed.board _ passed.legal c.if-passed-ne0.true)
     (omega (arith, ints))
     (omega (arith, ints))
-    c.probe_kept-then-replies-ne0.ensures.value
+    c.probe_kept-then-passed-ne0.ensures.value
 
-pub probe_with-returns-clause-value : goal.probe_with-returns-clause-value
-probe_with-returns-clause-value g t c =
-    BoundsAt-over c.args.scoring c.args.board c.pass-passed.result c.args.alpha _
-    c.pass-passed.ensures
-    (can_move-from_none c.args.board _ c.moves-moves.ensures c.if-moves-ne0.false)
-    (can_move-from_none c.pass-passed.result _ c.moves-replies.ensures c.if-replies-ne0.false)
+pub probe_node-returns-clause-value : goal.probe_node-returns-clause-value
+probe_node-returns-clause-value g t c =
+    let passed = c.of-passed.result in
+    BoundsAt-over c.args.scoring c.args.node.board passed.board c.args.alpha _
+    (c.of-passed.ensures ∙ c.pass.ensures)
+    (can_move-from_none c.args.node.board _ c.args.node.legal c.if-node-ne0.false)
+    (can_move-from_none passed.board _ passed.legal c.if-passed-ne0.false)
     (omega (arith, ints, c.final_score.ensures))
-
-pub probe_ordered-returns-then-reply-alpha-clause-fixed : goal.probe_ordered-returns-then-reply-alpha-clause-fixed
-probe_ordered-returns-then-reply-alpha-clause-fixed g t c = c.probe_with-reply.ensures.fixed ∙ c.loop-square.invariant.1
-
-pub probe_ordered-returns-clause-fixed : goal.probe_ordered-returns-clause-fixed
-probe_ordered-returns-clause-fixed g t c = c.loop-square.invariant.1
