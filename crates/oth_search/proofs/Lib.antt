@@ -7,3 +7,4 @@ pub mod Lasts
 pub mod Entries
 pub mod Withins
 pub mod Fulls
+pub mod RootSearch

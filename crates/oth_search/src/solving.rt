@@ -14,6 +14,7 @@ use crate::cells::{Cells, NoCells};
 use crate::combining::known_of;
 use crate::kind::Kind;
 use crate::ordering::order;
+use crate::root::settle_moves;
 use crate::searching::search;
 use crate::squares::with;
 use oth_rules::{Board, Scoring};
@@ -89,10 +90,40 @@ pub fn before_pass(board: Board, passed: Answer) -> Answer
     }
 }
 
-/// The answer of a root whose mover has a move. The score starts at the root's lower bound, and only moves that reach it are
-/// searched to the end. `known` may tell of the boards after the root's moves: such a board is searched only where that leaves
-/// open whether its move is exact or worse than the score.
+/// The answer of a root whose mover has a move. `known` may tell of the boards after the root's moves: such a board is searched
+/// only where that leaves open whether its move is exact or worse than the score.
 pub fn solve_moves<C: Cells>(root: Solved, known: &[Solved], cells: &mut C) -> Answer
+    requires { can_move root.board ≡ true }
+    ensures board { result.board ≡ root.board }
+    ensures scoring { result.scoring ≡ root.scoring }
+    ensures fixed { C.fixed cells.new ≡ C.fixed cells.old }
+{
+    let replies = settle_moves(&root, known, cells);
+    let closer = raised(root, replies.as_slice());
+    best_moves(closer, replies.as_slice(), cells)
+}
+
+/// The root with the greatest lower bound that a reply gives it.
+fn raised(root: Solved, replies: &[Solved]) -> Solved
+    ensures board { result.board ≡ root.board }
+    ensures scoring { result.scoring ≡ root.scoring }
+{
+    let mut closer = root;
+    let squares = order(&root.board);
+    for square in squares.as_slice() {
+        if let Some(child) = root.board.play(*square) {
+            let reply = known_of(child, replies, root.scoring);
+            if let Ok(bound) = Solved::lift(&root.board, *square, &reply) {
+                closer = closer.joined(&bound);
+            }
+        }
+    }
+    closer
+}
+
+/// The score of a root and the moves that reach it. The score starts at the root's lower bound, and only moves that reach it
+/// and of which too little is known are searched to the end.
+fn best_moves<C: Cells>(root: Solved, replies: &[Solved], cells: &mut C) -> Answer
     requires { can_move root.board ≡ true }
     ensures board { result.board ≡ root.board }
     ensures scoring { result.scoring ≡ root.scoring }
@@ -103,7 +134,7 @@ pub fn solve_moves<C: Cells>(root: Solved, known: &[Solved], cells: &mut C) -> A
     let squares = order(&root.board);
     for square in squares.as_slice() {
         let child = root.board.play_legal(*square);
-        let reply = reply_below(&child, -score, known, cells, root.scoring);
+        let reply = reply_below(&child, -score, replies, cells, root.scoring);
         if reply.lower > -score {
             continue;
         }

@@ -3,8 +3,8 @@ use Rattle.std.proofs.lemmas.Int.{ints}
 use Rattle.oth_search.proofs.SquareSets.{Takes-next, FromPlace-end, FromPlace}
 use Rattle.oth_search.proofs.Replies.{FromPlace-legal, legal-FromPlace}
 use Rattle.oth_search.proofs.Roots.{RootLoop-start, RootLoop-worse, RootLoop-equal, RootLoop-better, RootLoop-score, RootLoop-best, gives_less, gives_exactly, kind-move}
-use Rattle.oth_search.proofs.solving.solve_moves.Goals as goal
-use Rattle.oth_search.proofs.solving.solve_moves.Goals.{then-reply-score-2, else-reply-score-2}
+use Rattle.oth_search.proofs.solving.best_moves.Goals as goal
+use Rattle.oth_search.proofs.solving.best_moves.Goals.{then-reply-score-2, else-reply-score-2}
 
 pub loop-square-init : goal.loop-square-init
 loop-square-init g c = (

@@ -1,0 +1,6 @@
+use Rattle.std.proofs.Common.{◌≡◌}
+use Rattle.oth_rules.specs.Laws.{IsScore}
+use Rattle.oth_search.proofs.guess.least_seen.Given as goal
+
+abbrev pub invariant-loop-place : goal.invariant-loop-place
+invariant-loop-place g l = IsScore l.least × (g.C.Cells.fixed l.cells ≡ g.C.Cells.fixed l.fn.cells)

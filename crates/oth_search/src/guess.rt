@@ -1,0 +1,189 @@
+//! A guess of the value of a root by a search of few moves, to start from. No answer depends on it.
+ghost use Rattle.std.specs.Prelude.{◌≡◌, ◌<◌, ◌≤◌, ◌≤ℤ◌, pos, length};
+ghost use Rattle.oth_rules.specs.Laws.{IsScore};
+ghost use Rattle.oth_search.specs.Bound.{IsThreshold};
+
+use crate::bounds::{Interval, Solved};
+use crate::cells::Cells;
+use crate::deep::probe_with;
+use crate::ordering::order;
+use crate::searching::{greater, lesser};
+use oth_rules::{Board, Scoring};
+
+/// Boards with no more empty squares are searched in full.
+const FEW_EMPTIES: u8 = 8;
+
+/// No board has more moves.
+const ALL: usize = 64;
+
+/// Of each board but the first so many moves are tried.
+const WIDTH: usize = 2;
+
+/// The most rounds of a guess.
+const ROUNDS: u8 = 12;
+
+/// How much a glance sees: so many plies, and so many moves of the first board.
+#[derive(Clone, Copy)]
+struct Sight {
+    plies: u8,
+    width: usize,
+}
+
+/// The least value that a reply seems to have. The reply that seems to have it comes to the front.
+pub fn guess<C: Cells>(replies: &mut [Solved], cells: &mut C) -> i8
+    requires { length replies.old ≤ 64 }
+    ensures score { IsScore result }
+    ensures fixed { C.fixed cells.new ≡ C.fixed cells.old }
+{
+    let mut low = -64;
+    let mut high = 64;
+    let mut seen = [Interval::all(); 64];
+    let mut at = 0;
+    let mut step = 8;
+    for _ in 0..ROUNDS {
+        let found = least_seen(replies, &mut seen, at, cells);
+        if found <= at {
+            high = found;
+        } else {
+            low = found;
+        }
+        if high <= lesser(low, 62) + 2 {
+            break;
+        }
+        at = between(low, high, step);
+        step = wider(step);
+    }
+    high
+}
+
+/// The next step beyond a bound.
+fn wider(step: i8) -> i8
+    requires low { pos 0 ≤ℤ step }
+    requires high { step ≤ℤ pos 64 }
+    ensures low { pos 0 ≤ℤ result }
+    ensures high { result ≤ℤ pos 64 }
+{
+    if step < 32 { 2 * step } else { 64 }
+}
+
+/// Where to ask next: in the middle, or so far beyond the bound that is known.
+fn between(low: i8, high: i8, step: i8) -> i8
+    requires low { IsScore low }
+    requires high { IsScore high }
+    requires shortest { pos 0 ≤ℤ step }
+    requires longest { step ≤ℤ pos 64 }
+    ensures { IsThreshold result }
+{
+    let at = if low > -64 && high < 64 {
+        low / 2 + high / 2
+    } else if high < 64 {
+        high - step
+    } else {
+        low - 2 + step
+    };
+    lesser(63, greater(-64, at))
+}
+
+/// A value of at most `at` that a reply seems to have, which comes to the front, or else the least of them. `seen` keeps what
+/// they seem to have at least.
+fn least_seen<C: Cells>(
+    replies: &mut [Solved],
+    seen: &mut [Interval; 64],
+    at: i8,
+    cells: &mut C,
+) -> i8
+    requires few { length replies.old ≤ 64 }
+    requires threshold { IsThreshold at }
+    ensures score { IsScore result }
+    ensures fixed { C.fixed cells.new ≡ C.fixed cells.old }
+{
+    let mut least = 64;
+    for place in 0..replies.len() {
+        if seen[place].lower <= at {
+            let found = glance_at(&replies[place], at, cells);
+            if found <= at {
+                replies.swap(0, place);
+                seen.swap(0, place);
+                return found;
+            }
+            seen[place] = Interval {
+                lower: found,
+                upper: 64,
+            };
+        }
+        least = lesser(least, seen[place].lower);
+    }
+    least
+}
+
+/// The value that a reply seems to have: a bound on its side of `alpha`.
+fn glance_at<C: Cells>(reply: &Solved, alpha: i8, cells: &mut C) -> i8
+    requires { IsThreshold alpha }
+    ensures score { IsScore result }
+    ensures fixed { C.fixed cells.new ≡ C.fixed cells.old }
+{
+    let sight = Sight {
+        plies: reply.board.empties().saturating_sub(FEW_EMPTIES),
+        width: ALL,
+    };
+    glance(reply.board, alpha, sight, cells, reply.scoring)
+}
+
+/// The same of any board.
+#[cycle(glancing)]
+fn glance<C: Cells>(board: Board, alpha: i8, sight: Sight, cells: &mut C, scoring: Scoring) -> i8
+    requires { IsThreshold alpha }
+    ensures score { IsScore result }
+    ensures fixed { C.fixed cells.new ≡ C.fixed cells.old }
+{
+    if sight.plies == 0 {
+        return probe_with(board, alpha, cells, scoring);
+    }
+    let below = Sight {
+        plies: sight.plies - 1,
+        width: WIDTH,
+    };
+    if board.moves() != 0 {
+        return glance_at_moves(&board, alpha, sight, cells, scoring);
+    }
+    let passed = board.pass();
+    if passed.moves() != 0 {
+        return -glance(passed, -alpha - 1, below, cells, scoring);
+    }
+    board.final_score(scoring)
+}
+
+/// The same by the first moves.
+#[cycle(glancing)]
+fn glance_at_moves<C: Cells>(
+    board: &Board,
+    alpha: i8,
+    sight: Sight,
+    cells: &mut C,
+    scoring: Scoring,
+) -> i8
+    requires plies { 0 < sight.plies }
+    requires threshold { IsThreshold alpha }
+    ensures score { IsScore result }
+    ensures fixed { C.fixed cells.new ≡ C.fixed cells.old }
+{
+    let mut best = -64;
+    let below = Sight {
+        plies: sight.plies - 1,
+        width: WIDTH,
+    };
+    let squares = order(board);
+    for (tried, square) in squares.as_slice().iter().enumerate() {
+        if tried == sight.width {
+            break;
+        }
+        if let Some(child) = board.play(*square) {
+            let reply = -glance(child, -alpha - 1, below, cells, scoring);
+            if reply > alpha {
+                return reply;
+            }
+            best = greater(best, reply);
+        }
+    }
+    best
+}
