@@ -15,6 +15,7 @@ use crate::direction::Compass;
 use crate::scoring::Scoring;
 use crate::sliding::{past_falling_lines, past_rising_lines};
 use crate::square::Square;
+use crate::square_words::square_word;
 use crate::sym::{Sym, map};
 use std::marker::Model;
 
@@ -49,7 +50,14 @@ fn highest(word: u64) -> u64
     ensures none { word ≡ 0 → result ≡ 0 }
     ensures some { 0 < word → result ≡ 2 ^ (63 - leading_zeros w64 word) }
 {
-    0x8000_0000_0000_0000_u64.wrapping_shr((word | 1).leading_zeros()) & word
+    square_word(63 - (word | 1).leading_zeros()) & word
+}
+
+// One less, and 0 for 0.
+fn less_one(word: u64) -> u64
+    ensures { result ≡ word - 1 }
+{
+    word - u64::from(word != 0)
 }
 
 impl Model for Board {
@@ -187,7 +195,7 @@ impl Board {
         ensures { result ≡ word_of (is_in (outflanked self.now (rising ray))) }
     {
         let closing = lowest(ray & !self.opp) & self.own;
-        closing.saturating_sub(1) & ray
+        less_one(closing) & ray
     }
 
     // What is outflanked along a ray of falling squares.

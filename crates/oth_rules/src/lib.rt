@@ -9,6 +9,7 @@ mod masks;
 mod scoring;
 mod sliding;
 mod square;
+mod square_words;
 mod sym;
 
 pub use board::{Board, Overlap};
