@@ -4,6 +4,7 @@
 
 mod board;
 mod direction;
+mod lanes;
 pub mod laws;
 mod masks;
 mod scoring;

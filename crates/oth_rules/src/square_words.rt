@@ -1,5 +1,6 @@
-// Each square alone.
-ghost use Rattle.std.specs.Prelude.{◌≡◌, ◌<◌, ◌^◌};
+// The words of single squares.
+ghost use Rattle.std.specs.Int.{trailing_zeros, leading_zeros, w64};
+ghost use Rattle.std.specs.Prelude.{◌≡◌, ◌<◌, ◌-◌, ◌^◌};
 
 // The word of the square of this number. A load takes fewer steps than a shift by a count that is not known beforehand.
 pub fn square_word(number: u32) -> u64
@@ -7,6 +8,29 @@ pub fn square_word(number: u32) -> u64
     ensures { result ≡ 2 ^ number }
 {
     SQUARE_WORDS[number as usize]
+}
+
+// The lowest square of the word alone.
+pub fn lowest(word: u64) -> u64
+    ensures none { word ≡ 0 → result ≡ 0 }
+    ensures some { 0 < word → result ≡ 2 ^ trailing_zeros w64 word }
+{
+    word & !word.wrapping_sub(1)
+}
+
+// The highest square of the word alone.
+pub fn highest(word: u64) -> u64
+    ensures none { word ≡ 0 → result ≡ 0 }
+    ensures some { 0 < word → result ≡ 2 ^ (63 - leading_zeros w64 word) }
+{
+    square_word(63 - (word | 1).leading_zeros()) & word
+}
+
+// One less, and 0 for 0.
+pub fn less_one(word: u64) -> u64
+    ensures { result ≡ word - 1 }
+{
+    word - u64::from(word != 0)
 }
 
 static SQUARE_WORDS: [u64; 64] = [

@@ -1,7 +1,7 @@
 use Rattle.std.proofs.Common.{◌≡◌, ◌∙◌, ℕ, ◌-◌, ◌≤◌, not, eqb, ap, inl, inr, arith}
 use Rattle.std.proofs.lemmas.Bool.{cases_eq, eq-eqb, ne_eqb}
 use mir.Val.{bool_byte}
-use Rattle.oth_rules.proofs.board.less_one.Goals as goal
+use Rattle.oth_rules.proofs.square_words.less_one.Goals as goal
 
 -- what is taken away: 1 but of 0
 taken : (x r : ℕ) → r ≡ bool_byte (not (eqb x 0)) → (x - r ≡ x - 1) × (r ≤ x)
