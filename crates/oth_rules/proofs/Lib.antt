@@ -20,3 +20,4 @@ pub mod Nearest
 pub mod Table
 pub mod Slides
 pub mod Moves
+pub mod Vectors

@@ -1,19 +1,22 @@
 -- The legal squares by plain shifts: along a line that leaves the edge columns out, a shift of whole words is a step.
-use Rattle.std.proofs.Common.{◌≡◌, ℕ, zero, suc, ◌+◌, ◌-◌, ◌<◌, Bool, true, false, not, ◌&&◌, ◌||◌, Option, Some, None, refl, sym, ap, ◌∙◌, inl, inr, arith}
+use Rattle.std.proofs.Common.{◌≡◌, ℕ, zero, suc, ◌+◌, ◌-◌, ◌*◌, ◌/◌, ◌%◌, ◌^◌, ◌<◌, Bool, true, false, not, ◌&&◌, ◌||◌, Option, Some, None, refl, sym, ap, ◌∙◌, inl, inr, arith}
 use Rattle.std.specs.Prelude.{bit_and, bit_or, nat_lt, IfSome}
 use Rattle.std.proofs.lemmas.Bool.{and_parts, or_cases, cases_lt, agree_below, agree_below_at, lt-ltb}
+use Rattle.std.specs.List.{list_any}
+use Rattle.std.proofs.lemmas.Nat.{and_le_l}
 use Rattle.oth_rules.specs.Square.{has, word_of, Direction, Back, Stay, Forth, next, stepped, square_at, directions}
 use Rattle.oth_rules.specs.Position.{Position, IsBoard, is_mine, is_theirs, is_empty}
 use Rattle.oth_rules.specs.Move.{is_legal}
-use Rattle.oth_rules.specs.Line.{reversed, some_in, is_next, is_on_line, outflanks, rises_onto, falls_onto, Rises, Falls}
-use Rattle.oth_rules.specs.declared.board.TheConstants.{INNER}
+use Rattle.oth_rules.specs.Line.{reversed, rising_directions, falling_directions, some_in, is_next, is_on_line, outflanks, rises_onto, falls_onto, Rises, Falls}
+use Rattle.oth_rules.specs.declared.masks.TheConstants.{INNER}
 use Rattle.oth_rules.proofs.Bits.{has-and, word_of-same}
 use Rattle.oth_rules.proofs.Lines.{next_lt, is_next-same, and_turn}
 use Rattle.oth_rules.proofs.Rays.{some_in-or, or_true}
 use Rattle.oth_rules.proofs.Legal.{outflanks-line}
 use Rattle.oth_rules.proofs.Positions.{is_mine-has, is_theirs-has}
 use Rattle.oth_rules.proofs.Words.{is_on_line-same, legal_word}
-use Rattle.oth_rules.proofs.Table.{or_words8}
+use Rattle.oth_rules.proofs.Slides.{past_word, past_rising, past_falling}
+use Rattle.oth_rules.proofs.Table.{or_words8, or_words4}
 
 -- ---- a line may leave out each square that no step leads to
 
@@ -215,3 +218,54 @@ past_all p a b c d e f g h empty board ea eb ec ed ee ef eg eh free =
     (past_west p g board eg)
     (past_north_west p h board eh))
     free
+
+-- ---- four directions of one sense
+
+abbrev pub past_rising_word : ℕ → ℕ → ℕ → ℕ
+past_rising_word by source through = past_word (λ w. w * 2 ^ by % 2 ^ 64) (λ w. w * 2 ^ (2 * by) % 2 ^ 64) source through
+
+abbrev pub past_falling_word : ℕ → ℕ → ℕ → ℕ
+past_falling_word by source through = past_word (λ w. w / 2 ^ by) (λ w. w / 2 ^ (2 * by)) source through
+
+module _ (p : Position) (board : IsBoard p) where
+  inner_fits : bit_and p.opp INNER < 2 ^ 64
+  inner_fits = omega (arith, and_le_l p.opp INNER, board.opp_fits)
+
+  past_rising_four : bit_or (bit_or (bit_or (past_rising_word 8 p.own p.opp) (past_rising_word 7 p.own (bit_and p.opp INNER))) (past_rising_word 1 p.own (bit_and p.opp INNER))) (past_rising_word 9 p.own (bit_and p.opp INNER))
+      ≡ word_of (λ s. list_any (outflanks p s) falling_directions)
+  unfolding falling_directions
+  past_rising_four =
+      or_words4 (past_rising_word 8 p.own p.opp) (past_rising_word 7 p.own (bit_and p.opp INNER)) (past_rising_word 1 p.own (bit_and p.opp INNER)) (past_rising_word 9 p.own (bit_and p.opp INNER))
+      (λ s. outflanks p s (record { columns = Stay; rows = Back }))
+      (λ s. outflanks p s (record { columns = Forth; rows = Back }))
+      (λ s. outflanks p s (record { columns = Back; rows = Stay }))
+      (λ s. outflanks p s (record { columns = Back; rows = Back }))
+      (past_north p (past_rising_word 8 p.own p.opp) board (λ e r. past_rising e 8 p.own p.opp board.own_fits board.opp_fits r))
+      (past_north_east p (past_rising_word 7 p.own (bit_and p.opp INNER)) board (λ e r. past_rising e 7 p.own (bit_and p.opp INNER) board.own_fits inner_fits r))
+      (past_west p (past_rising_word 1 p.own (bit_and p.opp INNER)) board (λ e r. past_rising e 1 p.own (bit_and p.opp INNER) board.own_fits inner_fits r))
+      (past_north_west p (past_rising_word 9 p.own (bit_and p.opp INNER)) board (λ e r. past_rising e 9 p.own (bit_and p.opp INNER) board.own_fits inner_fits r))
+
+  past_falling_four : bit_or (bit_or (bit_or (past_falling_word 1 p.own (bit_and p.opp INNER)) (past_falling_word 9 p.own (bit_and p.opp INNER))) (past_falling_word 8 p.own p.opp)) (past_falling_word 7 p.own (bit_and p.opp INNER))
+      ≡ word_of (λ s. list_any (outflanks p s) rising_directions)
+  unfolding rising_directions
+  past_falling_four =
+      or_words4 (past_falling_word 1 p.own (bit_and p.opp INNER)) (past_falling_word 9 p.own (bit_and p.opp INNER)) (past_falling_word 8 p.own p.opp) (past_falling_word 7 p.own (bit_and p.opp INNER))
+      (λ s. outflanks p s (record { columns = Forth; rows = Stay }))
+      (λ s. outflanks p s (record { columns = Forth; rows = Forth }))
+      (λ s. outflanks p s (record { columns = Stay; rows = Forth }))
+      (λ s. outflanks p s (record { columns = Back; rows = Forth }))
+      (past_east p (past_falling_word 1 p.own (bit_and p.opp INNER)) board (λ e r. past_falling e 1 p.own (bit_and p.opp INNER) board.own_fits inner_fits r))
+      (past_south_east p (past_falling_word 9 p.own (bit_and p.opp INNER)) board (λ e r. past_falling e 9 p.own (bit_and p.opp INNER) board.own_fits inner_fits r))
+      (past_south p (past_falling_word 8 p.own p.opp) board (λ e r. past_falling e 8 p.own p.opp board.own_fits board.opp_fits r))
+      (past_south_west p (past_falling_word 7 p.own (bit_and p.opp INNER)) board (λ e r. past_falling e 7 p.own (bit_and p.opp INNER) board.own_fits inner_fits r))
+
+-- the same of the two words by themselves
+pub rising_lanes : (p : Position) (own opp : ℕ) → IsBoard p → own ≡ p.own → opp ≡ p.opp →
+    bit_or (bit_or (bit_or (past_rising_word 8 own opp) (past_rising_word 7 own (bit_and opp INNER))) (past_rising_word 1 own (bit_and opp INNER))) (past_rising_word 9 own (bit_and opp INNER))
+    ≡ word_of (λ s. list_any (outflanks p s) falling_directions)
+rising_lanes p own opp b e h = rw (e, h) (past_rising_four p b)
+
+pub falling_lanes : (p : Position) (own opp : ℕ) → IsBoard p → own ≡ p.own → opp ≡ p.opp →
+    bit_or (bit_or (bit_or (past_falling_word 1 own (bit_and opp INNER)) (past_falling_word 9 own (bit_and opp INNER))) (past_falling_word 8 own opp)) (past_falling_word 7 own (bit_and opp INNER))
+    ≡ word_of (λ s. list_any (outflanks p s) rising_directions)
+falling_lanes p own opp b e h = rw (e, h) (past_falling_four p b)

@@ -4,7 +4,7 @@ use Rattle.std.specs.Prelude.{◌≢◌, bit_and, bit_or, nat_lt}
 use Rattle.std.specs.Int.{bit_at, trailing_zeros, leading_zeros, w64}
 use Rattle.std.specs.Int.Count.{leading_unique}
 use Rattle.std.proofs.lemmas.Bool.{cases_lt, cases_eq, eq-eqb, lt-ltb, le-ltb, ltb-true, eqb-true, ne_eqb, and_parts, false≢true}
-use Rattle.std.proofs.lemmas.Nat.{leading_length, leading_top, and_comm, and_le_l, and_le_r, or_lt, pow_pos, le_or_l, pow-add, shl-shr, mod_below, pow_below}
+use Rattle.std.proofs.lemmas.Nat.{leading_length, leading_top, and_comm, and_le_l, and_le_r, or_lt, pow_pos, le_or_l, le_or_r, mod_below, pow_below}
 use Rattle.std.proofs.lemmas.Nat.Bits.{bit_at-trailing_zeros, bit_at_cat_high, bit_at_cat_low, bit_at_above, bit_at-suc, bit_at_lowest, bit_at_ones, bit_at_ones_above, bit_at_mask_inside, bit_at_mask_below, same_from_bits_below, and_pow, bit_at-zero}
 use Rattle.oth_rules.specs.Square.{has, word_of, is_in}
 use Rattle.oth_rules.specs.Position.{Position, IsBoard, is_mine, is_theirs}
@@ -71,21 +71,18 @@ leading_or_one w h l =
     sym (leading_unique 64 (bit_or w 1) (leading_zeros w64 w) k.0 k.1
     (or_lt k.0 w 1 k.2 (omega (arith, h, k.2))) (omega (arith, k.3, le_or_l w 1)))
 
-pub leading_below : (w : ℕ) → 0 < w → w < 2 ^ 64 → leading_zeros w64 (bit_or w 1) < 64
-leading_below w h l = let k = leading_top 64 w h l in rw (leading_or_one w h l) (omega (arith, k.1))
-
-half_power : (j c : ℕ) → j + c ≡ 63 → 2 ^ 63 / 2 ^ c ≡ 2 ^ j
-half_power j c e = ap (λ n. 2 ^ n / 2 ^ c) (sym e) ∙ ap (λ x. x / 2 ^ c) (pow-add 2 j c) ∙ shl-shr (2 ^ j) c
+pub leading_under : (w : ℕ) → w < 2 ^ 64 → leading_zeros w64 (bit_or w 1) < 64
+leading_under w l =
+    let k = leading_top 64 (bit_or w 1) (omega (arith, le_or_r w 1)) (or_lt 64 w 1 l (omega arith)) in
+    omega (arith, k.1)
 
 pow_alone : (w j : ℕ) → has w j ≡ true → bit_and (2 ^ j) w ≡ 2 ^ j
 unfolding has
 pow_alone w j e = and_comm (2 ^ j) w ∙ and_pow w j ∙ ap (λ x. x * 2 ^ j) (eqb-true (bit_at w j) 1 e) ∙ omega arith
 
-pub highest_alone : (w : ℕ) → 0 < w → w < 2 ^ 64 → bit_and (2 ^ 63 / 2 ^ (leading_zeros w64 (bit_or w 1))) w ≡ 2 ^ (63 - leading_zeros w64 w)
+pub highest_alone : (w : ℕ) → 0 < w → w < 2 ^ 64 → bit_and (2 ^ (63 - leading_zeros w64 (bit_or w 1))) w ≡ 2 ^ (63 - leading_zeros w64 w)
 highest_alone w h l =
-    let k = leading_top 64 w h l in
-    ap (λ z. bit_and (2 ^ 63 / 2 ^ z) w) (leading_or_one w h l)
-    ∙ ap (λ x. bit_and x w) (half_power (63 - leading_zeros w64 w) (leading_zeros w64 w) (omega (arith, k.1)))
+    ap (λ z. bit_and (2 ^ (63 - z)) w) (leading_or_one w h l)
     ∙ pow_alone w (63 - leading_zeros w64 w) (highest_first w h l).there
 
 -- ---- the lowest square alone

@@ -1,6 +1,5 @@
 // A board as its mover sees it.
-ghost use Rattle.std.specs.Int.{trailing_zeros, leading_zeros, w64};
-ghost use Rattle.std.specs.Prelude.{◌≡◌, ◌<◌, ◌≤◌, ◌-◌, ◌^◌, ◌↔◌, bit_and, IsErr, IfOk, IsTrue, SomeIff, false};
+ghost use Rattle.std.specs.Prelude.{◌≡◌, ◌<◌, ◌≤◌, ◌↔◌, bit_and, IsErr, IfOk, IsTrue, SomeIff, false};
 ghost use Rattle.oth_rules.specs.Square.{word_of, is_in};
 ghost use Rattle.oth_rules.specs.Position.{Position, IsBoard, empty_count, is_empty, pass};
 ghost use Rattle.oth_rules.specs.Move.{outflanked, flipped_along, is_flipped, is_legal, is_over, after};
@@ -12,15 +11,13 @@ ghost use Rattle.oth_rules.specs.declared.scoring.Scoring.{Scoring as ScoringBy}
 ghost use Rattle.oth_rules.specs.Line.{direction_of, outflanks, rising, falling};
 
 use crate::direction::Compass;
+use crate::masks::INNER;
 use crate::scoring::Scoring;
 use crate::sliding::{past_falling_lines, past_rising_lines};
 use crate::square::Square;
+use crate::square_words::{highest, less_one, lowest};
 use crate::sym::{Sym, map};
 use std::marker::Model;
-
-// The squares of columns b to g. A line across the columns has a square before each of its discs and one past it, so
-// its discs lie here, and here plain shifts need no mask.
-const INNER: u64 = 0x7e7e_7e7e_7e7e_7e7e;
 
 /// A position as its mover sees it: the mover's discs and the opponent's, bit `n` of each word for square `n`. No
 /// square has a disc of both.
@@ -35,22 +32,6 @@ pub struct Board {
 /// The refusal of [`Board::of`]: the two words share a square.
 #[derive(Clone, Copy, PartialEq, Eq, Debug)]
 pub struct Overlap;
-
-// The lowest square of the word alone.
-fn lowest(word: u64) -> u64
-    ensures none { word ≡ 0 → result ≡ 0 }
-    ensures some { 0 < word → result ≡ 2 ^ trailing_zeros w64 word }
-{
-    word & !word.wrapping_sub(1)
-}
-
-// The highest square of the word alone.
-fn highest(word: u64) -> u64
-    ensures none { word ≡ 0 → result ≡ 0 }
-    ensures some { 0 < word → result ≡ 2 ^ (63 - leading_zeros w64 word) }
-{
-    0x8000_0000_0000_0000_u64.wrapping_shr((word | 1).leading_zeros()) & word
-}
 
 impl Model for Board {
     ghost use Rattle.oth_rules.specs.Position.{Position, IsBoard};
@@ -118,8 +99,8 @@ impl Board {
         }
     }
 
-    /// The squares where the mover has a legal move.
-    pub fn moves(&self) -> u64
+    /// The same as [`Board::moves`], by plain shifts along lines: the fastest form, for inner loops.
+    pub fn moves_by_lines(&self) -> u64
         ensures { result ≡ word_of (is_legal self.now) }
     {
         let inner = self.opp & INNER;
@@ -134,7 +115,8 @@ impl Board {
         reached & self.empty_squares()
     }
 
-    /// The legal squares, by shifts of whole words along the eight directions.
+    /// The same as [`Board::moves`], by shifts of whole words along the eight directions, a step at a time: the
+    /// plainest form, to compare the others with.
     pub fn moves_by_shifts(&self) -> u64
         ensures { result ≡ word_of (is_legal self.now) }
     {
@@ -153,8 +135,8 @@ impl Board {
         back.shifted(back.line(self.own, self.opp))
     }
 
-    /// The discs that a move to this square flips; 0 exactly where the square is occupied or the move illegal.
-    pub fn flips(&self, square: Square) -> u64
+    /// The same as [`Board::flips`], by the eight rays of the square.
+    pub fn flips_by_rays(&self, square: Square) -> u64
         ensures value { result ≡ word_of (is_flipped self.now square) }
         ensures none { (result ≡ 0) ↔ (is_legal self.now square ≡ false) }
     {
@@ -164,7 +146,8 @@ impl Board {
         self.flips_of_empty(square)
     }
 
-    /// The discs that a move to an empty square flips, by its eight rays; 0 where the move is illegal.
+    /// The discs that a move to an empty square flips, by its eight rays; 0 where the move is illegal. The fastest
+    /// form, for inner loops.
     pub fn flips_of_empty(&self, square: Square) -> u64
         requires { IsTrue (is_empty self.now square) }
         ensures { result ≡ word_of (is_flipped self.now square) }
@@ -187,7 +170,7 @@ impl Board {
         ensures { result ≡ word_of (is_in (outflanked self.now (rising ray))) }
     {
         let closing = lowest(ray & !self.opp) & self.own;
-        closing.saturating_sub(1) & ray
+        less_one(closing) & ray
     }
 
     // What is outflanked along a ray of falling squares.
@@ -198,7 +181,8 @@ impl Board {
         (closing << 1).wrapping_neg() & ray
     }
 
-    /// The same as [`Board::flips`], by shifts along the eight directions.
+    /// The same as [`Board::flips`], by shifts along the eight directions, a step at a time: the plainest form, to
+    /// compare the others with.
     pub fn flips_by_shifts(&self, square: Square) -> u64
         ensures { result ≡ word_of (is_flipped self.now square) }
     {
@@ -229,7 +213,7 @@ impl Board {
         ensures moved { SomeIff result (IsTrue (is_legal self.now square)) (after self.now square) }
         ensures valid { square < 64 }
     {
-        let flipped = self.flips(square);
+        let flipped = self.flips_by_rays(square);
         if flipped == 0 {
             return None;
         }
@@ -260,7 +244,7 @@ impl Board {
     pub fn is_over(&self) -> bool
         ensures { result ≡ is_over self.now }
     {
-        self.moves() == 0 && self.pass().moves() == 0
+        self.moves_by_lines() == 0 && self.pass().moves_by_lines() == 0
     }
 
     /// The score for the mover if the game ends here, -64 to 64.

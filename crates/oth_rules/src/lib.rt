@@ -4,11 +4,13 @@
 
 mod board;
 mod direction;
+mod lanes;
 pub mod laws;
 mod masks;
 mod scoring;
 mod sliding;
 mod square;
+mod square_words;
 mod sym;
 
 pub use board::{Board, Overlap};

@@ -35,7 +35,19 @@ fn best(board: &Board, scoring: Scoring) -> u64 {
     best
 }
 
+// Each form of moves and flips gives the same on this board.
+fn check_forms(rt: &impl Abort, board: &Board) {
+    assert_eq!(rt; board.moves_by_lines(), board.moves());
+    assert_eq!(rt; board.moves_by_shifts(), board.moves());
+    for number in 0..64 {
+        let square = Square::numbered(number);
+        assert_eq!(rt; board.flips_by_rays(square), board.flips(square));
+        assert_eq!(rt; board.flips_by_shifts(square), board.flips(square));
+    }
+}
+
 fn check(rt: &impl Abort, board: &Board, scoring: Scoring, score: i8, squares: u64) {
+    check_forms(rt, board);
     assert_eq!(rt; board.plain_score(scoring), score);
     assert_eq!(rt; best(board, scoring), squares);
 }
@@ -133,6 +145,7 @@ fn finished_boards_are_scored_both_ways(rt: HostRuntime) {
         b"XXXXXXXXXXXXXXXXXXXXXXXXXXXXXXXXXXXXXXXXXXXXXXXXXXXXXXXXXXXXXXX-",
         b'-',
     );
+    check_forms(&rt, &last);
     assert!(rt; last.is_over());
     assert_eq!(rt; last.empties(), 1);
     assert_eq!(rt; last.final_score(Scoring::Winner), 64);
@@ -142,6 +155,7 @@ fn finished_boards_are_scored_both_ways(rt: HostRuntime) {
         b"-XXXXXXXXOOOOOOXXOOOOOOXXOOOOOOXXOOOOOOXXOOOOOOXXXXXXXOXXXXXXXX-",
         b'-',
     );
+    check_forms(&rt, &draw);
     assert!(rt; draw.is_over());
     assert_eq!(rt; draw.final_score(Scoring::Winner), 0);
     assert_eq!(rt; draw.final_score(Scoring::Discs), 0);
@@ -160,13 +174,18 @@ fn words_that_share_a_square_are_refused(rt: HostRuntime) {
 #[test]
 fn nothing_wraps_from_h_to_a(rt: HostRuntime) {
     let edge = board(&rt, b"------XO", b'-');
-    assert_eq!(rt; edge.flips(Square::numbered(8)), 0);
-    assert_eq!(rt; edge.flips_by_shifts(Square::numbered(8)), 0);
+    let a2 = Square::numbered(8);
+    assert_eq!(rt; edge.flips(a2), 0);
+    assert_eq!(rt; edge.flips_by_rays(a2), 0);
+    assert_eq!(rt; edge.flips_by_shifts(a2), 0);
     assert_eq!(rt; edge.moves(), 0);
+    check_forms(&rt, &edge);
 }
 
 fn check_canonical(rt: &impl Abort, board: &Board, by: u8, own: u64, opp: u64) {
+    check_forms(rt, board);
     let (least, sym) = board.canonical();
+    check_forms(rt, &least);
     assert_eq!(rt; (least.own(), least.opp(), sym.number()), (own, opp, by));
 }
 
@@ -200,7 +219,7 @@ fn scrambled(word: u64) -> u64 {
 
 // Boards with many, some and few discs. Each square is legal on one of them.
 #[test]
-fn both_forms_of_moves_on_scattered_discs(rt: HostRuntime) {
+fn forms_on_scattered_discs(rt: HostRuntime) {
     let mut word = 0x9e37_79b9_7f4a_7c15;
     let mut seen = 0;
     for round in 0..3000 {
@@ -213,7 +232,7 @@ fn both_forms_of_moves_on_scattered_discs(rt: HostRuntime) {
             _ => first & word,
         };
         let board = Board::of(taken & side, taken & !side).expect(&rt, "apart");
-        assert_eq!(rt; board.moves_by_shifts(), board.moves());
+        check_forms(&rt, &board);
         seen |= board.moves();
     }
     assert_eq!(rt; seen, u64::MAX);
@@ -233,28 +252,20 @@ fn moves_past_the_longest_lines(rt: HostRuntime) {
     assert_eq!(rt; edges.moves(), H1 | 1 << 39);
 }
 
-// Both forms of moves and flips give the same on this board.
-fn check_forms(rt: &impl Abort, board: &Board) {
-    assert_eq!(rt; board.moves_by_shifts(), board.moves());
-    for number in 0..64 {
-        let square = Square::numbered(number);
-        assert_eq!(rt; board.flips_by_shifts(square), board.flips(square));
-    }
-}
-
 #[test]
 fn legal_transcripts_of_one_to_five_moves(rt: HostRuntime) {
     let mut boards = VecDeque::new(rt.alloc());
     boards.push_back(start(&rt)).expect(&rt, "memory");
+    check_forms(&rt, &start(&rt));
     for count in [4, 12, 56, 244, 1396] {
         for _ in 0..boards.len() {
             let Some(next) = boards.pop_front() else {
                 break
             };
-            check_forms(&rt, &next);
             let awake = if next.moves() == 0 { next.pass() } else { next };
             for number in 0..64 {
                 if let Some(child) = awake.play(Square::numbered(number)) {
+                    check_forms(&rt, &child);
                     boards.push_back(child).expect(&rt, "memory");
                 }
             }

@@ -1,13 +1,11 @@
-use Rattle.oth_rules.proofs.Moves.{past_all}
+use Rattle.std.specs.Prelude.{bit_or}
+use Rattle.oth_rules.specs.Line.{outflanks}
+use Rattle.oth_rules.proofs.Words.{legal_word}
+use Rattle.oth_rules.proofs.Table.{senses_word}
 use Rattle.oth_rules.proofs.board.Board.moves.Goals as goal
 
 pub returns : goal.returns
 returns c =
-    rw (← c.self.view_is)
-    (past_all (record { own = c.self.inside.own; opp = c.self.inside.opp })
-    c.past_rising_lines.result c.past_rising_lines-2.result c.past_falling_lines.result c.past_falling_lines-2.result
-    c.past_falling_lines-3.result c.past_falling_lines-4.result c.past_rising_lines-3.result c.past_rising_lines-4.result
-    c.empty_squares.result c.self.invariant
-    c.past_rising_lines.ensures c.past_rising_lines-2.ensures c.past_falling_lines.ensures c.past_falling_lines-2.ensures
-    c.past_falling_lines-3.ensures c.past_falling_lines-4.ensures c.past_rising_lines-3.ensures c.past_rising_lines-4.ensures
-    (rw (← c.self.view_is) at c.empty_squares.ensures))
+    legal_word c.args.self.now (bit_or c.outflanking_upwards.result c.outflanking_downwards.result) c.empty_squares.result
+    (senses_word (λ d s. outflanks c.args.self.now s d) c.outflanking_upwards.result c.outflanking_downwards.result c.outflanking_upwards.ensures c.outflanking_downwards.ensures)
+    c.empty_squares.ensures
