@@ -1,1 +1,2 @@
 pub mod Workings
+pub mod Lendings

@@ -1,2 +1,3 @@
 pub mod Working
 pub mod Solving
+pub mod Lending

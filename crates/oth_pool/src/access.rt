@@ -1,7 +1,8 @@
-// A table as workers get at it, and the cells that one worker has of it.
+//! A table as workers get at it, and the cells that one worker has of it.
 ghost use Rattle.std.specs.Prelude.{◌≡◌, IfSome};
 ghost use Rattle.oth_rules.specs.Symmetry.{IsCanonical};
 ghost use Rattle.oth_table.specs.Calls.{IsSeatOf};
+ghost use Rattle.oth_pool.specs.Lending.{LendsSeat, LendsTable};
 
 use oth_rules::{Board, Scoring};
 use oth_search::{Cells, Entry};
@@ -48,7 +49,7 @@ impl<'t> TableAccess<'t> {
 
     // A further seat of the table, with the table; none where there is no memory.
     fn cells(&mut self, alloc: Global) -> Option<TableCells<'t>>
-        ensures table { self.new.table ≡ self.old.table }
+        ensures lends { LendsSeat self.old self.new }
     {
         let Ok(seat) = self.table.seat(alloc, &mut self.seat) else {
             return None;
@@ -65,7 +66,9 @@ pub struct WorkerCells<'t> {
 
 impl<'t> WorkerCells<'t> {
     /// Cells of the table, where there is one and a seat of it can be had.
-    pub(crate) fn of(alloc: Global, access: &mut Option<TableAccess<'t>>) -> WorkerCells<'t> {
+    pub(crate) fn of(alloc: Global, access: &mut Option<TableAccess<'t>>) -> WorkerCells<'t>
+        ensures lends { LendsTable access.old access.new }
+    {
         match access {
             Some(access) => WorkerCells {
                 cells: access.cells(alloc),

@@ -8,6 +8,7 @@ mod height;
 mod hints;
 mod move_order;
 mod narrowing;
+mod promise;
 mod root_move;
 pub mod run;
 mod scene;

@@ -3,6 +3,7 @@ ghost use Rattle.std.specs.Prelude.{◌≡◌, ◌+◌, ◌≤◌, ℕ, IfSome, 
 ghost use Rattle.oth_pieces.specs.Watch.{IsSeatOf};
 ghost use Rattle.oth_pieces.specs.Hands.{AreAllHands, IsCrew, count_of};
 ghost use Rattle.oth_pieces.specs.Dealing.{times};
+ghost use Rattle.oth_pool.specs.Lending.{LendsFloor, LendsTable};
 ghost use Rattle.oth_pool.specs.Working.{Holds, AreGathered, IsReplyOf, numbers_of, times_by};
 
 use crate::access::{TableAccess, WorkerCells};
@@ -11,6 +12,7 @@ use oth_pieces::Frontier;
 use crate::gate::Gate;
 use crate::height::Height;
 use crate::hints::{HintSeat, Hints};
+use crate::promise::ranks;
 use oth_pieces::Reply;
 use crate::scene::{Plan, Scene, orders_for};
 use oth_pieces::{Drawn, Hand, Tasks};
@@ -60,7 +62,8 @@ pub fn run_workers<'t, R: Threads + Sync, G: Gate>(
 ) -> Gathered
     requires crew { IsCrew workers }
     requires seat { IsSeatOf floor.now seat.old }
-    ensures seat { IsSeatOf floor.now seat.new }
+    ensures seat { LendsFloor seat.old seat.new }
+    ensures table { LendsTable table.old table.new }
     ensures gathered { AreGathered frontier.now floor.now.root.scoring result }
 {
     let root = floor.board();
@@ -90,11 +93,15 @@ pub(crate) fn run<'t, R: Threads + Sync, G: Gate>(
 ) -> (Gathered, Vec<Solved>)
     requires crew { IsCrew means.now.workers }
     requires seat { IsSeatOf floor.now seat.old }
-    ensures seat { IsSeatOf floor.now seat.new }
+    ensures seat { LendsFloor seat.old seat.new }
+    ensures table { LendsTable table.old table.new }
     ensures gathered { AreGathered scene.now.frontier.now scene.now.plan.scoring result.0 }
 {
     let alloc = means.alloc;
-    let Ok((tasks, hands)) = Tasks::new(alloc, scene.frontier, means.workers) else {
+    let ranks = ranks(scene);
+    let Ok((tasks, hands)) =
+        Tasks::by_rank(alloc, scene.frontier, ranks.as_slice(), means.workers)
+    else {
         return nothing(alloc, scene);
     };
     let hints = hints_for(means, scene);
@@ -170,7 +177,8 @@ fn walks_of<'w, 't>(
     table: &mut Option<TableAccess<'t>>,
 ) -> Option<Vec<Walk<'w, WorkerCells<'t>>>>
     requires { IsSeatOf shared.now.floor.now seat.old }
-    ensures seat { IsSeatOf shared.now.floor.now seat.new }
+    ensures seat { LendsFloor seat.old seat.new }
+    ensures table { LendsTable table.old table.new }
     ensures many { IfSome result (λ walks. vec_len walks ≡ count) }
 {
     let Ok(mut walks) = Vec::with_capacity(alloc, count) else {

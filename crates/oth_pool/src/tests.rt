@@ -3,6 +3,7 @@
 mod agreement;
 mod book;
 mod crews;
+mod drawing;
 mod gate;
 mod refused;
 mod rows;

@@ -1,0 +1,76 @@
+//! The order in which the items of a frontier are drawn: those whose search promises most come first.
+use crate::scene::Scene;
+use arrayvec::ArrayVec;
+use oth_pieces::{MOST_ITEMS, can_move};
+use oth_rules::{Board, Square};
+use oth_search::order;
+
+// A rank beyond the number of a board's moves.
+const BEYOND: u32 = 64;
+
+/// The rank of each item of the frontier, the least first: all replies to the root's first move in their order, then the best reply to
+/// each other move, then the second ones, and so on. Nothing rests on it but time.
+pub(crate) fn ranks(scene: &Scene) -> ArrayVec<u32, MOST_ITEMS> {
+    let mut ranks = ArrayVec::new();
+    let mut replies = replies_to(scene, Square::numbered(0));
+    let mut to = None;
+    for number in 0..scene.frontier.len() {
+        let mut rank = u32::MAX;
+        if let Some(item) = scene.frontier.entry(number) {
+            if to != Some(item.square) {
+                replies = replies_to(scene, item.square);
+                to = Some(item.square);
+            }
+            let of_move = place_of(scene.squares, &item.square);
+            rank = rank_of(of_move, place_of(replies.as_slice(), &item.board));
+        }
+        let _ = ranks.try_push(rank);
+    }
+    ranks
+}
+
+// The rank of a reply by the place of the root's move and its own.
+fn rank_of(of_move: u32, of_reply: u32) -> u32 {
+    if of_move == 0 {
+        of_reply
+    } else {
+        BEYOND + BEYOND * of_reply.min(BEYOND) + of_move.min(BEYOND)
+    }
+}
+
+// The boards after the replies to a move of the root, after a forced pass where there is one, in the order in which they are searched.
+fn replies_to(scene: &Scene, square: Square) -> ArrayVec<Board, 64> {
+    let mut replies = ArrayVec::new();
+    if let Some(child) = scene.root.play(square) {
+        let child = awake(child);
+        let squares = order(&child);
+        for reply in squares.as_slice() {
+            if let Some(board) = child.play(*reply) {
+                let _ = replies.try_push(awake(board));
+            }
+        }
+    }
+    replies
+}
+
+// The board, after a forced pass where there is one.
+fn awake(board: Board) -> Board {
+    let passed = board.pass();
+    if !can_move(&board) && can_move(&passed) {
+        passed
+    } else {
+        board
+    }
+}
+
+// The place of the value in the list, or beyond all places.
+fn place_of<T: PartialEq>(list: &[T], value: &T) -> u32 {
+    let mut place = 0;
+    for other in list {
+        if *other == *value || place == BEYOND {
+            return place;
+        }
+        place += 1;
+    }
+    BEYOND
+}
