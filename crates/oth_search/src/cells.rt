@@ -1,6 +1,7 @@
 ghost use Rattle.std.specs.Prelude.{◌≡◌, IfSome, IsNone};
 ghost use Rattle.oth_rules.specs.Symmetry.{IsCanonical};
 
+use crate::bounds::Solved;
 use crate::entry::Entry;
 use oth_rules::{Board, Scoring};
 
@@ -21,6 +22,19 @@ pub trait Cells {
     /// Offers an entry. The cells are free to drop it.
     fn put(&mut self, entry: &Entry)
         ensures fixed { fixed self.new ≡ fixed self.old };
+
+    /// What is remembered of a board with few empty squares by the asked scoring, if anything is: by default nothing.
+    fn recall(&mut self, _board: &Board, _scoring: Scoring) -> Option<Solved>
+        ensures asked { IfSome result (λ s. (s.board ≡ _board.now) × (s.scoring ≡ _scoring)) }
+        ensures fixed { fixed self.new ≡ fixed self.old }
+    {
+        None
+    }
+
+    /// Offers what was found of a board with few empty squares. The cells are free to drop it, and by default do.
+    fn remember(&mut self, _solved: &Solved)
+        ensures fixed { fixed self.new ≡ fixed self.old }
+    {}
 }
 
 /// Cells that keep nothing: each look is `None`.

@@ -12,6 +12,7 @@ use crate::cells::Cells;
 use crate::child::Child;
 use crate::children::{children, looked_at, next_child};
 use crate::entry::Entry;
+use crate::few::probe_few;
 use crate::node::Node;
 use crate::outlook::FEWEST_EMPTIES_LOOKED;
 use crate::probe::probe;
@@ -19,11 +20,14 @@ use crate::squares::without;
 use arrayvec::ArrayVec;
 use oth_rules::{Board, Scoring};
 
+/// Boards with fewer empty squares are searched square by square.
+const FEWEST_EMPTIES_REMEMBERED: u8 = 5;
+
 /// Boards with fewer empty squares are searched without an order.
 const FEWEST_EMPTIES_ORDERED: u8 = 6;
 
-/// Boards with fewer empty squares are not kept.
-const FEWEST_EMPTIES_KEPT: u8 = 8;
+/// Boards with fewer empty squares are remembered and not kept.
+const FEWEST_EMPTIES_KEPT: u8 = 9;
 
 /// As `probe`, with the cells.
 pub fn probe_with<C: Cells>(board: Board, alpha: i8, cells: &mut C, scoring: Scoring) -> i8
@@ -42,7 +46,7 @@ fn probe_node<C: Cells>(node: Node, alpha: i8, cells: &mut C, scoring: Scoring) 
     ensures fixed { C.fixed cells.new ≡ C.fixed cells.old }
 {
     let board = node.board;
-    if board.empties() < FEWEST_EMPTIES_ORDERED {
+    if board.empties() < FEWEST_EMPTIES_REMEMBERED {
         return probe(board, alpha, scoring);
     }
     if node.moves != 0 {
@@ -65,7 +69,7 @@ fn probe_kept<C: Cells>(node: Node, alpha: i8, cells: &mut C, scoring: Scoring) 
 {
     let board = node.board;
     if board.empties() < FEWEST_EMPTIES_KEPT {
-        return probe_ordered(node, alpha, cells, scoring);
+        return probe_remembered(node, alpha, cells, scoring);
     }
     let known = known(&board.canonical().0, cells, scoring);
     if known.interval.lower > alpha {
@@ -79,6 +83,26 @@ fn probe_kept<C: Cells>(node: Node, alpha: i8, cells: &mut C, scoring: Scoring) 
     found
 }
 
+/// Recalls what is known of the board, and remembers what it found unless that decides.
+#[cycle(deep)]
+fn probe_remembered<C: Cells>(node: Node, alpha: i8, cells: &mut C, scoring: Scoring) -> i8
+    requires threshold { IsThreshold alpha }
+    requires some { can_move node.board ≡ true }
+    ensures value { BoundsAt (value (score_of scoring) node.board) alpha result }
+    ensures fixed { C.fixed cells.new ≡ C.fixed cells.old }
+{
+    let told = recalled(&node.board, cells, scoring);
+    if told.interval.lower > alpha {
+        return told.interval.lower;
+    }
+    if told.interval.upper <= alpha {
+        return told.interval.upper;
+    }
+    let found = probe_ordered(node, alpha, cells, scoring);
+    cells.remember(&told.narrowed(alpha, found));
+    found
+}
+
 /// Searches the children in their order. Where few squares are empty a short list has room for all of them.
 #[cycle(deep)]
 fn probe_ordered<C: Cells>(node: Node, alpha: i8, cells: &mut C, scoring: Scoring) -> i8
@@ -88,6 +112,9 @@ fn probe_ordered<C: Cells>(node: Node, alpha: i8, cells: &mut C, scoring: Scorin
     ensures fixed { C.fixed cells.new ≡ C.fixed cells.old }
 {
     let empties = node.board.empties();
+    if empties < FEWEST_EMPTIES_ORDERED {
+        return probe_few(node, alpha, scoring);
+    }
     if empties <= 8 {
         let short: ArrayVec<Child, 8> = children(&node);
         return probe_children(node, short.as_slice(), alpha, cells, scoring);
@@ -172,6 +199,18 @@ pub fn known<C: Cells>(board: &Board, cells: &mut C, scoring: Scoring) -> Solved
 {
     match cells.look(board, scoring) {
         Some(entry) => entry.solved(),
+        None => Solved::unknown(*board, scoring),
+    }
+}
+
+/// What is remembered of a board.
+fn recalled<C: Cells>(board: &Board, cells: &mut C, scoring: Scoring) -> Solved
+    ensures board { result.board ≡ board.now }
+    ensures scoring { result.scoring ≡ scoring }
+    ensures fixed { C.fixed cells.new ≡ C.fixed cells.old }
+{
+    match cells.recall(board, scoring) {
+        Some(solved) => solved,
         None => Solved::unknown(*board, scoring),
     }
 }

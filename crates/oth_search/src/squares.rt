@@ -29,24 +29,20 @@ pub fn preferred(set: u64, early: u64) -> Square
     Square::first_of(set)
 }
 
-/// The quarters of the board, of 16 squares each.
-const QUADRANTS: [u64; 4] = [
-    0x0000_0000_0f0f_0f0f,
-    0x0000_0000_f0f0_f0f0,
-    0x0f0f_0f0f_0000_0000,
-    0xf0f0_f0f0_0000_0000,
-];
-
 /// The quarters of the board with an odd number of these squares. Who moves into such a quarter tends to move last there.
 pub fn odd_quadrants(set: u64) -> u64 {
-    let mut odd = 0;
-    for quadrant in QUADRANTS {
-        if (set & quadrant).count_ones() % 2 == 1 {
-            odd |= quadrant;
-        }
-    }
-    odd
+    let pairs = set ^ (set >> 1);
+    let half_rows = pairs ^ (pairs >> 2);
+    let row_pairs = half_rows ^ (half_rows >> 8);
+    let odd = (row_pairs ^ (row_pairs >> 16)) & FIRST_OF_QUADRANTS;
+    odd.wrapping_mul(FIRST_QUADRANT)
 }
+
+/// The first square of each quarter of the board, of 16 squares each.
+const FIRST_OF_QUADRANTS: u64 = 0x0000_0011_0000_0011;
+
+/// The squares of the first quarter.
+const FIRST_QUADRANT: u64 = 0x0000_0000_0f0f_0f0f;
 
 /// Whether the square is in the set.
 pub fn holds(set: u64, square: Square) -> bool

@@ -2,7 +2,8 @@
 ghost use Rattle.std.specs.Prelude.{◌≡◌, IfSome};
 
 use crate::{
-    Cells, Entry, Kind, NoCells, Solved, TooManyEmpties, known_below, search, solve_alone,
+    Cells, Entry, Kind, Memo, NoCells, Solved, TooManyEmpties, known_below, search, solve_alone,
+    solve_with,
 };
 use oth_rules::{Board, Scoring, Square};
 use std::test::Fail;
@@ -238,5 +239,80 @@ fn combines_what_is_known(rt: HostRuntime) -> Result<(), Fail> {
     ];
     let combined = known_below(root, 1, &known, Scoring::Winner).interval;
     assert!(rt; combined.lower == -50 && combined.upper == -50);
+    Ok(())
+}
+
+#[test]
+fn probes_one_threshold(rt: HostRuntime) -> Result<(), Fail> {
+    let Ok(board) = Board::of(A[0], A[1]) else {
+        panic!(rt; "no board")
+    };
+    let above = Solved::by_probe(&board, -51, &mut NoCells, Scoring::Winner).interval;
+    assert!(rt; above.lower == -50 && above.upper == 64);
+    let below = Solved::by_probe(&board, -50, &mut NoCells, Scoring::Winner).interval;
+    assert!(rt; below.lower == -64 && below.upper == -50);
+    Ok(())
+}
+
+#[test]
+fn recalls_what_it_remembers(rt: HostRuntime) -> Result<(), Fail> {
+    let Ok(board) = Board::of(A[0], A[1]) else {
+        panic!(rt; "no board")
+    };
+    let mut memo = Memo::new();
+    assert!(rt; matches!(memo.recall(&board, Scoring::Winner), None));
+    memo.remember(&Solved::by_search(&board, -65, 65, &mut NoCells, Scoring::Winner));
+    let Some(told) = memo.recall(&board, Scoring::Winner) else {
+        panic!(rt; "nothing is recalled")
+    };
+    assert!(rt; told.interval.lower == -50 && told.interval.upper == -50);
+    assert!(rt; matches!(memo.recall(&board, Scoring::Discs), None));
+    assert!(rt; matches!(memo.recall(&board.pass(), Scoring::Winner), None));
+    Ok(())
+}
+
+/// Keeps no entries, and remembers.
+#[derive(Drop)]
+struct Remembering {
+    memo: Memo,
+    recalled: u32,
+}
+
+impl Cells for Remembering {
+    ghost Fixed = { Unit {0} };
+
+    ghost fixed = { λ c. tt };
+
+    fn look(&mut self, _board: &Board, _scoring: Scoring) -> Option<Entry> {
+        None
+    }
+
+    fn put(&mut self, _entry: &Entry) {}
+
+    fn recall(&mut self, board: &Board, scoring: Scoring) -> Option<Solved> {
+        let told = self.memo.recall(board, scoring)?;
+        self.recalled = self.recalled.wrapping_add(1);
+        Some(told)
+    }
+
+    fn remember(&mut self, solved: &Solved) {
+        self.memo.remember(solved);
+    }
+}
+
+#[test]
+fn agrees_with_the_whole_tree_while_it_remembers(rt: HostRuntime) -> Result<(), Fail> {
+    let Some(board) = least_line(10) else {
+        panic!(rt; "no line")
+    };
+    let mut cells = Remembering {
+        memo: Memo::new(),
+        recalled: 0,
+    };
+    for scoring in [Scoring::Winner, Scoring::Discs] {
+        let answer = solve_with(board, &mut cells, scoring);
+        assert!(rt; answer.score == board.plain_score(scoring));
+    }
+    assert!(rt; cells.recalled > 0);
     Ok(())
 }
