@@ -15,6 +15,7 @@ mod lifting;
 mod ordering;
 mod outlook;
 mod probe;
+mod quarter;
 mod root;
 mod searching;
 mod solving;
