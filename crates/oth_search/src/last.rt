@@ -8,15 +8,16 @@ ghost use Rattle.oth_rules.specs.Value.{value};
 ghost use Rattle.oth_search.specs.Bound.{BoundsAt, IsThreshold};
 ghost use Rattle.oth_search.specs.Lasts.{Leaves, GivesAt, MovesAt};
 
+use crate::quarter::share_quarter;
 use crate::searching::greater;
-use crate::squares::{flips_at, odd_quadrants, preferred, without};
+use crate::squares::{flips_at, preferred, without};
 use oth_rules::{Board, Scoring, Square};
 
 /// Less than each score: there is no move.
 const NO_MOVE: i8 = -65;
 
-/// A bound of the value, where at most four squares are empty.
-pub fn probe_last(board: Board, alpha: i8, scoring: Scoring) -> Option<i8>
+/// A bound of the value, where at most four squares are empty. Those in `odd` are tried first.
+pub fn probe_last(board: Board, odd: u64, alpha: i8, scoring: Scoring) -> Option<i8>
     requires { IsThreshold alpha }
     ensures { IfSome result (λ r. BoundsAt (value (score_of scoring) board) alpha r) }
 {
@@ -24,7 +25,6 @@ pub fn probe_last(board: Board, alpha: i8, scoring: Scoring) -> Option<i8>
     if rest == 0 {
         return Some(board.final_score(scoring));
     }
-    let odd = odd_quadrants(rest);
     let a = preferred(rest, odd);
     let rest = without(rest, a);
     if rest == 0 {
@@ -139,6 +139,31 @@ fn last_three(board: Board, alpha: i8, a: Square, b: Square, c: Square, scoring:
         return -found;
     }
     board.final_score(scoring)
+}
+
+/// The same, where a square alone in its quarter is tried first. Who moves there moves last there.
+fn last_three_by_quarters(
+    board: Board,
+    alpha: i8,
+    a: Square,
+    b: Square,
+    c: Square,
+    scoring: Scoring,
+) -> i8
+    requires threshold { IsThreshold alpha }
+    requires a_on_board { a < 64 }
+    requires b_on_board { b < 64 }
+    requires c_on_board { c < 64 }
+    requires last { Leaves board (a ∷ b ∷ c ∷ []) }
+    ensures { BoundsAt (value (score_of scoring) board) alpha result }
+{
+    if share_quarter(a, b) {
+        return last_three(board, alpha, c, a, b, scoring);
+    }
+    if share_quarter(a, c) {
+        return last_three(board, alpha, b, a, c, scoring);
+    }
+    last_three(board, alpha, a, b, c, scoring)
 }
 
 fn moves_three(board: Board, alpha: i8, a: Square, b: Square, c: Square, scoring: Scoring) -> i8
@@ -259,7 +284,7 @@ fn reply_three(
     if flips == 0 {
         return NO_MOVE;
     }
-    -last_three(
+    -last_three_by_quarters(
         board.play_flipped(square, flips),
         -alpha - 1,
         a,

@@ -20,6 +20,7 @@ mod node;
 mod ordering;
 mod outlook;
 mod probe;
+mod quarter;
 mod root;
 mod searching;
 mod solving;

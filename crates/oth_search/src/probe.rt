@@ -6,6 +6,7 @@ ghost use Rattle.oth_rules.specs.Value.{value};
 ghost use Rattle.oth_search.specs.Bound.{BoundsAt, IsThreshold};
 
 use crate::last::probe_last;
+use crate::quarter::quarter_of;
 use crate::squares::{odd_quadrants, preferred, without};
 use oth_rules::{Board, Scoring};
 
@@ -13,43 +14,51 @@ use oth_rules::{Board, Scoring};
 const FEW_EMPTIES: u8 = 4;
 
 /// Whether the value of the board is above `alpha`: a bound of the value on its side of `alpha`.
-#[cycle(probing)]
 pub fn probe(board: Board, alpha: i8, scoring: Scoring) -> i8
     requires { IsThreshold alpha }
     ensures { BoundsAt (value (score_of scoring) board) alpha result }
 {
+    probe_with_odd(board, odd_quadrants(board.empty_squares()), alpha, scoring)
+}
+
+/// The same, where moves to the squares of `odd` are tried first: the quarters with an odd number of empty squares.
+#[cycle(probing)]
+fn probe_with_odd(board: Board, odd: u64, alpha: i8, scoring: Scoring) -> i8
+    requires { IsThreshold alpha }
+    ensures { BoundsAt (value (score_of scoring) board) alpha result }
+{
     if board.empties() <= FEW_EMPTIES {
-        if let Some(found) = probe_last(board, alpha, scoring) {
+        if let Some(found) = probe_last(board, odd, alpha, scoring) {
             return found;
         }
     }
     let moves = board.moves();
     if moves != 0 {
-        return probe_moves(board, moves, alpha, scoring);
+        return probe_moves(board, moves, odd, alpha, scoring);
     }
     let passed = board.pass();
     let replies = passed.moves();
     if replies != 0 {
-        return -probe_moves(passed, replies, -alpha - 1, scoring);
+        return -probe_moves(passed, replies, odd, -alpha - 1, scoring);
     }
     board.final_score(scoring)
 }
 
 /// The same, where the mover has the given moves.
 #[cycle(probing)]
-fn probe_moves(board: Board, moves: u64, alpha: i8, scoring: Scoring) -> i8
+fn probe_moves(board: Board, moves: u64, odd: u64, alpha: i8, scoring: Scoring) -> i8
     requires threshold { IsThreshold alpha }
     requires some { can_move board ≡ true }
     requires legal { moves ≡ word_of (is_legal board) }
     ensures { BoundsAt (value (score_of scoring) board) alpha result }
 {
     let mut best = -64;
-    let odd = odd_quadrants(board.empty_squares());
     let mut rest = moves;
     while rest != 0 {
         let square = preferred(rest, odd);
         rest = without(rest, square);
-        let reply = -probe(board.play_legal(square), -alpha - 1, scoring);
+        let child = board.play_legal(square);
+        let reply = -probe_with_odd(child, odd ^ quarter_of(square), -alpha - 1, scoring);
         if reply > alpha {
             return reply;
         }

@@ -5,8 +5,8 @@ use Rattle.oth_search.proofs.SquareSets.{Takes-without, In-none}
 use Rattle.oth_search.proofs.Replies.{BoundsAt-reply, BoundsAt-cut, BoundsAt-pass, BoundsAt-over, NoneAbove-moves, ReplyLoop-start, ReplyLoop-keeps, ReplyLoop-takes, ReplyLoop-end, can_move-from_moves, can_move-from_none, fewer_after, same_after_pass}
 use Rattle.oth_search.proofs.probe.+probing.Goals as goal
 
-pub probe-probe_moves-requires : goal.probe-probe_moves-requires
-probe-probe_moves-requires t c = (
+pub probe_with_odd-probe_moves-requires : goal.probe_with_odd-probe_moves-requires
+probe_with_odd-probe_moves-requires t c = (
   omega (arith, c.decreases),
   (
     record { low = omega (arith, ints, c.requires.low); high = omega (arith, ints, c.requires.high) },
@@ -17,8 +17,8 @@ probe-probe_moves-requires t c = (
   ),
 )
 
-pub probe-probe_moves-requires-then-replies-ne0 : goal.probe-probe_moves-requires-then-replies-ne0
-probe-probe_moves-requires-then-replies-ne0 t c = (
+pub probe_with_odd-probe_moves-requires-then-replies-ne0 : goal.probe_with_odd-probe_moves-requires-then-replies-ne0
+probe_with_odd-probe_moves-requires-then-replies-ne0 t c = (
   omega (arith, c.decreases, same_after_pass c.args.board c.pass-passed.result c.pass-passed.ensures),
   (
     record { low = omega (arith, ints, c.requires.high); high = omega (arith, ints, c.requires.low) },
@@ -29,8 +29,8 @@ probe-probe_moves-requires-then-replies-ne0 t c = (
   ),
 )
 
-pub probe-returns-then-replies-ne0 : goal.probe-returns-then-replies-ne0
-probe-returns-then-replies-ne0 t c =
+pub probe_with_odd-returns-then-replies-ne0 : goal.probe_with_odd-returns-then-replies-ne0
+probe_with_odd-returns-then-replies-ne0 t c =
     BoundsAt-pass c.args.scoring c.args.board c.pass-passed.result c.args.alpha _ _ c.probe_moves-then-replies-ne0.result
     c.pass-passed.ensures
     (can_move-from_none c.args.board _ c.moves-moves.ensures c.if-moves-ne0.false)
@@ -39,8 +39,8 @@ probe-returns-then-replies-ne0 t c =
     (omega (arith, ints))
     c.probe_moves-then-replies-ne0.ensures
 
-pub probe-returns : goal.probe-returns
-probe-returns t c =
+pub probe_with_odd-returns : goal.probe_with_odd-returns
+probe_with_odd-returns t c =
     BoundsAt-over c.args.scoring c.args.board c.pass-passed.result c.args.alpha _
     c.pass-passed.ensures
     (can_move-from_none c.args.board _ c.moves-moves.ensures c.if-moves-ne0.false)
@@ -51,10 +51,10 @@ pub probe_moves-loop-rest-init : goal.probe_moves-loop-rest-init
 probe_moves-loop-rest-init t c =
     ReplyLoop-start c.args.scoring c.args.board _ _ _ refl (omega (arith, ints, c.requires.threshold.low)) (NoneAbove-moves c.args.scoring c.args.board c.args.moves _ c.requires.legal)
 
-pub probe_moves-probe-reply-requires : goal.probe_moves-probe-reply-requires
-probe_moves-probe-reply-requires t c =
+pub probe_moves-probe_with_odd-reply-requires : goal.probe_moves-probe_with_odd-reply-requires
+probe_moves-probe_with_odd-reply-requires t c =
     let legal = c.loop-rest.invariant.replies.untried c.preferred-square.result c.preferred-square.ensures in (
-      omega (arith, c.decreases, fewer_after c.args.board c.play_legal.result c.preferred-square.result c.play_legal.ensures legal),
+      omega (arith, c.decreases, fewer_after c.args.board c.play_legal-child.result c.preferred-square.result c.play_legal-child.ensures legal),
       record { low = omega (arith, ints, c.requires.threshold.high); high = omega (arith, ints, c.requires.threshold.low) },
     )
 
@@ -62,22 +62,22 @@ pub probe_moves-returns-then-reply-alpha : goal.probe_moves-returns-then-reply-a
 probe_moves-returns-then-reply-alpha t c =
     BoundsAt-cut c.args.scoring c.args.board c.preferred-square.result c.args.alpha _
     (c.loop-rest.invariant.replies.untried c.preferred-square.result c.preferred-square.ensures)
-    (BoundsAt-reply c.args.scoring c.args.board c.play_legal.result c.preferred-square.result c.args.alpha _ _ c.probe-reply.result c.play_legal.ensures (omega (arith, ints)) (omega (arith, ints)) c.probe-reply.ensures)
+    (BoundsAt-reply c.args.scoring c.args.board c.play_legal-child.result c.preferred-square.result c.args.alpha _ _ c.probe_with_odd-reply.result c.play_legal-child.ensures (omega (arith, ints)) (omega (arith, ints)) c.probe_with_odd-reply.ensures)
     (omega (arith, ints, c.if-reply-alpha.true))
 
 pub probe_moves-loop-rest-preserved : goal.probe_moves-loop-rest-preserved
 probe_moves-loop-rest-preserved t c =
-    let r : ℤ = neg_ℤ c.probe-reply.result in
+    let r : ℤ = neg_ℤ c.probe_with_odd-reply.result in
     ReplyLoop-keeps c.args.scoring c.args.board _ _ c.preferred-square.result _ _ r c.loop-rest.invariant
     (Takes-without _ _ _ c.preferred-square.ensures c.without-rest.ensures.rest)
-    (BoundsAt-reply c.args.scoring c.args.board c.play_legal.result c.preferred-square.result _ _ r c.probe-reply.result c.play_legal.ensures (omega (arith, ints)) refl c.probe-reply.ensures)
+    (BoundsAt-reply c.args.scoring c.args.board c.play_legal-child.result c.preferred-square.result _ _ r c.probe_with_odd-reply.result c.play_legal-child.ensures (omega (arith, ints)) refl c.probe_with_odd-reply.ensures)
     (omega (arith, ints, c.if-reply-best.false))
 
 pub probe_moves-loop-rest-preserved-then-reply-best : goal.probe_moves-loop-rest-preserved-then-reply-best
 probe_moves-loop-rest-preserved-then-reply-best t c =
     ReplyLoop-takes c.args.scoring c.args.board _ _ c.preferred-square.result _ _ _ c.loop-rest.invariant
     (Takes-without _ _ _ c.preferred-square.ensures c.without-rest.ensures.rest)
-    (BoundsAt-reply c.args.scoring c.args.board c.play_legal.result c.preferred-square.result _ _ _ c.probe-reply.result c.play_legal.ensures (omega (arith, ints)) (omega (arith, ints)) c.probe-reply.ensures)
+    (BoundsAt-reply c.args.scoring c.args.board c.play_legal-child.result c.preferred-square.result _ _ _ c.probe_with_odd-reply.result c.play_legal-child.ensures (omega (arith, ints)) (omega (arith, ints)) c.probe_with_odd-reply.ensures)
     (omega (arith, ints, c.if-reply-alpha.false))
     (omega (arith, ints, c.if-reply-best.true))
 

@@ -4,8 +4,8 @@ use Rattle.oth_search.specs.Squares.{In}
 use Rattle.oth_search.proofs.Replies.{ReplyLoop}
 use Rattle.oth_search.proofs.probe.+probing.Given as goal
 
-abbrev pub decreases-probe : goal.decreases-probe
-decreases-probe l = 2 * empty_count l.board + 1
+abbrev pub decreases-probe_with_odd : goal.decreases-probe_with_odd
+decreases-probe_with_odd l = 2 * empty_count l.board + 1
 
 abbrev pub decreases-probe_moves : goal.decreases-probe_moves
 decreases-probe_moves l = 2 * empty_count l.board

@@ -1,0 +1,6 @@
+use Rattle.std.proofs.Common.{◌∷◌, []}
+use Rattle.oth_search.proofs.Lasts as l
+use Rattle.oth_search.proofs.last.last_three_by_quarters.Goals as goal
+
+pub last_three-requires-clause-last : goal.last_three-requires-clause-last
+last_three-requires-clause-last c = l.Leaves-third c.args.board c.args.a c.args.b c.args.c [] c.requires.last
