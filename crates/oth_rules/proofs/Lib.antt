@@ -21,3 +21,4 @@ pub mod Table
 pub mod Slides
 pub mod Moves
 pub mod Vectors
+pub mod RowCarry

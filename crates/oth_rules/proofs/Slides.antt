@@ -328,3 +328,51 @@ pub past_falling : (d : Direction) (by source through : ℕ) → source < 2 ^ 64
     past_word (λ w. w / 2 ^ by) (λ w. w / 2 ^ (2 * by)) source through ≡ word_of (is_next d (is_on_line 6 d (has source) (has through)))
 unfolding lowered
 past_falling d by source through fs ft r = past_lines d source through (lowered by) (lowered (2 * by)) (falling_slides d by through r) fs ft
+
+-- ---- the pairs of a falling line are those of the rising one, one step on
+
+pairs_turned : (by through : ℕ) → through < 2 ^ 64 → bit_and through (through * 2 ^ by % 2 ^ 64) / 2 ^ by ≡ bit_and through (through / 2 ^ by)
+pairs_turned by through f =
+    same_word (bit_and through (through * 2 ^ by % 2 ^ 64) / 2 ^ by) (bit_and through (through / 2 ^ by))
+    (omega (arith, shr_le (bit_and through (through * 2 ^ by % 2 ^ 64)) by, and_le_l through (through * 2 ^ by % 2 ^ 64), f)) (and_fits through (through / 2 ^ by) f) each
+  where
+    turned : (a b : Bool) → (a && b) ≡ (b && a)
+    turned true true = refl
+    turned true false = refl
+    turned false true = refl
+    turned false false = refl
+
+    none : (b : Bool) → false ≡ (b && false)
+    none true = refl
+    none false = refl
+
+    each : (t : ℕ) → t < 64 → has (bit_and through (through * 2 ^ by % 2 ^ 64) / 2 ^ by) t ≡ has (bit_and through (through / 2 ^ by)) t
+    each t l =
+        has-shr (bit_and through (through * 2 ^ by % 2 ^ 64)) by t
+        ∙ has-and through (through * 2 ^ by % 2 ^ 64) (by + t)
+        ∙ elim (cases_lt (by + t) 64) [
+          | inl within ↦
+              let back : by + t - by ≡ t = omega arith in
+              ap (λ b. has through (by + t) && b) (has-shl_high through by (by + t) within (omega arith) ∙ ap (has through) back)
+              ∙ turned (has through (by + t)) (has through t)
+              ∙ ap (λ b. has through t && b) (sym (has-shr through by t))
+          | inr out ↦
+              ap (λ b. b && has (through * 2 ^ by % 2 ^ 64) (by + t)) (has-above through (by + t) f out)
+              ∙ none (has through t)
+              ∙ ap (λ b. has through t && b) (sym (has-shr through by t ∙ has-above through (by + t) f out))
+        ]
+        ∙ sym (has-and through (through / 2 ^ by) t)
+
+abbrev falling_two : ℕ → ℕ → ℕ → ℕ
+falling_two by source through = bit_or (bit_and through (source / 2 ^ by)) (bit_and through (bit_and through (source / 2 ^ by) / 2 ^ by))
+
+abbrev falling_longer : ℕ → ℕ → ℕ → ℕ → ℕ → ℕ
+falling_longer by source through pairs line = bit_or (falling_two by source through) (bit_and pairs (line / 2 ^ (2 * by)))
+
+pub past_falling_pairs : (d : Direction) (by source through : ℕ) → source < 2 ^ 64 → through < 2 ^ 64 → Falls d by (has through) →
+    falling_longer by source through (bit_and through (through * 2 ^ by % 2 ^ 64) / 2 ^ by)
+    (falling_longer by source through (bit_and through (through * 2 ^ by % 2 ^ 64) / 2 ^ by) (falling_two by source through)) / 2 ^ by
+    ≡ word_of (is_next d (is_on_line 6 d (has source) (has through)))
+past_falling_pairs d by source through fs ft r =
+    ap (λ pairs. falling_longer by source through pairs (falling_longer by source through pairs (falling_two by source through)) / 2 ^ by) (pairs_turned by through ft)
+    ∙ past_falling d by source through fs ft r

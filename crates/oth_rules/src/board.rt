@@ -13,11 +13,12 @@ ghost use Rattle.oth_rules.specs.Line.{direction_of, outflanks, rising, falling}
 use crate::direction::Compass;
 use crate::masks::INNER;
 use crate::scoring::Scoring;
-use crate::sliding::{past_falling_lines, past_rising_lines};
+use crate::sliding::{past_lines, past_row_lines};
 use crate::square::Square;
 use crate::square_words::{highest, less_one, lowest};
 use crate::sym::{Sym, map};
 use std::marker::Model;
+use thiserror::Error;
 
 /// A position as its mover sees it: the mover's discs and the opponent's, bit `n` of each word for square `n`. No
 /// square has a disc of both.
@@ -29,8 +30,9 @@ pub struct Board {
     opp: u64,
 }
 
-/// The refusal of [`Board::of`]: the two words share a square.
-#[derive(Clone, Copy, PartialEq, Eq, Debug)]
+/// Refusal 1 of [`Board::of`]: the two words share a square.
+#[derive(Clone, Copy, PartialEq, Eq, Debug, Error)]
+#[error("a square has discs of both")]
 pub struct Overlap;
 
 impl Model for Board {
@@ -104,19 +106,16 @@ impl Board {
         ensures { result ≡ word_of (is_legal self.now) }
     {
         let inner = self.opp & INNER;
-        let reached = past_rising_lines(self.own, self.opp, 8)
-            | past_rising_lines(self.own, inner, 7)
-            | past_falling_lines(self.own, inner, 1)
-            | past_falling_lines(self.own, inner, 9)
-            | past_falling_lines(self.own, self.opp, 8)
-            | past_falling_lines(self.own, inner, 7)
-            | past_rising_lines(self.own, inner, 1)
-            | past_rising_lines(self.own, inner, 9);
+        let (north, south) = past_lines(self.own, self.opp, 8);
+        let (north_east, south_west) = past_lines(self.own, inner, 7);
+        let (north_west, south_east) = past_lines(self.own, inner, 9);
+        let (west, east) = past_row_lines(self.own, self.opp);
+        let reached = north | north_east | east | south_east;
+        let reached = reached | south | south_west | west | north_west;
         reached & self.empty_squares()
     }
 
-    /// The same as [`Board::moves`], by shifts of whole words along the eight directions, a step at a time: the
-    /// plainest form, to compare the others with.
+    /// The same as [`Board::moves`], a step at a time along each of the eight directions: to compare the others with.
     pub fn moves_by_shifts(&self) -> u64
         ensures { result ≡ word_of (is_legal self.now) }
     {
@@ -181,8 +180,7 @@ impl Board {
         (closing << 1).wrapping_neg() & ray
     }
 
-    /// The same as [`Board::flips`], by shifts along the eight directions, a step at a time: the plainest form, to
-    /// compare the others with.
+    /// The same as [`Board::flips`], a step at a time along each of the eight directions: to compare the others with.
     pub fn flips_by_shifts(&self, square: Square) -> u64
         ensures { result ≡ word_of (is_flipped self.now square) }
     {

@@ -71,7 +71,7 @@ impl Square {
     }
 
     // The rays along which square numbers rise.
-    pub fn rising_rays(self) -> &'static [u64; 4]
+    pub(crate) fn rising_rays(self) -> &'static [u64; 4]
         ensures value { result.now ≡ slice_index_or RISING self [] }
         ensures below { self < 64 }
     {
@@ -79,7 +79,7 @@ impl Square {
     }
 
     // The rays along which square numbers fall.
-    pub fn falling_rays(self) -> &'static [u64; 4]
+    pub(crate) fn falling_rays(self) -> &'static [u64; 4]
         ensures value { result.now ≡ slice_index_or FALLING self [] }
         ensures below { self < 64 }
     {

@@ -1,6 +1,6 @@
 // Boards whose scores, moves and canonical images are known from outside, and the counts of legal transcripts from
 // the start.
-use crate::{Board, Scoring, Square, Sym};
+use crate::{Board, Overlap, Scoring, Square, Sym};
 use std::collections::VecDeque;
 use std::process::Abort;
 
@@ -164,7 +164,7 @@ fn finished_boards_are_scored_both_ways(rt: HostRuntime) {
 
 #[test]
 fn words_that_share_a_square_are_refused(rt: HostRuntime) {
-    assert!(rt; Board::of(3, 2).is_err());
+    assert_eq!(rt; Board::of(3, 2), Err(Overlap));
     assert!(rt; Square::of(64).is_none());
     assert!(rt; Sym::of(8).is_none());
     assert_eq!(rt; Square::of(63).map(|s| s.number()), Some(63));

@@ -5,9 +5,9 @@ pub returns : goal.returns
 returns c =
     rw (← c.self.view_is)
     (past_all (record { own = c.self.inside.own; opp = c.self.inside.opp })
-    c.past_rising_lines.result c.past_rising_lines-2.result c.past_falling_lines.result c.past_falling_lines-2.result
-    c.past_falling_lines-3.result c.past_falling_lines-4.result c.past_rising_lines-3.result c.past_rising_lines-4.result
+    c.past_lines-north.result.0 c.past_lines-north_east.result.0 c.past_row_lines-west.result.1 c.past_lines-north_west.result.1
+    c.past_lines-north.result.1 c.past_lines-north_east.result.1 c.past_row_lines-west.result.0 c.past_lines-north_west.result.0
     c.empty_squares.result c.self.invariant
-    c.past_rising_lines.ensures c.past_rising_lines-2.ensures c.past_falling_lines.ensures c.past_falling_lines-2.ensures
-    c.past_falling_lines-3.ensures c.past_falling_lines-4.ensures c.past_rising_lines-3.ensures c.past_rising_lines-4.ensures
+    c.past_lines-north.ensures.rising c.past_lines-north_east.ensures.rising c.past_row_lines-west.ensures.falling c.past_lines-north_west.ensures.falling
+    c.past_lines-north.ensures.falling c.past_lines-north_east.ensures.falling c.past_row_lines-west.ensures.rising c.past_lines-north_west.ensures.rising
     (rw (← c.self.view_is) at c.empty_squares.ensures))
