@@ -23,16 +23,15 @@ LendsFloor-none w = record {
 -- a further seat is made
 pub LendsFloor-made : (old mid new made : Watcher) → LendsFloor old mid → IsMadeBy mid new made → LendsFloor old new
 LendsFloor-made old mid new made lent by =
-    let goes = by.event.0 in
+    let goes = by.event.goes in
     let named : mid.name ≡ old.name = lent.same.2 in
-    let At : List Event → Type 0 = λ l. (events_of old.name new.seen ≡ l ++ Made mid.name made.name ∷ []) in
     record {
       same = (goes.same.0 ∙ lent.same.0, goes.same.1 ∙ lent.same.1, goes.same.2 ∙ named);
       begins = (lent.begins.0 ++ goes.begins.0, goes.begins.1 ∙ (ap (λ l. l ++ goes.begins.0) lent.begins.1 ∙ append_assoc old.seen lent.begins.0 goes.begins.0));
       mine = (
         lent.mine.0 ++ Made mid.name made.name ∷ [],
-        sym (ap (λ n. events_of n new.seen) named) ∙ (goes.events ∙ (ap (λ n. events_of n mid.seen ++ Made mid.name made.name ∷ []) named ∙ (ap (λ l. l ++ Made mid.name made.name ∷ []) lent.mine.1.0 ∙ append_assoc (events_of old.name old.seen) lent.mine.0 (Made mid.name made.name ∷ [])))),
-        All-push IsMaking lent.mine.0 (Made mid.name made.name) lent.mine.1.1 tt,
+        sym (ap (λ n. events_of n new.seen) named) ∙ (goes.events ∙ (ap (λ n. events_of n mid.seen ++ Made mid.name made.name ∷ []) named ∙ (ap (λ l. l ++ Made mid.name made.name ∷ []) lent.mine.1 ∙ append_assoc (events_of old.name old.seen) lent.mine.0 (Made mid.name made.name ∷ [])))),
+        All-push IsMaking lent.mine.0 (Made mid.name made.name) lent.mine.2 tt,
       );
     }
 
@@ -62,4 +61,4 @@ LendsTable-then (Some a) (Some b) (Some c) one two = LendsSeat-then a b c one tw
 pub begins_made : (s t new : Sitting) → Makes s t new → tables.Begins s.seen t.seen
 begins_made s t new made =
     let e = made.ends in
-    (table_events.TheVariants.Made s.name new.name ∷ e.since.0, e.last ∙ ap (λ l. table_events.TheVariants.Made s.name new.name ∷ l) e.since.1.0)
+    (table_events.TheVariants.Made s.name new.name ∷ e.since.0, e.last ∙ ap (λ l. table_events.TheVariants.Made s.name new.name ∷ l) e.since.1)

@@ -42,7 +42,7 @@ module _ (items : List Item) (scoring : Scoring) (tasks : Tasks) (work : Work) (
 
   pub replied : (number : ℕ) (replies : Vec Reply Global) (r : Reply) → list_of hand ≡ list_of work.hand ++ number ∷ [] → replies.items ≡ work.replies.items ++ r ∷ []
       → r.number ≡ number → IsReplyOf items scoring r → CanWork items scoring tasks (record { hand = hand; replies = replies })
-  replied number seat same replies r longer pushed is right = record {
+  replied number replies r longer pushed is right = record {
     hand = is_hand;
     holds = record {
       replies = let P : List Reply → Type 0 = All (IsReplyOf items scoring) in subst P (sym pushed) (All-push (IsReplyOf items scoring) work.replies.items r can.holds.replies right);

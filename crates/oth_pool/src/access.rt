@@ -5,7 +5,7 @@ ghost use Rattle.oth_table.specs.Calls.{IsSeatOf};
 ghost use Rattle.oth_pool.specs.Lending.{LendsSeat, LendsTable};
 
 use oth_rules::{Board, Scoring};
-use oth_search::{Cells, Entry};
+use oth_search::{Cells, Entry, Memo, Solved};
 use oth_table::{SharedTable, TableCells, TableSeat};
 use std::alloc::Global;
 use std::marker::Model;
@@ -58,10 +58,11 @@ impl<'t> TableAccess<'t> {
     }
 }
 
-/// What one worker keeps entries in: cells of the table, or nothing.
+/// What one worker keeps entries in: cells of the table where there is one, and a memory of its own for boards with few empty squares.
 #[derive(Drop)]
 pub struct WorkerCells<'t> {
     cells: Option<TableCells<'t>>,
+    memo: Option<Box<Memo>>,
 }
 
 impl<'t> WorkerCells<'t> {
@@ -69,11 +70,13 @@ impl<'t> WorkerCells<'t> {
     pub(crate) fn of(alloc: Global, access: &mut Option<TableAccess<'t>>) -> WorkerCells<'t>
         ensures lends { LendsTable access.old access.new }
     {
+        let memo = Box::new(alloc, Memo::new()).ok();
         match access {
             Some(access) => WorkerCells {
                 cells: access.cells(alloc),
+                memo,
             },
-            None => WorkerCells { cells: None },
+            None => WorkerCells { cells: None, memo },
         }
     }
 }
@@ -93,6 +96,19 @@ impl<'t> Cells for WorkerCells<'t> {
     fn put(&mut self, entry: &Entry) {
         if let Some(cells) = &mut self.cells {
             cells.put(entry);
+        }
+    }
+
+    fn recall(&mut self, board: &Board, scoring: Scoring) -> Option<Solved> {
+        match &self.memo {
+            Some(memo) => memo.recall(board, scoring),
+            None => None,
+        }
+    }
+
+    fn remember(&mut self, solved: &Solved) {
+        if let Some(memo) = &mut self.memo {
+            memo.remember(solved);
         }
     }
 }

@@ -1,13 +1,13 @@
 //! The search of drawn items, and of the moves of the root that they leave open.
 ghost use Rattle.std.specs.Prelude.{◌≡◌};
 
-use oth_pieces::{Item, can_move};
 use crate::gate::Gate;
 use crate::narrowing::narrow;
 use crate::root_move::RootMove;
 use crate::scene::Scene;
 use crate::walk::{MOST_PLIES, Walk};
 use crate::window::Window;
+use oth_pieces::{Item, can_move};
 use oth_rules::{Board, Square};
 use oth_search::{Cells, Solved};
 
@@ -81,7 +81,7 @@ fn settle_before<C: Cells>(scene: &Scene, square: Square, walk: &mut Walk<C>) {
         if *elder == square || count == MOVES_BEFORE {
             return;
         }
-        count += 1;
+        count = usize::saturating_add(count, 1);
         if let Some(root_move) = RootMove::of(scene.root, *elder) {
             root_move.settle(walk);
         }

@@ -2,9 +2,9 @@
 ghost use Rattle.std.specs.Prelude.{◌≡◌, pos, negsuc, ◌≤ℤ◌, false};
 ghost use Rattle.oth_rules.specs.Move.{can_move};
 
-use oth_pieces::can_move;
 use crate::walk::Walk;
 use crate::window::Window;
+use oth_pieces::can_move;
 use oth_rules::{Board, Square};
 use oth_search::{Cells, Solved, known_below};
 use std::alloc::Global;

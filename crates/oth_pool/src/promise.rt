@@ -70,7 +70,7 @@ fn place_of<T: PartialEq>(list: &[T], value: &T) -> u32 {
         if *other == *value || place == BEYOND {
             return place;
         }
-        place += 1;
+        place = place.saturating_add(1);
     }
     BEYOND
 }

@@ -1,9 +1,9 @@
 //! A move of the root, searched until it needs no further search.
 ghost use Rattle.std.specs.Prelude.{◌≡◌, pos, negsuc, ◌≤ℤ◌};
 
-use crate::narrowing::{narrow, upper_of};
+use crate::narrowing::narrow;
 use crate::walk::{MOST_PLIES, Walk};
-use crate::window::{Window, is_settled, next_window};
+use crate::window::{Pace, Window, is_settled};
 use oth_rules::{Board, Square};
 use oth_search::{Cells, Interval, Solved, known_below};
 
@@ -46,7 +46,7 @@ impl RootMove {
     // What is found of the board after the move, until it is settled by this worker or another.
     fn pursue<C: Cells>(&self, walk: &mut Walk<C>) -> Solved {
         let mut found = Solved::unknown(self.child, walk.plan.scoring);
-        let mut falls = 0u8;
+        let mut pace = Pace::new();
         let mut vain = 0u8;
         for _ in 0..MOST_WINDOWS {
             let least = walk.floor();
@@ -54,17 +54,33 @@ impl RootMove {
                 return found;
             }
             walk.go_on(self.square, least);
-            let most = upper_of(&found);
-            let window = next_window(most, least, falls);
+            let before = found.interval;
+            let window = self.window(before, least, pace, walk);
             found = found.joined(&narrow(self.child, window, MOST_PLIES, walk));
             walk.raise_by(&self.root, self.square, &found);
-            if upper_of(&found) < most {
-                falls = falls.saturating_add(1);
-            } else if walk.floor() == least {
+            pace = pace.after(before, found.interval);
+            if found.interval == before && walk.floor() == least {
                 vain = vain.saturating_add(1);
             }
         }
         found
+    }
+
+    // The window that comes next: at first a null one at the floor, where there is one, and then what tells most of the value.
+    fn window<C: Cells>(&self, found: Interval, least: i8, pace: Pace, walk: &mut Walk<C>) -> Window
+        requires low { negsuc 63 ≤ℤ least }
+        requires high { least ≤ℤ pos 64 }
+    {
+        if least > -64 && found.upper > -least {
+            return Window::at(1 - least);
+        }
+        if !walk.plan.guesses {
+            return pace.shared_window(found, least);
+        }
+        if found == Interval::all() {
+            return Window::at(1 - walk.guess(&self.root));
+        }
+        pace.window(found)
     }
 
     /// Searches a reply to the move as far as it tells something of the root, and tells the others what it alone tells.
@@ -93,8 +109,8 @@ impl RootMove {
         found
     }
 
-    // Tells the others what the solved board, the child itself or one ply below it, alone tells: of the child by the cells, and of the
-    // root by the floor.
+    // Tells the others what the solved board, one ply below the child, alone tells: of the child by the cells, and of the root by the
+    // floor.
     fn share<C: Cells>(&self, solved: &Solved, walk: &mut Walk<C>) {
         if solved.interval == Interval::all() {
             return;
@@ -115,6 +131,6 @@ fn narrow_down<C: Cells>(board: Board, score: i8, walk: &mut Walk<C>) -> Solved
     if probed.interval.lower >= score || probed.interval.lower == probed.interval.upper {
         return probed;
     }
-    let rest = Window::below(upper_of(&probed));
+    let rest = Window::below(probed.interval.upper);
     narrow(board, rest, MOST_PLIES, walk).joined(&probed)
 }

@@ -7,18 +7,15 @@ ghost use Rattle.oth_pool.specs.Lending.{LendsFloor, LendsTable};
 ghost use Rattle.oth_pool.specs.Working.{Holds, AreGathered, IsReplyOf, numbers_of, times_by};
 
 use crate::access::{TableAccess, WorkerCells};
-use oth_pieces::{Floor, FloorSeat};
-use oth_pieces::Frontier;
 use crate::gate::Gate;
 use crate::height::Height;
 use crate::hints::{HintSeat, Hints};
 use crate::promise::ranks;
-use oth_pieces::Reply;
 use crate::scene::{Plan, Scene, orders_for};
-use oth_pieces::{Drawn, Hand, Tasks};
 use crate::walk::Walk;
 use crate::work::{Job, Work};
 use crate::workers::work_all;
+use oth_pieces::{Drawn, Floor, FloorSeat, Frontier, Hand, Reply, Tasks};
 use oth_rules::Scoring;
 use oth_search::{Cells, Solved, order};
 use std::alloc::Global;
@@ -97,20 +94,36 @@ pub(crate) fn run<'t, R: Threads + Sync, G: Gate>(
     ensures table { LendsTable table.old table.new }
     ensures gathered { AreGathered scene.now.frontier.now scene.now.plan.scoring result.0 }
 {
-    let alloc = means.alloc;
-    let ranks = ranks(scene);
-    let Ok((tasks, hands)) =
-        Tasks::by_rank(alloc, scene.frontier, ranks.as_slice(), means.workers)
-    else {
-        return nothing(alloc, scene);
-    };
     let hints = hints_for(means, scene);
     let shared = Shared {
         floor,
         hints: hints.as_ref(),
     };
+    run_sharing(means, scene, shared, seat, table)
+}
+
+// The same, where this is shared.
+fn run_sharing<'w, 't, R: Threads + Sync, G: Gate>(
+    means: &Means<R, G>,
+    scene: &Scene,
+    shared: Shared<'w>,
+    seat: &mut FloorSeat,
+    table: &mut Option<TableAccess<'t>>,
+) -> (Gathered, Vec<Solved>)
+    requires crew { IsCrew means.now.workers }
+    requires seat { IsSeatOf shared.floor.now seat.old }
+    ensures seat { LendsFloor seat.old seat.new }
+    ensures table { LendsTable table.old table.new }
+    ensures gathered { AreGathered scene.now.frontier.now scene.now.plan.scoring result.0 }
+{
+    let alloc = means.alloc;
+    let ranks = ranks(scene);
+    let Ok((tasks, hands)) = Tasks::by_rank(alloc, scene.frontier, ranks.as_slice(), means.workers)
+    else {
+        return nothing(alloc, scene);
+    };
     let count = hands.len();
-    let Some(walks) = walks_of(alloc, scene.plan, count, &shared, seat, table) else {
+    let Some(walks) = walks_of(alloc, scene.plan, count, shared, seat, table) else {
         return without_jobs(alloc, scene, tasks, hands);
     };
     let (Ok(jobs), Ok(room), Ok(replies)) = (
@@ -172,11 +185,11 @@ fn walks_of<'w, 't>(
     alloc: Global,
     plan: Plan,
     count: usize,
-    shared: &Shared<'w>,
+    shared: Shared<'w>,
     seat: &mut FloorSeat,
     table: &mut Option<TableAccess<'t>>,
 ) -> Option<Vec<Walk<'w, WorkerCells<'t>>>>
-    requires { IsSeatOf shared.now.floor.now seat.old }
+    requires { IsSeatOf shared.floor.now seat.old }
     ensures seat { LendsFloor seat.old seat.new }
     ensures table { LendsTable table.old table.new }
     ensures many { IfSome result (λ walks. vec_len walks ≡ count) }

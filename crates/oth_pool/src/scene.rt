@@ -24,6 +24,8 @@ pub(crate) struct Plan {
     pub dealt: u8,
     /// Whether several workers learn from a table what the others found.
     pub shares: bool,
+    /// Whether a guess tells where the search for the root's value starts.
+    pub guesses: bool,
 }
 
 impl Plan {
@@ -47,6 +49,7 @@ impl Plan {
             fewest: 64,
             dealt: 64,
             shares: false,
+            guesses: true,
         }
     }
 
@@ -64,6 +67,7 @@ impl Plan {
             fewest,
             dealt,
             shares,
+            guesses: false,
         }
     }
 }

@@ -8,18 +8,15 @@ ghost use Rattle.oth_pieces.specs.Hands.{IsCrew};
 ghost use Rattle.oth_pieces.specs.Watch.{IsSeatOf};
 
 use crate::access::{TableAccess, WorkerCells};
-use oth_pieces::Collector;
 use crate::drawn::search_item;
-use oth_pieces::Floor;
-use oth_pieces::Frontier;
 use crate::gate::Gate;
 use crate::height::Height;
-use oth_pieces::Reply;
 use crate::run::{Means, room_for, run};
 use crate::scene::{Plan, Scene};
 use crate::told::{answer_in, bounds_in};
 use crate::walk::Walk;
 use oth_book::Book;
+use oth_pieces::{Collector, Floor, Frontier, Reply};
 use oth_rules::{Board, Scoring, Square};
 use oth_search::{
     Answer, Cells, Solved, before_pass, ended, known_below, known_of, order, solve_moves,
@@ -188,19 +185,19 @@ fn answer_over<'t, R: Threads + Sync, G: Gate>(
         squares: squares.as_slice(),
         plan,
     };
-    let known = searched(means, &scene, told, access);
+    let (known, mut cells) = searched(means, &scene, told, access);
     let root = root_by(told, known.as_slice());
-    let mut cells = WorkerCells::of(means.alloc, access);
     solve_moves(root, known.as_slice(), &mut cells)
 }
 
-// What is found of the boards after the root's moves: by the workers, and by the caller where they left an item.
+// What is found of the boards after the root's moves, by the workers, and by the caller where they left an item, and what the caller
+// searched over.
 fn searched<'t, R: Threads + Sync, G: Gate>(
     means: &Means<R, G>,
     scene: &Scene,
     told: &Solved,
     access: &mut Option<TableAccess<'t>>,
-) -> Vec<Solved>
+) -> (Vec<Solved>, WorkerCells<'t>)
     requires { IsCrew means.now.workers }
 {
     let alloc = means.alloc;
@@ -220,7 +217,8 @@ fn searched<'t, R: Threads + Sync, G: Gate>(
     for number in gathered.drawn.left.as_slice() {
         search_left(scene, *number, means.gate, &mut walk, &mut collector);
     }
-    children_of(scene, &collector, &mut walk)
+    let known = children_of(scene, &collector, &mut walk);
+    (known, walk.into_cells())
 }
 
 // The same by the caller alone, where there is no memory for a floor.
@@ -229,7 +227,7 @@ fn searched_alone<'t, R: Threads + Sync, G: Gate>(
     scene: &Scene,
     told: &Solved,
     access: &mut Option<TableAccess<'t>>,
-) -> Vec<Solved> {
+) -> (Vec<Solved>, WorkerCells<'t>) {
     let cells = WorkerCells::of(means.alloc, access);
     let plan = Plan::alone(told.scoring);
     let mut walk = Walk::of(means.alloc, plan, cells, Height::Own(*told), None);
@@ -237,7 +235,8 @@ fn searched_alone<'t, R: Threads + Sync, G: Gate>(
     for number in 0..scene.frontier.len() {
         search_left(scene, number, means.gate, &mut walk, &mut collector);
     }
-    children_of(scene, &collector, &mut walk)
+    let known = children_of(scene, &collector, &mut walk);
+    (known, walk.into_cells())
 }
 
 // Searches an item that no worker took, and keeps what is found of it.

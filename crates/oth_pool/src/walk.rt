@@ -1,6 +1,5 @@
 //! One worker's way through the tree: what it searches over, what it knows, and which searches it has under way.
 ghost use Rattle.std.specs.Prelude.{◌≡◌, pos, negsuc, ◌≤ℤ◌};
-ghost use Rattle.std.specs.Prelude.{length, ◌≤◌};
 
 use crate::height::Height;
 use crate::hints::HintSeat;
@@ -9,7 +8,7 @@ use crate::scene::Plan;
 use crate::window::{Window, is_settled};
 use arrayvec::ArrayVec;
 use oth_rules::{Board, Square};
-use oth_search::{Cells, Entry, Solved, order};
+use oth_search::{Cells, Entry, Solved, guessed_score, order};
 use std::alloc::Global;
 
 /// No search that workers share is deeper.
@@ -40,6 +39,8 @@ pub(crate) struct Walk<'w, C> {
     goals: Vec<Goal>,
     // The root's moves that it has settled itself.
     settled: u64,
+    // A score that the root seems to have.
+    guess: Option<i8>,
     /// What it found of boards after the root's moves.
     pub found: Vec<Solved>,
 }
@@ -63,6 +64,7 @@ impl<'w, C: Cells> Walk<'w, C> {
             least: 64,
             goals: Vec::new(alloc),
             settled: 0,
+            guess: None,
             found: Vec::new(alloc),
         }
     }
@@ -80,6 +82,24 @@ impl<'w, C: Cells> Walk<'w, C> {
         if let Ok(bound) = Solved::lift(root, square, child) {
             self.height.raise(&bound);
         }
+    }
+
+    /// A score that the root seems to have, from -63 on.
+    pub fn guess(&mut self, root: &Board) -> i8
+        ensures low { negsuc 62 ≤ℤ result }
+        ensures high { result ≤ℤ pos 64 }
+    {
+        if let Some(guess) = self.guess {
+            return guess.max(-63).min(64);
+        }
+        let guess = guessed_score(root, &mut self.cells, self.plan.scoring);
+        self.guess = Some(guess);
+        guess.max(-63)
+    }
+
+    /// The cells, when nothing more is to be searched.
+    pub fn into_cells(self) -> C {
+        self.cells
     }
 
     /// It goes on below this move of the root, at this floor.

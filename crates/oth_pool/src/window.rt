@@ -92,24 +92,72 @@ pub(crate) fn is_settled(child: &Solved, least: i8) -> bool
     child.interval.lower == child.interval.upper || child.interval.lower > -least
 }
 
-/// The window that comes next for the board after a root's move, where its value is at most so much and the root has a floor: at
-/// first a null one at the floor, then some below the bound, and at last one for the value.
-pub(crate) fn next_window(most: i8, floor: i8, falls: u8) -> Window
-    requires low { negsuc 63 ≤ℤ floor }
-    requires high { floor ≤ℤ pos 64 }
-    requires least { negsuc 63 ≤ℤ most }
-    requires most { most ≤ℤ pos 64 }
-{
-    if floor == -64 {
-        Window::all()
-    } else if most > -floor {
-        Window::at(1 - floor)
-    } else if falls < NULL_WINDOWS {
-        Window::at(most)
-    } else {
-        Window::below(most)
+// How many null windows are tried below a bound that workers share, before a search for the value.
+const NULL_WINDOWS: u8 = 2;
+
+// The widest step.
+const WIDEST: i8 = 63;
+
+/// How far a search for a value has come: how often its upper bound fell, and how far beyond a bound is asked next.
+#[derive(Clone, Copy)]
+pub(crate) struct Pace {
+    falls: u8,
+    step: i8,
+    ghost range: { (pos 1 ≤ℤ step) × (step ≤ℤ pos 63) },
+}
+
+impl Pace {
+    /// Nothing has been asked.
+    pub fn new() -> Pace {
+        Pace { falls: 0, step: 1 }
+    }
+
+    /// After a search by which these bounds became those. Steps widen as long as they lead on.
+    pub fn after(self, before: Interval, now: Interval) -> Pace {
+        let fell = now.upper < before.upper;
+        let falls = if fell {
+            self.falls.saturating_add(1)
+        } else {
+            self.falls
+        };
+        if fell || now.upper == 64 {
+            return Pace {
+                falls,
+                step: wider(self.step),
+            };
+        }
+        Pace { falls, step: 1 }
+    }
+
+    /// The null window that is asked next of a value between these bounds: a step below the upper one, or above the lower one where
+    /// that is all that is known.
+    pub fn window(self, bounds: Interval) -> Window {
+        let alpha = if bounds.upper == 64 {
+            bounds.lower + self.step
+        } else {
+            bounds.lower.max(bounds.upper - self.step)
+        };
+        Window::at(alpha.max(-64).min(63) + 1)
+    }
+
+    /// The window that comes next where workers search together and the root has this floor: the one for the value as long as there is
+    /// no floor, then some null windows below the bound, and at last one for the value.
+    pub fn shared_window(self, bounds: Interval, floor: i8) -> Window {
+        if floor == -64 {
+            Window::all()
+        } else if self.falls < NULL_WINDOWS {
+            Window::at(bounds.upper)
+        } else {
+            Window::below(bounds.upper)
+        }
     }
 }
 
-// How many null windows are tried below a bound, before a search for the value.
-const NULL_WINDOWS: u8 = 2;
+fn wider(step: i8) -> i8
+    requires low { pos 1 ≤ℤ step }
+    requires high { step ≤ℤ pos 63 }
+    ensures low { pos 1 ≤ℤ result }
+    ensures high { result ≤ℤ pos 63 }
+{
+    if step < 31 { 2 * step + 1 } else { WIDEST }
+}

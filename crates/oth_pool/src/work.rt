@@ -1,7 +1,6 @@
 //! What one worker has of its own.
-use oth_pieces::Reply;
-use oth_pieces::Hand;
 use crate::walk::Walk;
+use oth_pieces::{Hand, Reply};
 
 /// What a worker draws with, and its replies.
 #[derive(Drop)]

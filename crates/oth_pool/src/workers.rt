@@ -5,11 +5,10 @@ ghost use Rattle.oth_pool.specs.Working.{CanWork};
 
 use crate::drawn::{search_item, settle_all};
 use crate::gate::Gate;
-use oth_pieces::Reply;
 use crate::scene::Scene;
-use oth_pieces::Tasks;
 use crate::walk::Walk;
 use crate::work::{Job, Work};
+use oth_pieces::{Reply, Tasks};
 use oth_search::Cells;
 use std::thread;
 use std::thread::Threads;

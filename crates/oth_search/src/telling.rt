@@ -1,5 +1,5 @@
 //! What cells tell of a board, and what bounds of a board tell across a forced pass.
-ghost use Rattle.std.specs.Prelude.{◌≡◌, true, false};
+ghost use Rattle.std.specs.Prelude.{◌≡◌, true, false, neg_ℤ};
 ghost use Rattle.oth_rules.specs.Position.{pass};
 ghost use Rattle.oth_rules.specs.Move.{can_move};
 
@@ -33,10 +33,7 @@ impl Solved {
         Solved {
             board: self.board.pass(),
             scoring: self.scoring,
-            interval: Interval {
-                lower: -self.interval.upper,
-                upper: -self.interval.lower,
-            },
+            interval: turned(self.interval),
         }
     }
 
@@ -51,10 +48,18 @@ impl Solved {
         Solved {
             board: *board,
             scoring: self.scoring,
-            interval: Interval {
-                lower: -self.interval.upper,
-                upper: -self.interval.lower,
-            },
+            interval: turned(self.interval),
         }
+    }
+}
+
+/// The same bounds as the opponent sees them.
+fn turned(interval: Interval) -> Interval
+    ensures lower { result.lower ≡ neg_ℤ interval.upper }
+    ensures upper { result.upper ≡ neg_ℤ interval.lower }
+{
+    Interval {
+        lower: -interval.upper,
+        upper: -interval.lower,
     }
 }

@@ -92,6 +92,7 @@ fn check_settled<R: AllocGlobal + Abort>(rt: &R, words: [u64; 2]) {
         fewest: 12,
         dealt: 64,
         shares: false,
+        guesses: true,
     };
     let scene = Scene {
         frontier: &frontier,

@@ -48,7 +48,14 @@ fn the_callers_seat_looks_at_what_workers_left(rt: HostRuntime) -> Result<(), Fa
     let mut access = Some(TableAccess::of(&table, own));
     let alloc = rt.alloc();
     let found = run_workers(
-        &rt, alloc, &frontier, &floor, &mut seat, 2, &mut access, &Open,
+        &rt,
+        alloc,
+        &frontier,
+        &floor,
+        &mut seat,
+        2,
+        &mut access,
+        &Open,
     );
     assert!(rt; found.drawn.left.is_empty());
     let Some(access) = access else {
@@ -158,7 +165,14 @@ fn nothing_is_searched_before_the_first_item_is_announced(rt: HostRuntime) -> Re
     };
     let alloc = rt.alloc();
     let found = run_workers(
-        &rt, alloc, &frontier, &floor, &mut seat, 1, &mut access, &gate,
+        &rt,
+        alloc,
+        &frontier,
+        &floor,
+        &mut seat,
+        1,
+        &mut access,
+        &gate,
     );
     assert!(rt; found.drawn.left.is_empty());
     assert!(rt; gate.first.load(Ordering::SeqCst) == 0);

@@ -1,9 +1,7 @@
-use Rattle.std.proofs.Common.{arith}
-use Rattle.std.proofs.lemmas.Int.{ints}
 use Rattle.oth_search.proofs.Enclosing.{Encloses-pass}
 use Rattle.oth_search.proofs.bounds.Solved.before_pass.Goals as goal
 
-pub invariant_of-result-2 : goal.invariant_of-result-2
-invariant_of-result-2 c =
+pub invariant_of-result : goal.invariant_of-result
+invariant_of-result c =
     let s = c.args.self.now in
-    record { encloses = Encloses-pass s.scoring c.args.board.now s.board s.interval.lower s.interval.upper _ _ c.requires.passed c.requires.none c.requires.some s.encloses (omega (arith, ints)) (omega (arith, ints)) }
+    record { encloses = Encloses-pass s.scoring c.args.board.now s.board s.interval.lower s.interval.upper _ _ c.requires.passed c.requires.none c.requires.some s.encloses c.turned.ensures.lower c.turned.ensures.upper }

@@ -6,7 +6,7 @@ use Rattle.oth_pieces.specs.Hands.{count_of}
 use Rattle.oth_pieces.specs.Dealing.{times}
 use Rattle.oth_pool.specs.Working.{numbers_of, times_by}
 use Rattle.oth_pool.proofs.Workings.{gathered, twice}
-use Rattle.oth_pool.proofs.run.run.Goals as goal
+use Rattle.oth_pool.proofs.run.run_sharing.Goals as goal
 
 pub returns-clause-gathered : goal.returns-clause-gathered
 returns-clause-gathered g c =
