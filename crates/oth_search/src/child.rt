@@ -1,5 +1,3 @@
-ghost use Rattle.oth_rules.specs.Position.{Position};
-
 use oth_rules::{Board, Square};
 
 /// A move with the board after it, the replies to it, and its rank: the least is tried first.

@@ -103,7 +103,7 @@ fn probe_remembered<C: Cells>(node: Node, alpha: i8, cells: &mut C, scoring: Sco
     found
 }
 
-/// Searches the children in their order. Where few squares are empty a short list has room for all of them.
+/// Searches the children in their order.
 #[cycle(deep)]
 fn probe_ordered<C: Cells>(node: Node, alpha: i8, cells: &mut C, scoring: Scoring) -> i8
     requires threshold { IsThreshold alpha }
@@ -116,18 +116,55 @@ fn probe_ordered<C: Cells>(node: Node, alpha: i8, cells: &mut C, scoring: Scorin
         return probe_few(node, alpha, scoring);
     }
     if empties <= 8 {
-        let short: ArrayVec<Child, 8> = children(&node);
-        return probe_children(node, short.as_slice(), alpha, cells, scoring);
+        return probe_short(node, alpha, cells, scoring);
     }
     if empties < FEWEST_EMPTIES_LOOKED {
-        let middle: ArrayVec<Child, 10> = children(&node);
-        return probe_children(node, middle.as_slice(), alpha, cells, scoring);
+        return probe_middle(node, alpha, cells, scoring);
     }
-    let plain: ArrayVec<Child, 32> = children(&node);
-    if let Some(found) = known_above(&node.board, plain.as_slice(), alpha, cells, scoring) {
+    probe_long(node, alpha, cells, scoring)
+}
+
+/// The same, where at most eight squares are empty. A function of its own for each length of the list: the blank places of a
+/// long one take time to fill.
+#[inline(never)]
+#[cycle(deep)]
+fn probe_short<C: Cells>(node: Node, alpha: i8, cells: &mut C, scoring: Scoring) -> i8
+    requires threshold { IsThreshold alpha }
+    requires some { can_move node.board ≡ true }
+    ensures value { BoundsAt (value (score_of scoring) node.board) alpha result }
+    ensures fixed { C.fixed cells.new ≡ C.fixed cells.old }
+{
+    let list: ArrayVec<Child, 8> = children(&node);
+    probe_children(node, list.as_slice(), alpha, cells, scoring)
+}
+
+/// The same, where few more are empty.
+#[inline(never)]
+#[cycle(deep)]
+fn probe_middle<C: Cells>(node: Node, alpha: i8, cells: &mut C, scoring: Scoring) -> i8
+    requires threshold { IsThreshold alpha }
+    requires some { can_move node.board ≡ true }
+    ensures value { BoundsAt (value (score_of scoring) node.board) alpha result }
+    ensures fixed { C.fixed cells.new ≡ C.fixed cells.old }
+{
+    let list: ArrayVec<Child, 10> = children(&node);
+    probe_children(node, list.as_slice(), alpha, cells, scoring)
+}
+
+/// The same, where many squares are empty: the children are looked up, and then looked at.
+#[inline(never)]
+#[cycle(deep)]
+fn probe_long<C: Cells>(node: Node, alpha: i8, cells: &mut C, scoring: Scoring) -> i8
+    requires threshold { IsThreshold alpha }
+    requires some { can_move node.board ≡ true }
+    ensures value { BoundsAt (value (score_of scoring) node.board) alpha result }
+    ensures fixed { C.fixed cells.new ≡ C.fixed cells.old }
+{
+    let list: ArrayVec<Child, 32> = children(&node);
+    if let Some(found) = known_above(&node.board, list.as_slice(), alpha, cells, scoring) {
         return found;
     }
-    let looked: ArrayVec<Child, 32> = looked_at(&node, plain.as_slice());
+    let looked: ArrayVec<Child, 32> = looked_at(&node, list.as_slice());
     probe_children(node, looked.as_slice(), alpha, cells, scoring)
 }
 
