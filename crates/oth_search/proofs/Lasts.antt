@@ -279,7 +279,7 @@ BoundsAt-ended g p q alpha beta none none' r is m e n f k = BoundsAt-over g p q 
 
 -- ---- a full board
 
-no_empties : (p : Position) → Leaves p [] → empty_count p ≡ 0
+pub no_empties : (p : Position) → Leaves p [] → empty_count p ≡ 0
 unfolding empty_count squares
 no_empties p l = count_by-same (is_empty p) (λ s. false) (λ s within. not_true (is_empty p s) (l.only s within))
   where
@@ -325,7 +325,7 @@ value-one g p q a r t l legal is e f =
     let full = value-full g q (Leaves-after p q a [] l is) in
     f ∙ ap neg_ℤ (e ∙ sym full ∙ ap (value (score_of g)) is) ∙ ap (λ s. neg_ℤ (value (score_of g) (after p s))) (sym same) ∙ sym top.2
 
-only_move : (p : Position) (a : ℕ) → Leaves p (a ∷ []) → (IsLegal p a → ⊥) → can_move p ≡ false
+pub only_move : (p : Position) (a : ℕ) → Leaves p (a ∷ []) → (IsLegal p a → ⊥) → can_move p ≡ false
 only_move p a l none = ⊎_elim
     (λ some. let m = some_legal p some in
     absurd (none (subst (IsLegal p) (⊎_elim (λ h. h) (λ h. absurd h) (l.only m.0 m.1.on_board (legal-empty p m.0 m.1))) m.1)))

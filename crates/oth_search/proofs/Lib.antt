@@ -8,3 +8,4 @@ pub mod Entries
 pub mod Withins
 pub mod Fulls
 pub mod RootSearch
+pub mod LastBounds

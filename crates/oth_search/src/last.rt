@@ -28,7 +28,7 @@ pub fn probe_last(board: Board, odd: u64, alpha: i8, scoring: Scoring) -> Option
     let a = preferred(rest, odd);
     let rest = without(rest, a);
     if rest == 0 {
-        return Some(last_one(board, a, scoring));
+        return Some(last_one(board, alpha, a, scoring));
     }
     let b = preferred(rest, odd);
     let rest = without(rest, b);
@@ -47,21 +47,26 @@ pub fn probe_last(board: Board, odd: u64, alpha: i8, scoring: Scoring) -> Option
     None
 }
 
-fn last_one(board: Board, a: Square, scoring: Scoring) -> i8
+/// Where the mover has no move, the score of the board as it is bounds the value from above: the opponent may still have one.
+fn last_one(board: Board, alpha: i8, a: Square, scoring: Scoring) -> i8
     requires on_board { a < 64 }
     requires last { Leaves board (a ∷ []) }
-    ensures { result ≡ value (score_of scoring) board }
+    ensures { BoundsAt (value (score_of scoring) board) alpha result }
 {
     let flips = flips_at(&board, a);
     if flips != 0 {
         return -full_score(&board.play_flipped(a, flips));
+    }
+    let rest = board.final_score(scoring);
+    if rest <= alpha {
+        return rest;
     }
     let passed = board.pass();
     let flips = flips_at(&passed, a);
     if flips != 0 {
         return full_score(&passed.play_flipped(a, flips));
     }
-    board.final_score(scoring)
+    rest
 }
 
 /// The score of a full board, which is the same by each scoring.
@@ -118,7 +123,7 @@ fn reply_one(board: Board, alpha: i8, square: Square, a: Square, scoring: Scorin
     if flips == 0 {
         return NO_MOVE;
     }
-    -last_one(board.play_flipped(square, flips), a, scoring)
+    -last_one(board.play_flipped(square, flips), -alpha - 1, a, scoring)
 }
 
 fn last_three(board: Board, alpha: i8, a: Square, b: Square, c: Square, scoring: Scoring) -> i8

@@ -1,4 +1,4 @@
-use Rattle.std.proofs.Common.{◌∷◌, []}
+use Rattle.std.proofs.Common.{[]}
 use Rattle.oth_search.proofs.Lasts as l
 use Rattle.oth_search.proofs.last.last_three_by_quarters.Goals as goal
 

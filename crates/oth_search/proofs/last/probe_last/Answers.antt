@@ -1,14 +1,10 @@
 use Rattle.std.proofs.Common.{◌∷◌, [], arith}
 use Rattle.std.proofs.lemmas.Int.{ints}
 use Rattle.oth_search.proofs.Lasts as l
-use Rattle.oth_rules.proofs.SearchLaws.{IsScore-value}
 use Rattle.oth_search.proofs.last.probe_last.Goals as goal
 
 pub returns-then-rest-eq0 : goal.returns-then-rest-eq0
 returns-then-rest-eq0 c = let v = l.IsScore-score c.args.scoring c.args.board in let is = c.final_score.ensures in l.BoundsAt-full c.args.scoring c.args.board c.args.alpha _ (l.Leaves-all c.args.board [] c.empty_squares-rest.result (l.LeavesBut-start c.args.board c.empty_squares-rest.result c.empty_squares-rest.ensures) c.if-rest-eq0.true) (omega (arith, ints, is, v.low, v.high))
-
-pub returns-then-rest-eq0-2 : goal.returns-then-rest-eq0-2
-returns-then-rest-eq0-2 c = let v = IsScore-value c.args.scoring c.args.board in let is = c.last_one.ensures in l.BoundsAt-value c.args.scoring c.args.board c.args.alpha _ c.last_one.result (omega (arith, ints, is, v.low, v.high)) is
 
 pub last_one-requires-clause-last : goal.last_one-requires-clause-last
 last_one-requires-clause-last c = (l.Leaves-all c.args.board (c.preferred-a.result ∷ []) c.without-rest.result (l.LeavesBut-next c.args.board [] c.empty_squares-rest.result c.preferred-a.result c.without-rest.result (l.LeavesBut-start c.args.board c.empty_squares-rest.result c.empty_squares-rest.ensures) c.preferred-a.ensures c.without-rest.ensures.rest) c.if-rest-eq0-2.true)

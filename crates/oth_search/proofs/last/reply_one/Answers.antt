@@ -1,7 +1,6 @@
 use Rattle.std.proofs.Common.{◌∷◌, [], refl, arith}
 use Rattle.std.proofs.lemmas.Int.{ints}
 use Rattle.oth_search.proofs.Lasts as l
-use Rattle.oth_rules.proofs.SearchLaws.{IsScore-value}
 use Rattle.oth_search.proofs.last.reply_one.Goals as goal
 
 pub last_one-requires-clause-last : goal.last_one-requires-clause-last
@@ -10,14 +9,10 @@ last_one-requires-clause-last c = l.Leaves-after c.args.board c.play_flipped.res
 pub returns-then-flips-eq0 : goal.returns-then-flips-eq0
 returns-then-flips-eq0 c = l.GivesAt-none c.args.scoring c.args.board c.args.square c.args.alpha _ refl (λ h. c.flips_at-flips.ensures.legal.1 h c.if-flips-eq0.true)
 
-pub overflow_sub-result : goal.overflow_sub-result
-overflow_sub-result c = let v = IsScore-value c.args.scoring c.play_flipped.result in let e = c.last_one.ensures in omega (arith, ints, e, v.low, v.high)
-
 pub returns : goal.returns
 returns c =
-    let v = IsScore-value c.args.scoring c.play_flipped.result in let is = c.last_one.ensures in
-    l.GivesAt-exact c.args.scoring c.args.board c.play_flipped.result c.args.square c.args.alpha _ c.last_one.result c.play_flipped.ensures (c.flips_at-flips.ensures.legal.0 c.if-flips-eq0.false)
-    is (omega (arith, ints, is, v.low, v.high))
+    l.GivesAt-reply c.args.scoring c.args.board c.play_flipped.result c.args.square c.args.alpha _ _ c.last_one.result c.play_flipped.ensures (c.flips_at-flips.ensures.legal.0 c.if-flips-eq0.false)
+    (omega (arith, ints)) (omega (arith, ints)) c.last_one.ensures
 
 pub flips_at-flips-requires-clause-empty : goal.flips_at-flips-requires-clause-empty
 flips_at-flips-requires-clause-empty c = c.requires.last.each.1

@@ -1,0 +1,61 @@
+//! What no clause says of a root: what is asked, and what is not.
+ghost use Rattle.std.specs.Prelude.{◌≡◌};
+
+use crate::{Cells, Entry, NoCells, Solved, settle_moves, solve_alone};
+use oth_rules::{Board, Scoring};
+use std::test::Fail;
+
+/// Keeps nothing, and counts the calls.
+#[derive(Drop)]
+struct Counted {
+    looks: u32,
+}
+
+impl Cells for Counted {
+    ghost Fixed = { Unit {0} };
+
+    ghost fixed = { λ c. tt };
+
+    fn look(&mut self, _board: &Board, _scoring: Scoring) -> Option<Entry> {
+        self.looks = self.looks.wrapping_add(1);
+        None
+    }
+
+    fn put(&mut self, _entry: &Entry) {}
+}
+
+#[test]
+fn searches_no_reply_that_is_settled(rt: HostRuntime) -> Result<(), Fail> {
+    let Ok(board) = Board::of(0xd470_0405_47e5_dd00, 0x0205_7a18_b81a_22fc) else {
+        panic!(rt; "no board")
+    };
+    let root = Solved::unknown(board, Scoring::Winner);
+    let replies = settle_moves(&root, &[], &mut NoCells);
+    assert!(rt; replies.as_slice().len() == board.moves().count_ones() as usize);
+    let mut cells = Counted { looks: 0 };
+    let again = settle_moves(&root, replies.as_slice(), &mut cells);
+    assert!(rt; cells.looks == 0);
+    let mut least = 64;
+    for reply in again.as_slice() {
+        least = least.min(reply.interval.upper);
+    }
+    assert!(rt; least == 4);
+    for reply in again.as_slice() {
+        let bounds = reply.interval;
+        assert!(rt; bounds.lower == bounds.upper || bounds.lower > least);
+    }
+    Ok(())
+}
+
+#[test]
+fn starts_from_a_guess_at_17_empties(rt: HostRuntime) -> Result<(), Fail> {
+    let Ok(board) = Board::of(0x887e_3660_0403_0312, 0x3200_899f_bb7c_0c08) else {
+        panic!(rt; "no board")
+    };
+    assert!(rt; board.empties() == 17);
+    match solve_alone(&board, Scoring::Winner) {
+        Ok(answer) => assert!(rt; answer.score == -32 && answer.best == 0x4000_0000_0000_4000),
+        Err(_) => panic!(rt; "not solved"),
+    }
+    Ok(())
+}
