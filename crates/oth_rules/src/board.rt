@@ -182,7 +182,8 @@ impl Board {
 
     /// The same as [`Board::flips`], a step at a time along each of the eight directions: to compare the others with.
     pub fn flips_by_shifts(&self, square: Square) -> u64
-        ensures { result ≡ word_of (is_flipped self.now square) }
+        ensures value { result ≡ word_of (is_flipped self.now square) }
+        ensures none { (result ≡ 0) ↔ (is_legal self.now square ≡ false) }
     {
         if square.word() & self.empty_squares() == 0 {
             return 0;
