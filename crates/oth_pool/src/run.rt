@@ -94,11 +94,9 @@ pub(crate) fn run<'t, R: Threads + Sync, G: Gate>(
     ensures table { LendsTable table.old table.new }
     ensures gathered { AreGathered scene.now.frontier.now scene.now.plan.scoring result.0 }
 {
-    let hints = hints_for(means, scene);
-    let shared = Shared {
-        floor,
-        hints: hints.as_ref(),
-    };
+    let made = hints_for(means, scene);
+    let hints = made.as_ref();
+    let shared = Shared { floor, hints };
     run_sharing(means, scene, shared, seat, table)
 }
 

@@ -137,7 +137,7 @@ impl Pace {
         } else {
             bounds.lower.max(bounds.upper - self.step)
         };
-        Window::at(alpha.max(-64).min(63) + 1)
+        Window::at(threshold(alpha) + 1)
     }
 
     /// The window that comes next where workers search together and the root has this floor: the one for the value as long as there is
@@ -151,6 +151,20 @@ impl Pace {
             Window::below(bounds.upper)
         }
     }
+}
+
+// The nearest number that a null window can ask of.
+fn threshold(alpha: i8) -> i8
+    ensures low { negsuc 63 ≤ℤ result }
+    ensures high { result ≤ℤ pos 63 }
+{
+    if alpha < -64 {
+        return -64;
+    }
+    if alpha > 63 {
+        return 63;
+    }
+    alpha
 }
 
 fn wider(step: i8) -> i8

@@ -1,7 +1,9 @@
 //! A small memory of boards that were searched lately.
-ghost use Rattle.std.specs.Prelude.{◌≡◌, ◌<◌, IfSome};
+ghost use Rattle.std.specs.Prelude.{◌≡◌, ◌<◌, IfSome, IsNone};
 
 use crate::bounds::Solved;
+use crate::cells::Cells;
+use crate::entry::Entry;
 use oth_rules::{Board, Scoring};
 
 /// So many boards are remembered at most: a power of two.
@@ -50,4 +52,39 @@ fn place(board: &Board) -> usize
     let own = board.own().wrapping_mul(0x9e37_79b9_7f4a_7c15);
     let opp = board.opp().wrapping_mul(0xc2b2_ae3d_27d4_eb4f);
     (own.wrapping_add(opp) >> SHIFT) as usize
+}
+
+/// Cells of one search without a table: they keep no entry, but remember boards of few empty squares.
+#[derive(Drop)]
+pub struct MemoCells {
+    memo: Memo,
+}
+
+impl MemoCells {
+    /// Nothing is remembered.
+    pub fn new() -> MemoCells {
+        MemoCells { memo: Memo::new() }
+    }
+}
+
+impl Cells for MemoCells {
+    ghost Fixed = { Unit {0} };
+
+    ghost fixed = { λ c. tt };
+
+    fn look(&mut self, _board: &Board, _scoring: Scoring) -> Option<Entry>
+        ensures none { IsNone result }
+    {
+        None
+    }
+
+    fn put(&mut self, _entry: &Entry) {}
+
+    fn recall(&mut self, board: &Board, scoring: Scoring) -> Option<Solved> {
+        self.memo.recall(board, scoring)
+    }
+
+    fn remember(&mut self, solved: &Solved) {
+        self.memo.remember(solved);
+    }
 }

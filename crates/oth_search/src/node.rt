@@ -19,7 +19,7 @@ impl Node {
     {
         Node {
             board,
-            moves: board.moves(),
+            moves: board.moves_by_lines(),
         }
     }
 }

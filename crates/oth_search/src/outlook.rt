@@ -81,7 +81,7 @@ pub fn outlook_of(child: &Board, moves: u64, empties: u8, enough: Outlook) -> Ou
         return look_past_moves(child, moves, enough);
     }
     let passed = child.pass();
-    let replies = passed.moves();
+    let replies = passed.moves_by_lines();
     if replies != 0 {
         return standing(&passed, replies).turned();
     }
@@ -96,7 +96,7 @@ fn look_past_moves(board: &Board, moves: u64, enough: Outlook) -> Outlook {
         let square = first(rest);
         rest = without(rest, square);
         if let Some(child) = board.play(square) {
-            best = best.better(standing(&child, child.moves()).turned());
+            best = best.better(standing(&child, child.moves_by_lines()).turned());
         }
         if best.points >= enough.points {
             return best;
@@ -116,7 +116,7 @@ fn by_discs(board: &Board) -> Outlook {
 fn standing(board: &Board, moves: u64) -> Outlook {
     let passed = board.pass();
     Outlook {
-        points: strength(board, moves) as i16 - strength(&passed, passed.moves()) as i16,
+        points: strength(board, moves) as i16 - strength(&passed, passed.moves_by_lines()) as i16,
     }
 }
 

@@ -32,12 +32,12 @@ fn probe_with_odd(board: Board, odd: u64, alpha: i8, scoring: Scoring) -> i8
             return found;
         }
     }
-    let moves = board.moves();
+    let moves = board.moves_by_lines();
     if moves != 0 {
         return probe_moves(board, moves, odd, alpha, scoring);
     }
     let passed = board.pass();
-    let replies = passed.moves();
+    let replies = passed.moves_by_lines();
     if replies != 0 {
         return -probe_moves(passed, replies, odd, -alpha - 1, scoring);
     }

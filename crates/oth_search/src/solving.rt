@@ -13,6 +13,7 @@ use crate::bounds::{Interval, Solved};
 use crate::cells::{Cells, NoCells};
 use crate::combining::known_of;
 use crate::kind::Kind;
+use crate::memo::MemoCells;
 use crate::ordering::order;
 use crate::root::settle_moves;
 use crate::searching::search;
@@ -28,6 +29,9 @@ pub struct TooManyEmpties {
 /// The most empty squares of a board that is solved.
 pub const MOST_EMPTIES: u8 = 30;
 
+/// From so many empty squares on a memory for boards of few empty squares pays.
+const FEWEST_EMPTIES_REMEMBERED: u8 = 10;
+
 /// The score and all best moves of a board of at most 30 empty squares, by the caller's thread alone.
 pub fn solve_alone(board: &Board, scoring: Scoring) -> Result<Answer, TooManyEmpties>
     ensures refused { IsErr result ↔ (30 < empty_count board.now) }
@@ -39,7 +43,27 @@ pub fn solve_alone(board: &Board, scoring: Scoring) -> Result<Answer, TooManyEmp
     if empties > MOST_EMPTIES {
         return Err(TooManyEmpties { empties });
     }
-    Ok(solve_with(*board, &mut NoCells, scoring))
+    Ok(solve_without_table(*board, scoring))
+}
+
+/// The answer of a board, by a search without a table.
+fn solve_without_table(board: Board, scoring: Scoring) -> Answer
+    ensures board { result.board ≡ board }
+    ensures scoring { result.scoring ≡ scoring }
+{
+    if board.empties() < FEWEST_EMPTIES_REMEMBERED {
+        solve_with(board, &mut NoCells, scoring)
+    } else {
+        solve_remembering(board, scoring)
+    }
+}
+
+/// The same, with a memory for boards of few empty squares, which takes time to make.
+fn solve_remembering(board: Board, scoring: Scoring) -> Answer
+    ensures board { result.board ≡ board }
+    ensures scoring { result.scoring ≡ scoring }
+{
+    solve_with(board, &mut MemoCells::new(), scoring)
 }
 
 /// The answer of a board, by a search over the cells.

@@ -11,8 +11,8 @@ probe_with_odd-probe_moves-requires t c = (
   (
     record { low = omega (arith, ints, c.requires.low); high = omega (arith, ints, c.requires.high) },
     (
-      can_move-from_moves c.args.board _ c.moves-moves.ensures c.if-moves-ne0.true,
-      c.moves-moves.ensures,
+      can_move-from_moves c.args.board _ c.moves_by_lines-moves.ensures c.if-moves-ne0.true,
+      c.moves_by_lines-moves.ensures,
     ),
   ),
 )
@@ -23,8 +23,8 @@ probe_with_odd-probe_moves-requires-then-replies-ne0 t c = (
   (
     record { low = omega (arith, ints, c.requires.high); high = omega (arith, ints, c.requires.low) },
     (
-      can_move-from_moves c.pass-passed.result _ c.moves-replies.ensures c.if-replies-ne0.true,
-      c.moves-replies.ensures,
+      can_move-from_moves c.pass-passed.result _ c.moves_by_lines-replies.ensures c.if-replies-ne0.true,
+      c.moves_by_lines-replies.ensures,
     ),
   ),
 )
@@ -33,8 +33,8 @@ pub probe_with_odd-returns-then-replies-ne0 : goal.probe_with_odd-returns-then-r
 probe_with_odd-returns-then-replies-ne0 t c =
     BoundsAt-pass c.args.scoring c.args.board c.pass-passed.result c.args.alpha _ _ c.probe_moves-then-replies-ne0.result
     c.pass-passed.ensures
-    (can_move-from_none c.args.board _ c.moves-moves.ensures c.if-moves-ne0.false)
-    (can_move-from_moves c.pass-passed.result _ c.moves-replies.ensures c.if-replies-ne0.true)
+    (can_move-from_none c.args.board _ c.moves_by_lines-moves.ensures c.if-moves-ne0.false)
+    (can_move-from_moves c.pass-passed.result _ c.moves_by_lines-replies.ensures c.if-replies-ne0.true)
     (omega (arith, ints))
     (omega (arith, ints))
     c.probe_moves-then-replies-ne0.ensures
@@ -43,8 +43,8 @@ pub probe_with_odd-returns : goal.probe_with_odd-returns
 probe_with_odd-returns t c =
     BoundsAt-over c.args.scoring c.args.board c.pass-passed.result c.args.alpha _
     c.pass-passed.ensures
-    (can_move-from_none c.args.board _ c.moves-moves.ensures c.if-moves-ne0.false)
-    (can_move-from_none c.pass-passed.result _ c.moves-replies.ensures c.if-replies-ne0.false)
+    (can_move-from_none c.args.board _ c.moves_by_lines-moves.ensures c.if-moves-ne0.false)
+    (can_move-from_none c.pass-passed.result _ c.moves_by_lines-replies.ensures c.if-replies-ne0.false)
     (omega (arith, ints, c.final_score.ensures))
 
 pub probe_moves-loop-rest-init : goal.probe_moves-loop-rest-init
