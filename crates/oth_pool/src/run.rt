@@ -41,7 +41,7 @@ pub(crate) struct Means<'m, R, G> {
 #[derive(Clone, Copy)]
 struct Shared<'s> {
     floor: &'s Floor,
-    hints: Option<&'s Hints>,
+    hints: &'s Option<Hints>,
 }
 
 /// Lets so many workers, 1 to 16, search the items of the frontier, each over cells of the table where there is one and a seat of
@@ -94,9 +94,11 @@ pub(crate) fn run<'t, R: Threads + Sync, G: Gate>(
     ensures table { LendsTable table.old table.new }
     ensures gathered { AreGathered scene.now.frontier.now scene.now.plan.scoring result.0 }
 {
-    let made = hints_for(means, scene);
-    let hints = made.as_ref();
-    let shared = Shared { floor, hints };
+    let hints = hints_for(means, scene);
+    let shared = Shared {
+        floor,
+        hints: &hints,
+    };
     run_sharing(means, scene, shared, seat, table)
 }
 
@@ -207,7 +209,7 @@ fn walks_of<'w, 't>(
     Some(walks)
 }
 
-fn seat_of<'h>(hints: Option<&'h Hints>) -> Option<HintSeat<'h>> {
+fn seat_of<'h>(hints: &'h Option<Hints>) -> Option<HintSeat<'h>> {
     match hints {
         Some(hints) => HintSeat::of(hints),
         None => None,

@@ -4,23 +4,23 @@ use Rattle.oth_rules.proofs.SearchLaws.{is_over-false, empty_count-pass}
 use Rattle.oth_search.proofs.Replies.{can_move-from_moves, can_move-from_none, can_move-after_pass}
 use Rattle.oth_pool.proofs.solving.answer.Goals as goal
 
-pub passed_on-passed-requires-clause-none : goal.passed_on-passed-requires-clause-none
-passed_on-passed-requires-clause-none g c = can_move-from_none c.args.told.now.board _ c.moves.ensures c.if-moves-eq0.true
+pub passed-requires-clause-none : goal.passed-requires-clause-none
+passed-requires-clause-none g c = can_move-from_none c.args.told.now.board _ c.moves.ensures c.if-moves-eq0.true
 
-pub passed_on-passed-requires-clause-some : goal.passed_on-passed-requires-clause-some
-passed_on-passed-requires-clause-some g c =
+pub passed-requires-clause-some : goal.passed-requires-clause-some
+passed-requires-clause-some g c =
     can_move-after_pass c.args.told.now.board (pass c.args.told.now.board) refl
     (can_move-from_none c.args.told.now.board _ c.moves.ensures c.if-moves-eq0.true)
     (is_over-false c.args.told.now.board (sym c.is_over.ensures ∙ c.if-is_over.false))
 
 pub answer_moves-answer-requires-clause-some : goal.answer_moves-answer-requires-clause-some
 answer_moves-answer-requires-clause-some g c = λ κs within.
-    can_move-after_pass c.args.told.now.board _ c.passed_on-passed.ensures.board
+    can_move-after_pass c.args.told.now.board _ c.passed.ensures.board
     (can_move-from_none c.args.told.now.board _ c.moves.ensures c.if-moves-eq0.true)
     (is_over-false c.args.told.now.board (sym c.is_over.ensures ∙ c.if-is_over.false))
 
 pub answer_moves-answer-requires-clause-few : goal.answer_moves-answer-requires-clause-few
-answer_moves-answer-requires-clause-few g c = omega (arith, c.requires.few, ap empty_count c.passed_on-passed.ensures.board, empty_count-pass c.args.told.now.board)
+answer_moves-answer-requires-clause-few g c = omega (arith, c.requires.few, ap empty_count c.passed.ensures.board, empty_count-pass c.args.told.now.board)
 
 pub before_pass-requires-clause-none : goal.before_pass-requires-clause-none
 before_pass-requires-clause-none g c = can_move-from_none c.args.told.now.board _ c.moves.ensures c.if-moves-eq0.true
