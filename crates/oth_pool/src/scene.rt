@@ -58,8 +58,7 @@ impl Plan {
         ensures { result.scoring ≡ scoring }
     {
         let (fewest, dealt) = match empties {
-            0..=18 => (9, 11),
-            19 => (10, 12),
+            0..=19 => (10, 12),
             _ => (11, 14),
         };
         Plan {
