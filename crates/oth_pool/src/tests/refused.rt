@@ -4,13 +4,12 @@
 use super::crews::BOARDS;
 use super::gate::Hearing;
 use super::rows::ROWS;
-use super::{A, CORNERS, board, drawn, lifted, solved};
-use crate::{Floor, Frontier, Open, Tasks, solve};
+use super::{A, CORNERS, solved};
+use crate::{Open, solve};
 use oth_rules::{Board, Scoring, Square};
 use oth_search::solve_alone;
 use oth_table::{SharedTable, TableError};
 use std::process::Abort;
-use std::test::Fail;
 use std::thread::Threads;
 
 // The rows with an empty square or two, by two workers.
@@ -109,44 +108,4 @@ fn each_item_is_heard(rt: HostRuntime) {
     let found = solve(&rt, rt.alloc(), &board, 2, 64, &gate, None, Scoring::Winner);
     assert!(rt; found.is_ok_and(|answer| answer.best == 0x8100_0000_0000_0081));
     assert!(rt; gate.heard_once(12));
-}
-
-// A floor that is refused a further seat answers the given one as before.
-#[test]
-fn a_refused_seat_leaves_the_floor(rt: HostRuntime) -> Result<(), Fail> {
-    let Some(a) = board(A) else {
-        panic!(rt; "no board")
-    };
-    let Some(h1) = lifted(&a, 7) else {
-        panic!(rt; "no move")
-    };
-    let Ok((floor, mut seat)) = Floor::new(rt.alloc(), &a, Scoring::Winner) else {
-        return Ok(());
-    };
-    assert!(rt; floor.raise(&mut seat, &h1).is_ok());
-    match floor.seat(rt.alloc(), &mut seat) {
-        Ok(mut further) => assert!(rt; floor.read(&mut further) == -50),
-        Err(_) => assert!(rt; floor.scoring() == Scoring::Winner),
-    }
-    assert!(rt; floor.read(&mut seat) == -50);
-    Ok(())
-}
-
-// Tasks that aren't refused hand out all that there is.
-#[test]
-fn tasks_are_refused_or_whole(rt: HostRuntime) -> Result<(), Fail> {
-    let Some(a) = board(A) else {
-        panic!(rt; "no board")
-    };
-    let frontier = Frontier::of(&a, 1);
-    assert!(rt; frontier.len() == 2);
-    let Ok((tasks, mut hands)) = Tasks::new(rt.alloc(), &frontier, 2) else {
-        return Ok(());
-    };
-    let first = drawn(&tasks, &mut hands, 0);
-    let second = drawn(&tasks, &mut hands, 1);
-    let closed = tasks.close(hands);
-    let taken = u32::from(first.is_some()) + u32::from(second.is_some());
-    assert!(rt; closed.left.len() as u32 + taken == 2);
-    Ok(())
 }
