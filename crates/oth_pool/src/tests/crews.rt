@@ -1,5 +1,6 @@
 //! Boards whose moves several workers search together: what they answer, and the hints that they give each other.
 
+use super::board;
 use crate::drawn::settle_all;
 use crate::height::Height;
 use crate::hints::{HintSeat, Hints};
@@ -34,7 +35,7 @@ fn answered_alone(words: [u64; 2], scoring: Scoring) -> Option<Answer> {
 }
 
 // The board by crews over so many cells.
-fn check_board<R: Threads + Sync + AllocGlobal + Abort>(
+pub(super) fn check_board<R: Threads + Sync + AllocGlobal + Abort>(
     rt: &R,
     words: [u64; 2],
     cells: u32,
@@ -85,8 +86,11 @@ fn check_settled<R: AllocGlobal + Abort>(rt: &R, words: [u64; 2]) {
     let Some(alone) = answered_alone(words, Scoring::Winner) else {
         panic!(rt; "no answer")
     };
-    let frontier = Frontier::of(&alone.board, 1);
-    let squares = order(&alone.board);
+    let Some(root) = board(words) else {
+        panic!(rt; "no board")
+    };
+    let frontier = Frontier::of(&root, 1);
+    let squares = order(&root);
     let plan = Plan {
         scoring: Scoring::Winner,
         fewest: 12,
@@ -96,11 +100,11 @@ fn check_settled<R: AllocGlobal + Abort>(rt: &R, words: [u64; 2]) {
     };
     let scene = Scene {
         frontier: &frontier,
-        root: alone.board,
+        root,
         squares: squares.as_slice(),
         plan,
     };
-    let height = Height::Own(Solved::unknown(alone.board, Scoring::Winner));
+    let height = Height::Own(Solved::unknown(root, Scoring::Winner));
     let mut walk = Walk::of(rt.alloc(), plan, NoCells, height, None);
     settle_all(&scene, &mut walk);
     assert!(rt; walk.settled() == squares.len() as u64);
@@ -186,7 +190,11 @@ fn an_order_is_kept_for_its_board(rt: HostRuntime) {
         panic!(rt; "no order")
     };
     assert!(rt; kept.of_moves(board.moves()).as_slice() == squares.as_slice());
-    let last = squares[squares.len() - 1];
-    let turned = kept.with_first(last).of_moves(board.moves());
-    assert!(rt; turned.len() == squares.len() && turned[0] == last && turned[1] == squares[0]);
+    let Some(last) = squares.as_slice().last() else {
+        panic!(rt; "no moves")
+    };
+    let turned = kept.with_first(*last).of_moves(board.moves());
+    assert!(rt; turned.len() == squares.len());
+    assert!(rt; turned.as_slice().first() == Some(last));
+    assert!(rt; turned.as_slice().get(1) == squares.as_slice().first());
 }

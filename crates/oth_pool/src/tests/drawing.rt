@@ -1,10 +1,10 @@
 //! What workers do between two calls of a gate, and what they leave behind them.
 
-use super::crews::BOARDS;
-use super::{A, B, C, board};
+use super::crews::{BOARDS, check_board};
+use super::{A, B, C, board, has_entry};
 use crate::{Floor, Frontier, Gate, Open, TableAccess, WorkerCells, run_workers, solve};
-use oth_rules::{Board, Scoring};
-use oth_search::{Cells, solve_alone};
+use oth_rules::{Board, Scoring, Square};
+use oth_search::solve_alone;
 use oth_table::{Look, SharedTable};
 use std::process::Abort;
 use std::sync::Mutex;
@@ -82,17 +82,9 @@ fn sixteen_workers_share_one_cell(rt: HostRuntime) {
 }
 
 #[test]
-fn sixteen_workers_share_one_cell_where_they_search_together(rt: HostRuntime) {
-    let Ok(board) = Board::of(BOARDS[0][0], BOARDS[0][1]) else {
-        panic!(rt; "no board")
-    };
-    let Ok(alone) = solve_alone(&board, Scoring::Winner) else {
-        panic!(rt; "no answer")
-    };
+fn crews_share_one_cell_where_they_search_together(rt: HostRuntime) {
     for _ in 0..20 {
-        let alloc = rt.alloc();
-        let found = solve(&rt, alloc, &board, 16, 1, &Open, None, Scoring::Winner);
-        assert!(rt; found == Ok(alone));
+        check_board(&rt, BOARDS[0], 1, Scoring::Winner);
     }
 }
 
@@ -114,10 +106,9 @@ impl<'t> Watching<'t> {
         };
         let mut known = 0;
         for number in 0..64 {
-            if let Some(child) = self.root.play(oth_rules::Square::numbered(number)) {
-                let (image, _) = child.canonical();
-                if cells.look(&image, Scoring::Winner).is_some() {
-                    known += 1;
+            if let Some(child) = self.root.play(Square::numbered(number)) {
+                if has_entry(&mut *cells, &child) {
+                    known = u64::saturating_add(known, 1);
                 }
             }
         }
