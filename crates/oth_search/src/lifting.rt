@@ -4,9 +4,11 @@ ghost use Rattle.oth_rules.specs.Laws.{IsLegal};
 
 use crate::bounds::{Interval, Solved};
 use oth_rules::{Board, Square};
+use thiserror::Error;
 
 /// Refusal 1: the solved board does not come after that move of the root.
-#[derive(Clone, Copy, PartialEq, Eq, Debug)]
+#[derive(Clone, Copy, PartialEq, Eq, Debug, Error)]
+#[error("the solved board does not come after this move")]
 pub struct NotChild;
 
 impl Solved {

@@ -19,9 +19,11 @@ use crate::root::settle_moves;
 use crate::searching::search;
 use crate::squares::with;
 use oth_rules::{Board, Scoring};
+use thiserror::Error;
 
 /// Refusal 1: a board with more empty squares than are solved, with their number.
-#[derive(Clone, Copy, PartialEq, Eq, Debug)]
+#[derive(Clone, Copy, PartialEq, Eq, Debug, Error)]
+#[error("the board has {empties} empty squares, and at most 30 are solved")]
 pub struct TooManyEmpties {
     pub empties: u8,
 }
