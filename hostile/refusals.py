@@ -1,12 +1,9 @@
-#!/usr/bin/env python3
 """Refuses each request for memory of a test in turn, and each start of a thread, and wants the test to pass every time.
 
-    bench/refusals.py [TESTS]
-
-TESTS is a program of tests that `rt test` has left, `crates/oth_pool/out/oth_pool_tests` if not given. Of its tests those in a module
-`refused` are run, which hold whichever request is refused: for n = 1, 2, .. the n-th request of the run is refused, until a run makes
-fewer. Of oth_pool it is seen too that A over a table of 64 cells makes more requests than A without one by more than the table alone
-takes, so that the workers' seats of the table are asked for. It takes some seconds, and `cc`. The exit status is 1 where a test fails.
+Of the tests that `rt ci` and `rt test` leave as `crates/NAME/out/NAME_tests` those in a module `refused` are run, which hold whichever
+request is refused: for n = 1, 2, .. the n-th request of the run is refused, until a run makes fewer. Of oth_pool it is seen too that a
+worked board over a table of 64 cells makes more requests than without one by more than the table alone takes, so that the workers' seats
+of the table are asked for. It needs `cc`.
 """
 import mmap
 import os
@@ -68,6 +65,9 @@ int pthread_create(pthread_t *thread, const pthread_attr_t *attributes, void *(*
 """
 
 
+CRATES = ("oth_book", "oth_pieces", "oth_pool", "oth_main")
+
+
 class Walk:
     """Runs of one program of tests, with a request refused."""
 
@@ -81,59 +81,51 @@ class Walk:
         subprocess.run(["cc", "-shared", "-fPIC", "-O1", "-o", self.library, source, "-ldl"], check=True)
 
     def tests(self):
+        """The tests that hold whichever request is refused."""
         listed = subprocess.run([self.program, "--list"], stdout=subprocess.PIPE, check=True, text=True).stdout
         names = [line.removesuffix(": test") for line in listed.splitlines() if line.endswith(": test")]
         return [name for name in names if "::refused::" in name]
 
     def run(self, test, refused):
-        """Whether the test passed, what it wrote, and how many requests it made."""
+        """What is wrong with the run, if anything, and how many requests it made."""
         with open(self.counted, "wb") as file:
             file.write(bytes(8))
         words = {"LD_PRELOAD": self.library, "COUNTED": self.counted, "REFUSED": str(refused)}
         ran = subprocess.run([self.program, test], env=words, stdout=subprocess.PIPE, stderr=subprocess.STDOUT, timeout=60)
         with open(self.counted, "r+b") as file, mmap.mmap(file.fileno(), 8) as page:
-            return ran.returncode == 0, ran.stdout.decode(errors="replace"), struct.unpack("q", page[:])[0]
+            count = struct.unpack("q", page[:])[0]
+        if ran.returncode == 0:
+            return None, count
+        return f"fails where request {refused} is refused (0: none)\n{ran.stdout.decode(errors='replace')}", count
 
     def all(self, test):
-        """The requests that the test makes where none is refused; None where it fails."""
-        passed, text, count = self.run(test, 0)
-        if not passed:
-            print(f"{test}: fails without a refusal\n{text}")
-            return None
-        refused = 1
-        while True:
-            passed, text, made = self.run(test, refused)
-            if not passed:
-                print(f"{test}: fails where request {refused} is refused\n{text}")
-                return None
-            if made < refused:
-                print(f"{test}: holds at each of {refused - 1} requests")
-                return count
+        """What is wrong with the test, if anything, and the requests that it makes where none is refused."""
+        wrong, count = self.run(test, 0)
+        refused = 0
+        made = count
+        while wrong is None and made >= refused:
             refused += 1
+            wrong, made = self.run(test, refused)
+        return wrong, count
 
 
-def main():
-    if len(sys.argv) > 2:
-        print(__doc__)
-        return 2
-    program = sys.argv[1] if len(sys.argv) == 2 else "crates/oth_pool/out/oth_pool_tests"
-    with tempfile.TemporaryDirectory() as folder:
-        walk = Walk(program, folder)
-        counts = {test: walk.all(test) for test in walk.tests()}
-    if not counts:
-        print("no tests of refusals")
-        return 1
-    if None in counts.values():
-        return 1
-    by_name = {test.rsplit("::", 1)[1]: count for test, count in counts.items()}
-    if "a_over_64_cells" in by_name:
-        more = by_name["a_over_64_cells"] - by_name["a_without_cells"]
-        table = by_name["a_table_of_64_cells"]
-        print(f"64 cells take {more} requests more than none, the table alone {table}")
-        if more <= table:
-            return 1
-    return 0
+def steps(crates):
+    """A step for each test of refusals: its name, and what is wrong with it, if anything. The argument is the folder of the crates."""
+    for crate in CRATES:
+        with tempfile.TemporaryDirectory() as folder:
+            walk = Walk(f"{crates}/{crate}/out/{crate}_tests", folder)
+            counts = {}
+            for test in walk.tests():
+                wrong, counts[test.rsplit("::", 1)[1]] = walk.all(test)
+                yield f"{test}: holds whichever request is refused", wrong
+            if not counts:
+                yield f"{crate} has tests of refusals", "there are none"
+            if crate == "oth_pool":
+                yield "64 cells take more requests than none, by more than the table alone takes", table(counts)
 
 
-if __name__ == "__main__":
-    sys.exit(main())
+def table(counts):
+    """What is wrong with the numbers of requests, if anything."""
+    more = counts["a_over_64_cells"] - counts["a_without_cells"]
+    alone = counts["a_table_of_64_cells"]
+    return None if more > alone else f"{more} requests more, the table alone {alone}"

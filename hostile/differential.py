@@ -1,0 +1,58 @@
+"""Compares the built program with the small solver: the same answers by both scorings, any number of workers, any table, and from a book."""
+import subprocess
+import tempfile
+
+import minimax
+
+SEED = 20261123
+BOARDS = 2000
+BOOKED = 500
+MOST_EMPTIES = 7
+WORKERS = (1, 2, 16)
+CELLS = (0, 1, 65536)
+SCORINGS = ("winner", "discs")
+
+
+def steps(program):
+    """A step for each scoring, number of workers and table: its name, and what is wrong with it, if anything."""
+    boards = minimax.boards(SEED, BOARDS, MOST_EMPTIES)
+    lines = [minimax.board_line(*board) for board in boards]
+    wanted = [minimax.reports(*board) for board in boards]
+    for at, scoring in enumerate(SCORINGS):
+        for workers in WORKERS:
+            for cells in CELLS:
+                words = [program, "solve", "--workers", str(workers), "--cells", str(cells), "--scoring", scoring]
+                yield (
+                    f"{BOARDS} boards of 0 to {MOST_EMPTIES} empty squares: {' '.join(words[1:])}",
+                    difference(words, lines, [line[at] for line in wanted]),
+                )
+        name = f"a book of {BOOKED} boards, added to, verified and asked: {scoring}"
+        yield name, by_book(program, scoring, lines, [line[at] for line in wanted])
+
+
+def by_book(program, scoring, lines, wanted):
+    """What is wrong with a book that the first boards were added to, if anything: it is verified, and all boards are answered over it."""
+    with tempfile.NamedTemporaryFile() as empty, tempfile.NamedTemporaryFile() as book:
+        empty.write(f"OBOOK2 {scoring[0].upper()}\nEND 000000\n".encode())
+        empty.flush()
+        text = "".join(f"{line}\n" for line in lines[:BOOKED])
+        added = subprocess.run([program, "book-add", empty.name], input=text.encode(), stdout=book, stderr=subprocess.PIPE, timeout=120)
+        if added.returncode != 0 or added.stderr:
+            return f"book-add: status {added.returncode}, {added.stderr[:200]!r}"
+        verified = subprocess.run([program, "book-verify", book.name], stdout=subprocess.PIPE, timeout=120, text=True)
+        if verified.returncode != 0 or not verified.stdout.startswith("book ok "):
+            return f"book-verify: status {verified.returncode}, {verified.stdout!r}"
+        return difference([program, "solve", "--scoring", scoring, "--book", book.name], lines, wanted)
+
+
+def difference(words, lines, wanted):
+    """The first board that the program answers otherwise, or None."""
+    text = "".join(f"{line}\n" for line in lines)
+    ran = subprocess.run(words, input=text, stdout=subprocess.PIPE, stderr=subprocess.PIPE, text=True, timeout=120)
+    answers = ran.stdout.splitlines()
+    for line, answer, want in zip(lines, answers, wanted):
+        if answer != want:
+            return f"{line}: {answer}, where minimax gives {want}"
+    if len(answers) != len(lines) or ran.returncode != 0:
+        return f"{len(answers)} answers to {len(lines)} lines, status {ran.returncode}"
+    return None

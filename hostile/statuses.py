@@ -1,0 +1,174 @@
+"""Runs the built program on command lines, files and devices of every kind, and wants the status and the texts that docs/FORMATS.md names."""
+import os
+import resource
+import select
+import subprocess
+import tempfile
+
+START = "---------------------------OX------XO--------------------------- X"
+FULL_BOARD = "X" * 64 + " X"
+CORNERS = "X" * 60 + "OOO- X"
+EMPTY_BOOK = "OBOOK2 W\nEND 000000\n"
+MEGABYTE = 1 << 20
+LITTLE = 64
+PATIENCE = 20
+
+
+class Case:
+    """One run: the words, standard input, and what is wanted of the status, of standard output and of standard error."""
+
+    def __init__(self, name, words, given=b"", status=0, wrote=None, said=None, **how):
+        self.name, self.words, self.given, self.status = name, words, given, status
+        self.wrote, self.said, self.how = wrote, said, how
+
+    def wrong(self, program):
+        """What is wrong with the run, if anything."""
+        how = {"stdout": subprocess.PIPE, "stderr": subprocess.PIPE, "timeout": PATIENCE, **self.how}
+        if "stdin" not in how:
+            how["input"] = self.given
+        ran = subprocess.run([program, *self.words], **how)
+        if ran.returncode != self.status:
+            return f"status {ran.returncode} in place of {self.status}"
+        if self.wrote is not None and ran.stdout != self.wrote:
+            return f"wrote {ran.stdout[:200]!r} in place of {self.wrote[:200]!r}"
+        if self.said is not None and ran.stderr != self.said:
+            return f"said {ran.stderr[:200]!r} in place of {self.said[:200]!r}"
+        return None
+
+
+def done(folder):
+    """Status 0."""
+    lines = f"{START}\n{CORNERS}\n{FULL_BOARD}\n".encode()
+    yield Case("no input", ["solve"], wrote=b"", said=b"")
+    yield Case("solve", ["solve"], lines, wrote=b"error 5 60\n+64 h8\n+64 end\n", said=b"")
+    yield Case("moves", ["moves"], lines, wrote=b"d3 c4 f5 e6\nh8\nend\n", said=b"")
+    yield Case("transcript", ["transcript"], b"\n", wrote=f"{START}\n".encode(), said=b"")
+    yield Case("a last line without byte 10", ["solve"], FULL_BOARD.encode(), wrote=b"+64 end\n", said=b"")
+    yield Case("help", ["--help"], said=b"")
+    for command in ("solve", "moves", "transcript", "book-verify", "book-add"):
+        yield Case(f"help of {command}", [command, "--help"], said=b"")
+    yield Case("book-verify", ["book-verify", f"{folder}/empty.book"], wrote=b"book ok 0\n", said=b"")
+    yield Case("book-add of no lines", ["book-add", f"{folder}/empty.book"], wrote=EMPTY_BOOK.encode(), said=b"")
+    yield Case(
+        "book-add passes a faulty line over", ["book-add", f"{folder}/empty.book"], b"X\n", wrote=EMPTY_BOOK.encode(), said=b"line 1: error 1\n"
+    )
+
+
+def lines_of_every_kind():
+    """Faulty lines have their fault in their place, whatever their bytes and their length."""
+    good = FULL_BOARD.encode()
+    yield Case("a carriage return", ["solve"], good + b"\r\n" + good + b"\n", wrote=b"error 1\n+64 end\n")
+    yield Case("a NUL byte", ["solve"], b"\0" + good[1:] + b"\n" + good + b"\n", wrote=b"error 2 at 1\n+64 end\n")
+    yield Case("every byte", ["solve"], bytes(at for at in range(256) if at != 10) + b"\n" + good, wrote=b"error 1\n+64 end\n")
+    yield Case("empty lines", ["moves"], b"\n\n" + good + b"\n\n", wrote=b"error 1\nerror 1\nend\nerror 1\n")
+    long_line = b"X" * (10 * MEGABYTE) + b"\n" + good + b"\n"
+    for command in ("solve", "moves"):
+        wrote = b"error 1\n" + (b"+64 end\n" if command == "solve" else b"end\n")
+        yield Case(f"a line of 10 MB in {LITTLE} MB of memory, {command}", [command], long_line, wrote=wrote, preexec_fn=little_memory)
+    many = b"\n" * 100_000
+    yield Case("100,000 lines", ["transcript"], many, wrote=f"{START}\n".encode() * 100_000)
+
+
+def little_memory():
+    resource.setrlimit(resource.RLIMIT_AS, (LITTLE * MEGABYTE, LITTLE * MEGABYTE))
+
+
+def command_line(folder):
+    """Status 2, with the devices as they were."""
+    book = f"{folder}/empty.book"
+    for words in (
+        [],
+        ["solve", "--workers", "0"],
+        ["solve", "--workers", "17"],
+        ["solve", "--workers", "two"],
+        ["solve", "--cells", "262145"],
+        ["solve", "--cells", "-1"],
+        ["solve", "--scoring", "best"],
+        ["solve", "--book"],
+        ["solve", "board"],
+        ["moves", "--workers", "1"],
+        ["nothing"],
+        ["book-verify"],
+        ["book-verify", book, book],
+        ["book-add"],
+        ["book-add", "--scoring", "discs", book],
+    ):
+        name = " ".join(words).replace(book, "FILE")
+        yield Case(f"refused words: {name}".rstrip(), words, status=2, wrote=b"")
+    for words in (["solve", "--cells", "3"], ["solve", "--cells", "3", "--book", "nowhere"], ["book-add", "--cells", "3", "nowhere"]):
+        yield Case(f"refused cells: {' '.join(words)}", words, status=2, wrote=b"", said=b"run error 4\n")
+
+
+def devices(folder):
+    """Status 1: files and devices that fail."""
+    read, write = b"run error 1\n", b"run error 2\n"
+    line = f"{FULL_BOARD}\n".encode()
+    for words in (["book-verify"], ["book-add"], ["solve", "--book"]):
+        name = " ".join(words)
+        yield Case(f"{name}: no such file", [*words, f"{folder}/nowhere"], status=1, wrote=b"", said=read)
+        yield Case(f"{name}: a directory", [*words, folder], status=1, wrote=b"", said=read)
+    yield Case("standard input is a directory", ["solve"], status=1, wrote=b"", said=read, stdin=os.open(folder, os.O_RDONLY))
+    for words in (["solve"], ["moves"], ["book-verify", f"{folder}/empty.book"], ["book-add", f"{folder}/empty.book"], ["--help"]):
+        said = b"" if words == ["--help"] else write
+        yield Case(f"{words[0]}: a full device", words, line, status=1, said=said, stdout=os.open("/dev/full", os.O_WRONLY))
+        yield Case(f"{words[0]}: a broken pipe", words, line, status=1, said=said, stdout=broken_pipe())
+        yield Case(f"{words[0]}: no standard output", words, line, status=1, said=said, preexec_fn=close_output)
+    yield Case("solve: standard error is full", ["solve", "--cells", "3"], status=2, wrote=b"", stderr=os.open("/dev/full", os.O_WRONLY))
+
+
+def close_output():
+    os.close(1)
+
+
+def broken_pipe():
+    """The end for writing of a pipe that nobody reads."""
+    reading, writing = os.pipe()
+    os.close(reading)
+    return writing
+
+
+def entry(cells, lower, upper, best):
+    """A book by winner of one entry."""
+    return f"OBOOK2 W\n{cells} {lower} {upper} {best:016x}\nEND 000001\n"
+
+
+def books(folder):
+    """Status 3: FILE is no book, or no true one."""
+    texts = {
+        "no bytes": ("", "book error 5"),
+        "no header": ("no book\n", "book error 1"),
+        "no entry": ("OBOOK2 W\nx\n", "book error 2 at 1"),
+        "a wrong count": ("OBOOK2 W\nEND 000001\n", "book error 4"),
+        "cut short": ("OBOOK2 W\nEND 00", "book error 5"),
+        "bytes behind the end": (f"{EMPTY_BOOK}\n", "book error 6"),
+        "wrong bounds": (entry("X" * 64, "-64", "+62", 0), "book wrong 1 at 1"),
+        "wrong best moves": (entry("X" * 64, "+64", "+64", 1), "book wrong 2 at 1"),
+        "too many empty squares": (entry("-" * 64, "-64", "+64", 0), "book wrong 3 at 1"),
+    }
+    for name, (text, said) in texts.items():
+        with open(f"{folder}/{name}", "w", encoding="ascii") as file:
+            file.write(text)
+        for words in (["book-verify"], ["book-add"], ["solve", "--book"]):
+            yield Case(f"{' '.join(words)}: {name}", [*words, f"{folder}/{name}"], status=3, wrote=b"", said=f"{said}\n".encode())
+
+
+def is_answered_at_once(program):
+    """What is wrong with a line that comes alone, if anything: its answer is wanted while the input is still open."""
+    with subprocess.Popen([program, "solve"], stdin=subprocess.PIPE, stdout=subprocess.PIPE) as started:
+        started.stdin.write(f"{FULL_BOARD}\n".encode())
+        started.stdin.flush()
+        ready, _, _ = select.select([started.stdout], [], [], PATIENCE)
+        wrote = os.read(started.stdout.fileno(), 100) if ready else b""
+        started.stdin.close()
+    return None if wrote == b"+64 end\n" else f"wrote {wrote!r} while the input was open"
+
+
+def steps(program):
+    """A step for each run: its name, and what is wrong with it, if anything."""
+    with tempfile.TemporaryDirectory() as folder:
+        with open(f"{folder}/empty.book", "w", encoding="ascii") as file:
+            file.write(EMPTY_BOOK)
+        for cases in (done(folder), lines_of_every_kind(), command_line(folder), devices(folder), books(folder)):
+            for case in cases:
+                yield f"status {case.status}: {case.name}", case.wrong(program)
+    yield "a line that comes alone is answered at once", is_answered_at_once(program)
