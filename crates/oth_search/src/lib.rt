@@ -42,6 +42,8 @@ pub use searching::search;
 pub use solving::{TooManyEmpties, before_pass, ended, solve_alone, solve_moves, solve_with};
 
 #[cfg(test)]
+mod keeping_tests;
+#[cfg(test)]
 mod root_tests;
 #[cfg(test)]
 mod tests;
