@@ -3,7 +3,7 @@ ghost use Rattle.std.specs.Prelude.{pos, negsuc, ◌≤ℤ◌};
 ghost use Rattle.oth_pieces.specs.Watch.{IsSeatOf};
 
 use oth_pieces::{Floor, FloorSeat};
-use oth_search::Solved;
+use oth_search::{Interval, Solved};
 
 /// A floor that workers share, with a seat of it.
 #[derive(Drop)]
@@ -40,6 +40,14 @@ impl<'f> Height<'f> {
         }
     }
 
+    /// What is known of the root.
+    pub fn root(&mut self) -> Solved {
+        match self {
+            Height::Shared(shared) => above(shared.floor, &mut shared.seat),
+            Height::Own(root) => *root,
+        }
+    }
+
     /// Tells bounds of the root.
     pub fn raise(&mut self, bound: &Solved) {
         match self {
@@ -49,4 +57,14 @@ impl<'f> Height<'f> {
             Height::Own(root) => *root = root.joined(bound),
         }
     }
+}
+
+// The root with the floor as its lower bound.
+fn above(floor: &Floor, seat: &mut FloorSeat) -> Solved
+    requires { IsSeatOf floor.now seat.old }
+    ensures seat { IsSeatOf floor.now seat.new }
+{
+    let root = floor.board();
+    let lower = floor.read(seat);
+    Solved::of(&root, Interval { lower, upper: 64 }, floor.scoring())
 }

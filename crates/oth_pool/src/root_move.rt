@@ -37,6 +37,10 @@ impl RootMove {
         if walk.is_settled(self.square) {
             return;
         }
+        if walk.plan.alone {
+            walk.settle_root();
+            return;
+        }
         walk.begin(&self.child);
         let found = self.pursue(walk);
         walk.end(&self.child);
@@ -55,7 +59,7 @@ impl RootMove {
             }
             walk.go_on(self.square, least);
             let before = found.interval;
-            let window = self.window(before, least, pace, walk);
+            let window = pace.window(before, least);
             found = found.joined(&narrow(self.child, window, MOST_PLIES, walk));
             walk.raise_by(&self.root, self.square, &found);
             pace = pace.after(before, found.interval);
@@ -64,23 +68,6 @@ impl RootMove {
             }
         }
         found
-    }
-
-    // The window that comes next: at first a null one at the floor, where there is one, and then what tells most of the value.
-    fn window<C: Cells>(&self, found: Interval, least: i8, pace: Pace, walk: &mut Walk<C>) -> Window
-        requires low { negsuc 63 ≤ℤ least }
-        requires high { least ≤ℤ pos 64 }
-    {
-        if least > -64 && found.upper > -least {
-            return Window::at(1 - least);
-        }
-        if !walk.plan.guesses {
-            return pace.shared_window(found, least);
-        }
-        if found == Interval::all() {
-            return Window::at(1 - walk.guess(&self.root));
-        }
-        pace.window(found)
     }
 
     /// Searches a reply to the move as far as it tells something of the root, and tells the others what it alone tells.

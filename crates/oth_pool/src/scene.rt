@@ -24,8 +24,8 @@ pub(crate) struct Plan {
     pub dealt: u8,
     /// Whether several workers learn from a table what the others found.
     pub shares: bool,
-    /// Whether a guess tells where the search for the root's value starts.
-    pub guesses: bool,
+    /// Whether one worker settles all moves of the root at once.
+    pub alone: bool,
 }
 
 impl Plan {
@@ -49,7 +49,7 @@ impl Plan {
             fewest: 64,
             dealt: 64,
             shares: false,
-            guesses: true,
+            alone: true,
         }
     }
 
@@ -66,7 +66,7 @@ impl Plan {
             fewest,
             dealt,
             shares,
-            guesses: false,
+            alone: false,
         }
     }
 }

@@ -8,7 +8,7 @@ use crate::scene::Plan;
 use crate::window::{Window, is_settled};
 use arrayvec::ArrayVec;
 use oth_rules::{Board, Square};
-use oth_search::{Cells, Entry, Solved, guessed_score, order};
+use oth_search::{Cells, Entry, Solved, known_of, order, settle_moves};
 use std::alloc::Global;
 
 /// No search that workers share is deeper.
@@ -39,8 +39,6 @@ pub(crate) struct Walk<'w, C> {
     goals: Vec<Goal>,
     // The root's moves that it has settled itself.
     settled: u64,
-    // A score that the root seems to have.
-    guess: Option<i8>,
     /// What it found of boards after the root's moves.
     pub found: Vec<Solved>,
 }
@@ -64,7 +62,6 @@ impl<'w, C: Cells> Walk<'w, C> {
             least: 64,
             goals: Vec::new(alloc),
             settled: 0,
-            guess: None,
             found: Vec::new(alloc),
         }
     }
@@ -84,17 +81,19 @@ impl<'w, C: Cells> Walk<'w, C> {
         }
     }
 
-    /// A score that the root seems to have, from -63 on.
-    pub fn guess(&mut self, root: &Board) -> i8
-        ensures low { negsuc 62 ≤ℤ result }
-        ensures high { result ≤ℤ pos 64 }
-    {
-        if let Some(guess) = self.guess {
-            return guess.max(-63).min(64);
+    /// Settles all moves of the root, by a search of this worker alone.
+    pub fn settle_root(&mut self) {
+        let root = self.height.root();
+        let replies = settle_moves(&root, self.found.as_slice(), &mut self.cells);
+        for number in 0..64 {
+            let square = Square::numbered(number);
+            if let Some(child) = root.board.play(square) {
+                let reply = known_of(child, replies.as_slice(), root.scoring);
+                self.raise_by(&root.board, square, &reply);
+                let _ = self.found.push(reply);
+                self.settled |= square.word();
+            }
         }
-        let guess = guessed_score(root, &mut self.cells, self.plan.scoring);
-        self.guess = Some(guess);
-        guess.max(-63)
     }
 
     /// The cells, when nothing more is to be searched.

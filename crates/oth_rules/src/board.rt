@@ -102,6 +102,7 @@ impl Board {
     }
 
     /// The same as [`Board::moves`], by plain shifts along lines: the fastest form, for inner loops.
+    #[inline(always)]
     pub fn moves_by_lines(&self) -> u64
         ensures { result ≡ word_of (is_legal self.now) }
     {
@@ -147,6 +148,7 @@ impl Board {
 
     /// The discs that a move to an empty square flips, by its eight rays; 0 where the move is illegal. The fastest
     /// form, for inner loops.
+    #[inline(always)]
     pub fn flips_of_empty(&self, square: Square) -> u64
         requires { IsTrue (is_empty self.now square) }
         ensures { result ≡ word_of (is_flipped self.now square) }
@@ -220,6 +222,7 @@ impl Board {
     }
 
     /// The board after a legal move whose flips are known, for loops that ask for the flips first.
+    #[inline(always)]
     pub fn play_flipped(&self, square: Square, flipped: u64) -> Board
         requires legal { IsTrue (is_legal self.now square) }
         requires flips { flipped ≡ word_of (is_flipped self.now square) }
@@ -232,6 +235,7 @@ impl Board {
     }
 
     /// The board after a move that is known to be legal.
+    #[inline(always)]
     pub fn play_legal(&self, square: Square) -> Board
         requires { IsLegal self.now square }
         ensures { result ≡ after self.now square }

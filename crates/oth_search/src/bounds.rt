@@ -118,6 +118,8 @@ impl Solved {
     pub fn unknown(board: Board, scoring: Scoring) -> Solved
         ensures board { result.board ≡ board }
         ensures scoring { result.scoring ≡ scoring }
+        ensures lower { result.interval.lower ≡ neg_ℤ (pos 64) }
+        ensures upper { result.interval.upper ≡ pos 64 }
     {
         Solved {
             board,

@@ -48,6 +48,7 @@ pub fn probe_last(board: Board, odd: u64, alpha: i8, scoring: Scoring) -> Option
 }
 
 /// Where the mover has no move, the score of the board as it is bounds the value from above: the opponent may still have one.
+#[inline(always)]
 fn last_one(board: Board, alpha: i8, a: Square, scoring: Scoring) -> i8
     requires on_board { a < 64 }
     requires last { Leaves board (a ∷ []) }
@@ -97,6 +98,7 @@ fn last_two(board: Board, alpha: i8, a: Square, b: Square, scoring: Scoring) -> 
     board.final_score(scoring)
 }
 
+#[inline(always)]
 fn moves_two(board: Board, alpha: i8, a: Square, b: Square, scoring: Scoring) -> i8
     requires threshold { IsThreshold alpha }
     requires a_on_board { a < 64 }
@@ -112,6 +114,7 @@ fn moves_two(board: Board, alpha: i8, a: Square, b: Square, scoring: Scoring) ->
 }
 
 /// A move to `square`, with one more empty square.
+#[inline(always)]
 fn reply_one(board: Board, alpha: i8, square: Square, a: Square, scoring: Scoring) -> i8
     requires threshold { IsThreshold alpha }
     requires on_board { square < 64 }
@@ -147,6 +150,7 @@ fn last_three(board: Board, alpha: i8, a: Square, b: Square, c: Square, scoring:
 }
 
 /// The same, where a square alone in its quarter is tried first. Who moves there moves last there.
+#[inline(always)]
 fn last_three_by_quarters(
     board: Board,
     alpha: i8,
@@ -171,6 +175,7 @@ fn last_three_by_quarters(
     last_three(board, alpha, a, b, c, scoring)
 }
 
+#[inline(always)]
 fn moves_three(board: Board, alpha: i8, a: Square, b: Square, c: Square, scoring: Scoring) -> i8
     requires threshold { IsThreshold alpha }
     requires a_on_board { a < 64 }
@@ -191,6 +196,7 @@ fn moves_three(board: Board, alpha: i8, a: Square, b: Square, c: Square, scoring
 }
 
 /// A move to `square`, with two more empty squares.
+#[inline(always)]
 fn reply_two(board: Board, alpha: i8, square: Square, a: Square, b: Square, scoring: Scoring) -> i8
     requires threshold { IsThreshold alpha }
     requires on_board { square < 64 }
@@ -235,6 +241,7 @@ fn last_four(
     board.final_score(scoring)
 }
 
+#[inline(always)]
 fn moves_four(
     board: Board,
     alpha: i8,
@@ -268,6 +275,7 @@ fn moves_four(
 }
 
 /// A move to `square`, with three more empty squares.
+#[inline(always)]
 fn reply_three(
     board: Board,
     alpha: i8,

@@ -37,10 +37,12 @@ pub use kind::Kind;
 pub use lifting::NotChild;
 pub use memo::Memo;
 pub use ordering::order;
-pub use root::{guessed_score, settle_moves};
+pub use root::settle_moves;
 pub use searching::search;
 pub use solving::{TooManyEmpties, before_pass, ended, solve_alone, solve_moves, solve_with};
 
+#[cfg(test)]
+mod keeping_tests;
 #[cfg(test)]
 mod root_tests;
 #[cfg(test)]

@@ -48,7 +48,7 @@ fn searches_no_reply_that_is_settled(rt: HostRuntime) -> Result<(), Fail> {
 }
 
 #[test]
-fn starts_from_a_guess_at_17_empties(rt: HostRuntime) -> Result<(), Fail> {
+fn starts_from_a_guess(rt: HostRuntime) -> Result<(), Fail> {
     let Ok(board) = Board::of(0x887e_3660_0403_0312, 0x3200_899f_bb7c_0c08) else {
         panic!(rt; "no board")
     };

@@ -69,6 +69,7 @@ pub fn with(set: u64, square: Square) -> u64
 }
 
 /// What a move to an empty square flips: nothing exactly if it is not legal.
+#[inline(always)]
 pub fn flips_at(board: &Board, square: Square) -> u64
     requires on_board { square < 64 }
     requires empty { IsTrue (is_empty board.now square) }

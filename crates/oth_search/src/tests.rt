@@ -1,4 +1,4 @@
-//! The worked boards, and what no clause says of looking up and putting.
+//! The worked boards, and what no clause says of bounds, words and memories.
 ghost use Rattle.std.specs.Prelude.{◌≡◌, IfSome};
 
 use crate::{
@@ -136,34 +136,6 @@ fn ends_at_16_empties(rt: HostRuntime) -> Result<(), Fail> {
     Ok(())
 }
 
-/// Keeps what it was last put, and counts the calls.
-#[derive(Drop)]
-struct Kept {
-    entry: Option<Entry>,
-    looks: u32,
-    puts: u32,
-}
-
-impl Cells for Kept {
-    ghost Fixed = { Unit {0} };
-
-    ghost fixed = { λ c. tt };
-
-    fn look(&mut self, board: &Board, scoring: Scoring) -> Option<Entry> {
-        self.looks = self.looks.wrapping_add(1);
-        let entry = self.entry?;
-        if entry.board() == *board && entry.scoring() == scoring {
-            return Some(entry);
-        }
-        None
-    }
-
-    fn put(&mut self, entry: &Entry) {
-        self.puts = self.puts.wrapping_add(1);
-        self.entry = Some(*entry);
-    }
-}
-
 #[test]
 fn decides_each_window(rt: HostRuntime) -> Result<(), Fail> {
     let Ok(board) = Board::of(A[0], A[1]) else {
@@ -175,29 +147,6 @@ fn decides_each_window(rt: HostRuntime) -> Result<(), Fail> {
     assert!(rt; above.lower == -50);
     let below = search(&board, -50, 0, &mut NoCells, Scoring::Winner);
     assert!(rt; below.upper == -50);
-    Ok(())
-}
-
-#[test]
-fn looks_up_and_puts(rt: HostRuntime) -> Result<(), Fail> {
-    let Ok(board) = Board::of(A[0], A[1]) else {
-        panic!(rt; "no board")
-    };
-    let mut cells = Kept {
-        entry: None,
-        looks: 0,
-        puts: 0,
-    };
-    let first = search(&board, -65, 65, &mut cells, Scoring::Winner);
-    assert!(rt; first.lower == -50 && first.upper == -50);
-    assert!(rt; cells.looks == 1 && cells.puts == 1);
-    let Some(entry) = cells.entry else {
-        panic!(rt; "nothing is kept")
-    };
-    assert!(rt; entry.board() == board && entry.words()[2] == 3598);
-    let second = search(&board, -65, 65, &mut cells, Scoring::Winner);
-    assert!(rt; second.lower == -50 && second.upper == -50);
-    assert!(rt; cells.looks == 2 && cells.puts == 1);
     Ok(())
 }
 

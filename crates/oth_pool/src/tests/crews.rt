@@ -81,9 +81,14 @@ fn crews_agree_with_one_over_a_table(rt: HostRuntime) {
     check_boards(&rt, 65_536, Scoring::Discs);
 }
 
-// One worker that keeps nothing settles each move, and comes to the value.
+// One worker that keeps nothing settles each move, by a search of its own and as one of several, and comes to the value.
 fn check_settled<R: AllocGlobal + Abort>(rt: &R, words: [u64; 2]) {
-    let Some(alone) = answered_alone(words, Scoring::Winner) else {
+    check_settled_by(rt, words, true);
+    check_settled_by(rt, words, false);
+}
+
+fn check_settled_by<R: AllocGlobal + Abort>(rt: &R, words: [u64; 2], alone: bool) {
+    let Some(answer) = answered_alone(words, Scoring::Winner) else {
         panic!(rt; "no answer")
     };
     let Some(root) = board(words) else {
@@ -96,7 +101,7 @@ fn check_settled<R: AllocGlobal + Abort>(rt: &R, words: [u64; 2]) {
         fewest: 12,
         dealt: 64,
         shares: false,
-        guesses: true,
+        alone,
     };
     let scene = Scene {
         frontier: &frontier,
@@ -108,7 +113,7 @@ fn check_settled<R: AllocGlobal + Abort>(rt: &R, words: [u64; 2]) {
     let mut walk = Walk::of(rt.alloc(), plan, NoCells, height, None);
     settle_all(&scene, &mut walk);
     assert!(rt; walk.settled() == squares.len() as u64);
-    assert!(rt; walk.floor() == alone.score);
+    assert!(rt; walk.floor() == answer.score);
 }
 
 #[test]

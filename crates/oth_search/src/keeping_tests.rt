@@ -1,0 +1,245 @@
+//! What no clause says of looking up and putting, and how many boards a search comes to.
+ghost use Rattle.std.specs.Prelude.{◌≡◌, IfSome};
+
+use crate::{Cells, Entry, Memo, NoCells, Solved, search, solve_with};
+use oth_rules::{Board, Scoring, Square};
+use std::test::Fail;
+
+/// The board with row 1 `--OXOOO-` and all else `O`, seen by `X`. It is its own canonical form.
+const A: [u64; 2] = [0x8, 0xffff_ffff_ffff_ff74];
+
+/// Bounds of -50 to -50, -50 to 64 and -64 to -50, packed.
+const EXACT: u64 = 14 + 256 * 14;
+
+const AT_LEAST: u64 = 14 + 256 * 128;
+
+const AT_MOST: u64 = 256 * 14;
+
+/// Keeps what it was last put, and counts the calls.
+#[derive(Drop)]
+struct Kept {
+    entry: Option<Entry>,
+    looks: u32,
+    puts: u32,
+}
+
+impl Kept {
+    fn nothing() -> Kept {
+        Kept {
+            entry: None,
+            looks: 0,
+            puts: 0,
+        }
+    }
+
+    /// Whether it keeps the entry of these words, was looked at so often and put so often.
+    fn has(&self, words: [u64; 3], looks: u32, puts: u32) -> bool {
+        match &self.entry {
+            Some(entry) => entry.words() == words && self.looks == looks && self.puts == puts,
+            None => false,
+        }
+    }
+}
+
+impl Cells for Kept {
+    ghost Fixed = { Unit {0} };
+
+    ghost fixed = { λ c. tt };
+
+    fn look(&mut self, board: &Board, scoring: Scoring) -> Option<Entry> {
+        self.looks = self.looks.wrapping_add(1);
+        let entry = self.entry?;
+        if entry.board() == *board && entry.scoring() == scoring {
+            return Some(entry);
+        }
+        None
+    }
+
+    fn put(&mut self, entry: &Entry) {
+        self.puts = self.puts.wrapping_add(1);
+        self.entry = Some(*entry);
+    }
+}
+
+#[test]
+fn looks_up_and_puts(rt: HostRuntime) -> Result<(), Fail> {
+    let Ok(board) = Board::of(A[0], A[1]) else {
+        panic!(rt; "no board")
+    };
+    let mut cells = Kept::nothing();
+    let first = search(&board, -65, 65, &mut cells, Scoring::Winner);
+    assert!(rt; first.lower == -50 && first.upper == -50);
+    assert!(rt; cells.has([A[0], A[1], EXACT], 1, 1));
+    let second = search(&board, -65, 65, &mut cells, Scoring::Winner);
+    assert!(rt; second.lower == -50 && second.upper == -50);
+    assert!(rt; cells.has([A[0], A[1], EXACT], 2, 1));
+    Ok(())
+}
+
+#[test]
+fn keeps_a_bound(rt: HostRuntime) -> Result<(), Fail> {
+    let Ok(board) = Board::of(A[0], A[1]) else {
+        panic!(rt; "no board")
+    };
+    let mut above = Kept::nothing();
+    search(&board, -51, -50, &mut above, Scoring::Winner);
+    assert!(rt; above.has([A[0], A[1], AT_LEAST], 1, 1));
+    search(&board, -60, -55, &mut above, Scoring::Winner);
+    assert!(rt; above.has([A[0], A[1], AT_LEAST], 2, 1));
+    let mut below = Kept::nothing();
+    search(&board, -50, 0, &mut below, Scoring::Winner);
+    assert!(rt; below.has([A[0], A[1], AT_MOST], 1, 1));
+    search(&board, -20, 65, &mut below, Scoring::Winner);
+    assert!(rt; below.has([A[0], A[1], AT_MOST], 2, 1));
+    search(&board, -51, -50, &mut below, Scoring::Winner);
+    assert!(rt; below.has([A[0], A[1], EXACT], 3, 2));
+    Ok(())
+}
+
+#[test]
+fn keeps_a_board_that_passes(rt: HostRuntime) -> Result<(), Fail> {
+    let Ok(board) = Board::of(A[1], A[0]) else {
+        panic!(rt; "no board")
+    };
+    let mut cells = Kept::nothing();
+    let found = search(&board, -65, 65, &mut cells, Scoring::Winner);
+    assert!(rt; found.lower == 50 && found.upper == 50);
+    let (image, _) = board.canonical();
+    assert!(rt; cells.has([image.own(), image.opp(), 114 + 256 * 114], 1, 1));
+    Ok(())
+}
+
+#[test]
+fn keeps_images_under_one_board(rt: HostRuntime) -> Result<(), Fail> {
+    for words in [
+        [0x10, 0xffff_ffff_ffff_ff2e],
+        [0x10 << 56, 0x2eff_ffff_ffff_ffff],
+    ] {
+        let Ok(board) = Board::of(words[0], words[1]) else {
+            panic!(rt; "no board")
+        };
+        let mut cells = Kept::nothing();
+        search(&board, -65, 65, &mut cells, Scoring::Winner);
+        assert!(rt; cells.has([A[0], A[1], EXACT], 1, 1));
+    }
+    Ok(())
+}
+
+#[test]
+fn looks_up_no_finished_board(rt: HostRuntime) -> Result<(), Fail> {
+    for own in [u64::MAX, !(1 << 63), !0x3fff_ffff] {
+        let Ok(board) = Board::of(own, 0) else {
+            panic!(rt; "no board")
+        };
+        let mut cells = Kept::nothing();
+        let found = search(&board, -65, 65, &mut cells, Scoring::Winner);
+        assert!(rt; found.lower == 64 && found.upper == 64);
+        assert!(rt; cells.looks == 0 && cells.puts == 0);
+    }
+    Ok(())
+}
+
+/// A board of a game with so many empty squares: at each turn the least-numbered legal move was played.
+fn least_line(empties: u8) -> Option<Board> {
+    let mut board = Board::of(1 << 28 | 1 << 35, 1 << 27 | 1 << 36).ok()?;
+    for _ in 0..100 {
+        if board.empties() <= empties || board.is_over() {
+            break;
+        }
+        if board.moves() == 0 {
+            board = board.pass();
+        }
+        let square = Square::of(board.moves().trailing_zeros() as u8)?;
+        board = board.play(square)?;
+    }
+    Some(board)
+}
+
+/// The boards with fewer empty squares are remembered and not kept, so a probe of nine makes one look and one put.
+#[test]
+fn keeps_what_a_probe_tells(rt: HostRuntime) -> Result<(), Fail> {
+    let Some(board) = least_line(9) else {
+        panic!(rt; "no line")
+    };
+    assert!(rt; board.empties() == 9 && board.moves() != 0);
+    let value = board.plain_score(Scoring::Winner);
+    assert!(rt; -64 < value && value < 64);
+    let (image, _) = board.canonical();
+    let mut above = Kept::nothing();
+    let found = Solved::by_probe(&board, value - 1, &mut above, Scoring::Winner);
+    assert!(rt; found.interval.lower == value && found.interval.upper == 64);
+    let lower = (i16::from(value) + 64) as u64;
+    assert!(rt; above.has([image.own(), image.opp(), lower + 256 * 128], 1, 1));
+    Solved::by_probe(&board, value - 1, &mut above, Scoring::Winner);
+    assert!(rt; above.looks == 2 && above.puts == 1);
+    let mut below = Kept::nothing();
+    let found = Solved::by_probe(&board, value, &mut below, Scoring::Winner);
+    assert!(rt; found.interval.lower == -64 && found.interval.upper == value);
+    assert!(rt; below.has([image.own(), image.opp(), 256 * lower], 1, 1));
+    Ok(())
+}
+
+/// Keeps no entry and remembers, and counts the boards that a search comes to: those that are looked up, of at least nine empty
+/// squares, and those that are recalled, of five to eight.
+#[derive(Drop)]
+struct Counted {
+    memo: Memo,
+    looked: u32,
+    recalled: u32,
+}
+
+impl Cells for Counted {
+    ghost Fixed = { Unit {0} };
+
+    ghost fixed = { λ c. tt };
+
+    fn look(&mut self, _board: &Board, _scoring: Scoring) -> Option<Entry> {
+        self.looked = self.looked.wrapping_add(1);
+        None
+    }
+
+    fn put(&mut self, _entry: &Entry) {}
+
+    fn recall(&mut self, board: &Board, scoring: Scoring) -> Option<Solved> {
+        self.recalled = self.recalled.wrapping_add(1);
+        self.memo.recall(board, scoring)
+    }
+
+    fn remember(&mut self, solved: &Solved) {
+        self.memo.remember(solved);
+    }
+}
+
+/// A search that comes to many more boards than this one does has lost something: its order, its windows or its memory.
+#[test]
+fn comes_to_few_boards(rt: HostRuntime) -> Result<(), Fail> {
+    let Some(board) = least_line(14) else {
+        panic!(rt; "no line")
+    };
+    let mut cells = Counted {
+        memo: Memo::new(),
+        looked: 0,
+        recalled: 0,
+    };
+    let answer = solve_with(board, &mut cells, Scoring::Winner);
+    assert!(rt; answer.board == board);
+    let Counted {
+        memo: _,
+        looked,
+        recalled,
+    } = cells;
+    assert!(rt;
+        looked > 0 && looked <= MOST_LOOKED,
+        "{looked} boards are looked up"
+    );
+    assert!(rt;
+        recalled > 0 && recalled <= MOST_RECALLED,
+        "{recalled} boards are recalled"
+    );
+    Ok(())
+}
+
+/// By half more than were counted on the day when this was written.
+const MOST_LOOKED: u32 = 1_700;
+
+const MOST_RECALLED: u32 = 19_000;
