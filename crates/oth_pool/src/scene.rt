@@ -4,6 +4,9 @@ ghost use Rattle.std.specs.Prelude.{◌≡◌};
 use oth_pieces::Frontier;
 use oth_rules::{Board, Scoring, Square};
 
+// From so many empty squares on a guess that workers make pays.
+const FEWEST_EMPTIES_GUESSED: u8 = 16;
+
 /// The board that is solved, its frontier, its moves in the order in which they are searched, and how the search is made.
 #[derive(Clone, Copy)]
 pub(crate) struct Scene<'s> {
@@ -24,7 +27,7 @@ pub(crate) struct Plan {
     pub dealt: u8,
     /// Whether several workers learn from a table what the others found.
     pub shares: bool,
-    /// Whether a guess tells where the search for the root's value starts.
+    /// Whether they make a guess together of where the search for the root's value starts.
     pub guesses: bool,
 }
 
@@ -49,7 +52,7 @@ impl Plan {
             fewest: 64,
             dealt: 64,
             shares: false,
-            guesses: true,
+            guesses: false,
         }
     }
 
@@ -66,7 +69,7 @@ impl Plan {
             fewest,
             dealt,
             shares,
-            guesses: false,
+            guesses: shares && empties >= FEWEST_EMPTIES_GUESSED,
         }
     }
 }
@@ -75,8 +78,8 @@ impl Plan {
 pub(crate) fn orders_for(empties: u8) -> u16 {
     match empties {
         0..=13 => 1,
-        14..=15 => 256,
-        16..=17 => 2_048,
+        14..=15 => 1_024,
+        16..=17 => 4_096,
         _ => 8_192,
     }
 }

@@ -92,8 +92,8 @@ pub(crate) fn is_settled(child: &Solved, least: i8) -> bool
     child.interval.lower == child.interval.upper || child.interval.lower > -least
 }
 
-// How many null windows are tried below a bound that workers share, before a search for the value.
-const NULL_WINDOWS: u8 = 2;
+// A guess that is off by more is no good one.
+const OFF: i8 = 4;
 
 // The widest step.
 const WIDEST: i8 = 63;
@@ -139,18 +139,23 @@ impl Pace {
         };
         Window::at(threshold(alpha) + 1)
     }
+}
 
-    /// The window that comes next where workers search together and the root has this floor: the one for the value as long as there is
-    /// no floor, then some null windows below the bound, and at last one for the value.
-    pub fn shared_window(self, bounds: Interval, floor: i8) -> Window {
-        if floor == -64 {
-            Window::all()
-        } else if self.falls < NULL_WINDOWS {
-            Window::at(bounds.upper)
-        } else {
-            Window::below(bounds.upper)
-        }
-    }
+/// The null window that is asked next of a value between these bounds, which seems to be the guess, where workers share what they find:
+/// all who know the same bounds ask the same. It is the one next to the upper bound, or further below that as the guess is far off.
+/// Where only a lower bound is known it is as far above that as that is above the guess.
+pub(crate) fn shared_window(bounds: Interval, guess: i8) -> Window {
+    let Interval { lower, upper } = bounds;
+    let alpha = if upper < 64 {
+        let off = guess.saturating_sub(upper).saturating_sub(OFF).max(0);
+        lower.max(upper.saturating_sub(off).saturating_sub(1))
+    } else if lower <= guess {
+        guess
+    } else {
+        let off = lower.saturating_sub(guess);
+        lower.saturating_add(off).saturating_add(1)
+    };
+    Window::at(threshold(alpha) + 1)
 }
 
 // The nearest number that a null window can ask of.
