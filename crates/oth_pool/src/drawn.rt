@@ -56,8 +56,8 @@ fn search_drawn<C: Cells>(scene: &Scene, item: &Item, walk: &mut Walk<C>) -> Sol
         root_move.settle(walk);
         return walk.told(&item.board);
     }
-    let is_eldest = search_eldest(&root_move, &item.board, walk);
-    let found = root_move.search_reply(item.board, is_eldest, walk);
+    search_eldest(&root_move, &item.board, walk);
+    let found = root_move.search_reply(item.board, walk);
     root_move.settle(walk);
     found
 }
@@ -88,22 +88,18 @@ fn settle_before<C: Cells>(scene: &Scene, square: Square, walk: &mut Walk<C>) {
     }
 }
 
-// Helps with the eldest reply to the move. Whether this board is the one after it.
-fn search_eldest<C: Cells>(root_move: &RootMove, board: &Board, walk: &mut Walk<C>) -> bool {
+// Helps with the eldest reply to the move, unless this board is the one after it.
+fn search_eldest<C: Cells>(root_move: &RootMove, board: &Board, walk: &mut Walk<C>) {
     let squares = walk.order(&root_move.child);
     let Some(square) = squares.first() else {
-        return false;
+        return;
     };
     let Some(eldest) = root_move.child.play(*square) else {
-        return false;
+        return;
     };
-    if eldest == *board {
-        return true;
+    if eldest != *board && can_move(&eldest) {
+        root_move.search_reply(eldest, walk);
     }
-    if can_move(&eldest) {
-        root_move.search_reply(eldest, true, walk);
-    }
-    false
 }
 
 /// Searches what is open of the root's moves, when no item is left.

@@ -1,7 +1,7 @@
 //! What the workers of a search tell each other besides bounds: which boards somebody is searching, which of the root's moves need no
 //! further search, and in which order a board's moves are best searched. These are hints. They save time, and every answer is right
 //! whatever they say.
-ghost use Rattle.std.specs.Prelude.{◌≡◌, ◌<◌, IfSome};
+ghost use Rattle.std.specs.Prelude.{◌≡◌, ◌<◌, ◌≤ℤ◌, negsuc, IfSome};
 
 mod rule;
 
@@ -12,10 +12,15 @@ use rule::{Anything, Step};
 use std::alloc::Global;
 use std::marker::Model;
 
-// The words: for each square whether the root's move to it is settled, how many moves are, the marks, and the orders.
+// The words: for each square whether the root's move to it is settled, how many moves are, a guess, the marks, and the orders.
 const SETTLED_COUNT: usize = 64;
 
-const MARKS: usize = 65;
+// A guess of the root's score, raised by so much, or 0 for none.
+const GUESS: usize = 65;
+
+const GUESS_RAISED: i16 = 65;
+
+const MARKS: usize = 66;
 
 // So many boards can be marked, each at a place that its discs tell.
 const MARK_COUNT: usize = 1024;
@@ -117,6 +122,22 @@ impl<'h> HintSeat<'h> {
     /// How many of the root's moves need no further search. Where two are settled at the same time one may not be counted.
     pub fn settled(&mut self) -> u64 {
         self.load(SETTLED_COUNT)
+    }
+
+    /// A guess of the root's score, if one was told.
+    pub fn guess(&mut self) -> Option<i8> {
+        let word = self.load(GUESS);
+        if word == 0 || word > 129 {
+            return None;
+        }
+        Some((word as i16 - GUESS_RAISED) as i8)
+    }
+
+    /// Tells a guess of the root's score.
+    pub fn tell_guess(&mut self, guess: i8)
+        requires { negsuc 63 ≤ℤ guess }
+    {
+        self.store(GUESS, (i16::from(guess) + GUESS_RAISED) as u64);
     }
 
     /// Whether a worker seems to search the board.

@@ -4,6 +4,7 @@
 mod access;
 mod drawn;
 mod gate;
+mod glance;
 mod height;
 mod hints;
 mod move_order;

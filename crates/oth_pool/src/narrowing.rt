@@ -59,8 +59,8 @@ fn narrow_past<C: Cells>(board: Board, window: Window, plies: u8, walk: &mut Wal
     narrow(passed, window.turned(), plies, walk).before_pass(&board)
 }
 
-// What a search by this worker alone finds.
-fn searched<C: Cells>(board: &Board, window: Window, walk: &mut Walk<C>) -> Solved
+/// What a search by this worker alone finds.
+pub(crate) fn searched<C: Cells>(board: &Board, window: Window, walk: &mut Walk<C>) -> Solved
     ensures { result.board ≡ board.now }
 {
     let Window { alpha, beta } = window;
@@ -187,7 +187,7 @@ fn visit<C: Cells>(
     };
     node.window = window;
     node.take(square, solved);
-    if !is_leaf && walk.gives_up() {
+    if !is_leaf && walk.gives_up(&child) {
         return Some(Solved::unknown(node.board, walk.plan.scoring));
     }
     None

@@ -3,7 +3,7 @@ ghost use Rattle.std.specs.Prelude.{◌≡◌, pos, negsuc, ◌≤ℤ◌};
 
 use crate::narrowing::narrow;
 use crate::walk::{MOST_PLIES, Walk};
-use crate::window::{Pace, Window, is_settled};
+use crate::window::{Pace, Window, is_settled, shared_window};
 use oth_rules::{Board, Square};
 use oth_search::{Cells, Interval, Solved, known_below};
 
@@ -49,7 +49,7 @@ impl RootMove {
 
     // What is found of the board after the move, until it is settled by this worker or another.
     fn pursue<C: Cells>(&self, walk: &mut Walk<C>) -> Solved {
-        let mut found = Solved::unknown(self.child, walk.plan.scoring);
+        let mut found = walk.told(&self.child);
         let mut pace = Pace::new();
         let mut vain = 0u8;
         for _ in 0..MOST_WINDOWS {
@@ -59,7 +59,7 @@ impl RootMove {
             }
             walk.go_on(self.square, least);
             let before = found.interval;
-            let window = pace.window(before, least);
+            let window = self.window(before, least, pace, walk);
             found = found.joined(&narrow(self.child, window, MOST_PLIES, walk));
             walk.raise_by(&self.root, self.square, &found);
             pace = pace.after(before, found.interval);
@@ -70,27 +70,38 @@ impl RootMove {
         found
     }
 
+    // The window that comes next: at first a null one at the floor, where there is one, and then what tells most of the value.
+    fn window<C: Cells>(&self, found: Interval, least: i8, pace: Pace, walk: &mut Walk<C>) -> Window
+        requires low { negsuc 63 ≤ℤ least }
+        requires high { least ≤ℤ pos 64 }
+    {
+        if least > -64 && found.upper > -least {
+            return Window::at(1 - least);
+        }
+        let guess = walk.guess(&self.root);
+        if walk.plan.guesses {
+            return shared_window(found, -guess);
+        }
+        if found == Interval::all() {
+            return Window::at(1 - guess);
+        }
+        pace.window(found)
+    }
+
     /// Searches a reply to the move as far as it tells something of the root, and tells the others what it alone tells.
-    pub fn search_reply<C: Cells>(
-        &self,
-        board: Board,
-        is_eldest: bool,
-        walk: &mut Walk<C>,
-    ) -> Solved {
+    pub fn search_reply<C: Cells>(&self, board: Board, walk: &mut Walk<C>) -> Solved {
         let known = walk.told(&self.child);
         let least = walk.floor();
         if is_settled(&known, least) {
             return walk.told(&board);
         }
         walk.go_on(self.square, least);
+        let aim = walk.aim(&self.root);
+        if known.interval.lower > -aim {
+            return walk.told(&board);
+        }
         walk.begin(&board);
-        let found = if least > -64 {
-            narrow(board, Window::at(least), MOST_PLIES, walk)
-        } else if is_eldest || known.interval.lower == -64 {
-            narrow(board, Window::all(), MOST_PLIES, walk)
-        } else {
-            narrow_down(board, -known.interval.lower, walk)
-        };
+        let found = narrow(board, Window::at(aim), MOST_PLIES, walk);
         walk.end(&board);
         self.share(&found, walk);
         found
@@ -107,17 +118,4 @@ impl RootMove {
         walk.raise_by(&self.root, self.square, &known);
         walk.keep(self.square, known);
     }
-}
-
-// The value where it is less than this score, else that it isn't: by a null window, and below it where that fails low.
-fn narrow_down<C: Cells>(board: Board, score: i8, walk: &mut Walk<C>) -> Solved
-    requires low { negsuc 63 ≤ℤ score }
-    requires high { score ≤ℤ pos 64 }
-{
-    let probed = narrow(board, Window::at(score), MOST_PLIES, walk);
-    if probed.interval.lower >= score || probed.interval.lower == probed.interval.upper {
-        return probed;
-    }
-    let rest = Window::below(probed.interval.upper);
-    narrow(board, rest, MOST_PLIES, walk).joined(&probed)
 }

@@ -4,6 +4,9 @@ ghost use Rattle.std.specs.Prelude.{◌≡◌};
 use oth_pieces::Frontier;
 use oth_rules::{Board, Scoring, Square};
 
+// From so many empty squares on a guess that workers make pays.
+const FEWEST_EMPTIES_GUESSED: u8 = 16;
+
 /// The board that is solved, its frontier, its moves in the order in which they are searched, and how the search is made.
 #[derive(Clone, Copy)]
 pub(crate) struct Scene<'s> {
@@ -26,6 +29,8 @@ pub(crate) struct Plan {
     pub shares: bool,
     /// Whether one worker settles all moves of the root at once.
     pub alone: bool,
+    /// Whether they make a guess together of where the search for the root's value starts.
+    pub guesses: bool,
 }
 
 impl Plan {
@@ -50,6 +55,7 @@ impl Plan {
             dealt: 64,
             shares: false,
             alone: true,
+            guesses: false,
         }
     }
 
@@ -67,6 +73,7 @@ impl Plan {
             dealt,
             shares,
             alone: false,
+            guesses: shares && empties >= FEWEST_EMPTIES_GUESSED,
         }
     }
 }
@@ -75,8 +82,8 @@ impl Plan {
 pub(crate) fn orders_for(empties: u8) -> u16 {
     match empties {
         0..=13 => 1,
-        14..=15 => 256,
-        16..=17 => 2_048,
+        14..=15 => 1_024,
+        16..=17 => 4_096,
         _ => 8_192,
     }
 }

@@ -1,6 +1,7 @@
 //! One worker's way through the tree: what it searches over, what it knows, and which searches it has under way.
 ghost use Rattle.std.specs.Prelude.{◌≡◌, pos, negsuc, ◌≤ℤ◌};
 
+use crate::glance::glance;
 use crate::height::Height;
 use crate::hints::HintSeat;
 use crate::move_order::MoveOrder;
@@ -8,14 +9,21 @@ use crate::scene::Plan;
 use crate::window::{Window, is_settled};
 use arrayvec::ArrayVec;
 use oth_rules::{Board, Square};
-use oth_search::{Cells, Entry, Solved, known_of, order, settle_moves};
+use oth_search::{Cells, Entry, Solved, guessed_score, known_of, order, settle_moves};
 use std::alloc::Global;
 
 /// No search that workers share is deeper.
 pub(crate) const MOST_PLIES: u8 = 30;
 
 // Boards with fewer empty squares are ordered anew each time.
-const FEWEST_EMPTIES_KEPT: u8 = 13;
+const FEWEST_EMPTIES_KEPT: u8 = 12;
+
+// After a board that has fewer empty squares than this, beyond those of the smallest that workers share, not all searches under way are
+// looked up: that would take longer than is saved.
+const SMALL: u8 = 2;
+
+// So many of them are.
+const GOALS_LOOKED_UP: usize = 2;
 
 // A search under way: the canonical image of its board, and what it is to decide.
 #[derive(Clone, Copy)]
@@ -39,6 +47,8 @@ pub(crate) struct Walk<'w, C> {
     goals: Vec<Goal>,
     // The root's moves that it has settled itself.
     settled: u64,
+    // A score that the root seems to have.
+    guess: Option<i8>,
     /// What it found of boards after the root's moves.
     pub found: Vec<Solved>,
 }
@@ -62,6 +72,7 @@ impl<'w, C: Cells> Walk<'w, C> {
             least: 64,
             goals: Vec::new(alloc),
             settled: 0,
+            guess: None,
             found: Vec::new(alloc),
         }
     }
@@ -94,6 +105,57 @@ impl<'w, C: Cells> Walk<'w, C> {
                 self.settled |= square.word();
             }
         }
+    }
+
+    /// A score that the root seems to have, from -63 on.
+    pub fn guess(&mut self, root: &Board) -> i8
+        ensures low { negsuc 62 ≤ℤ result }
+        ensures high { result ≤ℤ pos 64 }
+    {
+        if let Some(guess) = self.guess {
+            return guess.max(-63).min(64);
+        }
+        let guess = if self.plan.guesses {
+            self.guess_together(root)
+        } else if self.plan.shares {
+            0
+        } else {
+            guessed_score(root, &mut self.cells, self.plan.scoring)
+        };
+        self.guess = Some(guess);
+        guess.max(-63)
+    }
+
+    // The same, which workers make together.
+    fn guess_together(&mut self, root: &Board) -> i8
+        ensures low { negsuc 63 ≤ℤ result }
+        ensures high { result ≤ℤ pos 64 }
+    {
+        let guess = glance(root, self);
+        if let Some(hints) = &mut self.hints {
+            hints.tell_guess(guess);
+        }
+        guess
+    }
+
+    /// The guess that another worker has made.
+    pub fn told_guess(&mut self) -> Option<i8> {
+        match &mut self.hints {
+            Some(hints) => hints.guess(),
+            None => None,
+        }
+    }
+
+    /// The score that the root's moves are asked for: the floor, or a guess where there is none.
+    pub fn aim(&mut self, root: &Board) -> i8
+        ensures low { negsuc 62 ≤ℤ result }
+        ensures high { result ≤ℤ pos 64 }
+    {
+        let least = self.floor();
+        if least > -64 {
+            return least;
+        }
+        self.guess(root)
     }
 
     /// The cells, when nothing more is to be searched.
@@ -194,15 +256,23 @@ impl<'w, C: Cells> Walk<'w, C> {
         self.goals.truncate(depth);
     }
 
-    /// Whether what it searches is of no more use: the floor has risen, the root's move is settled, or the cells tell what one of the
-    /// searches under way is to decide.
-    pub fn gives_up(&mut self) -> bool {
-        self.floor() > self.least || self.is_settled(self.square) || self.is_any_decided()
+    /// Whether what it searches is of no more use after this board was searched: the floor has risen, the root's move is settled, or the
+    /// cells tell what one of the searches under way is to decide.
+    pub fn gives_up(&mut self, searched: &Board) -> bool {
+        let is_small = searched.empties() < self.plan.fewest.saturating_add(SMALL);
+        self.floor() > self.least || self.is_settled(self.square) || self.is_any_decided(is_small)
     }
 
-    fn is_any_decided(&mut self) -> bool {
-        for goal in self.goals.as_slice() {
-            if is_decided(goal, &mut self.cells, self.plan) {
+    // Whether the cells tell what one of the searches under way is to decide: one of the last ones, where only few are looked up.
+    fn is_any_decided(&mut self, few: bool) -> bool {
+        let goals = self.goals.as_slice();
+        let first = if few {
+            goals.len().saturating_sub(GOALS_LOOKED_UP)
+        } else {
+            0
+        };
+        for place in first..goals.len() {
+            if is_decided(&goals[place], &mut self.cells, self.plan) {
                 return true;
             }
         }

@@ -92,47 +92,91 @@ pub(crate) fn is_settled(child: &Solved, least: i8) -> bool
     child.interval.lower == child.interval.upper || child.interval.lower > -least
 }
 
-// How many null windows are tried below a bound that workers share, before a search for the value.
-const NULL_WINDOWS: u8 = 2;
+// A guess that is off by more is no good one.
+const OFF: i8 = 4;
 
-/// How far a search for a value has come: how often its upper bound fell.
+// The widest step.
+const WIDEST: i8 = 63;
+
+/// How far a search for a value has come: how often its upper bound fell, and how far beyond a bound is asked next.
 #[derive(Clone, Copy)]
 pub(crate) struct Pace {
     falls: u8,
+    step: i8,
+    ghost range: { (pos 1 ≤ℤ step) × (step ≤ℤ pos 63) },
 }
 
 impl Pace {
     /// Nothing has been asked.
     pub fn new() -> Pace {
-        Pace { falls: 0 }
+        Pace { falls: 0, step: 1 }
     }
 
-    /// After a search by which these bounds became those.
+    /// After a search by which these bounds became those. Steps widen as long as they lead on.
     pub fn after(self, before: Interval, now: Interval) -> Pace {
-        if now.upper < before.upper {
-            Pace {
-                falls: self.falls.saturating_add(1),
-            }
+        let fell = now.upper < before.upper;
+        let falls = if fell {
+            self.falls.saturating_add(1)
         } else {
-            self
+            self.falls
+        };
+        if fell || now.upper == 64 {
+            return Pace {
+                falls,
+                step: wider(self.step),
+            };
         }
+        Pace { falls, step: 1 }
     }
 
-    /// The window that comes next of a value between these bounds, where the root has this floor: a null one at the floor, where
-    /// there is one, then some below the bound, and at last one for the value; as long as there is no floor the one for the value.
-    pub fn window(self, bounds: Interval, floor: i8) -> Window
-        requires low { negsuc 63 ≤ℤ floor }
-        requires high { floor ≤ℤ pos 64 }
-    {
-        if floor > -64 && bounds.upper > -floor {
-            return Window::at(1 - floor);
-        }
-        if floor == -64 {
-            Window::all()
-        } else if self.falls < NULL_WINDOWS {
-            Window::at(bounds.upper)
+    /// The null window that is asked next of a value between these bounds: a step below the upper one, or above the lower one where
+    /// that is all that is known.
+    pub fn window(self, bounds: Interval) -> Window {
+        let alpha = if bounds.upper == 64 {
+            bounds.lower + self.step
         } else {
-            Window::below(bounds.upper)
-        }
+            bounds.lower.max(bounds.upper - self.step)
+        };
+        Window::at(threshold(alpha) + 1)
     }
+}
+
+/// The null window that is asked next of a value between these bounds, which seems to be the guess, where workers share what they find:
+/// all who know the same bounds ask the same. It is the one next to the upper bound, or further below that as the guess is far off.
+/// Where only a lower bound is known it is as far above that as that is above the guess.
+pub(crate) fn shared_window(bounds: Interval, guess: i8) -> Window {
+    let Interval { lower, upper } = bounds;
+    let alpha = if upper < 64 {
+        let off = guess.saturating_sub(upper).saturating_sub(OFF).max(0);
+        lower.max(upper.saturating_sub(off).saturating_sub(1))
+    } else if lower <= guess {
+        guess
+    } else {
+        let off = lower.saturating_sub(guess);
+        lower.saturating_add(off).saturating_add(1)
+    };
+    Window::at(threshold(alpha) + 1)
+}
+
+// The nearest number that a null window can ask of.
+fn threshold(alpha: i8) -> i8
+    ensures low { negsuc 63 ≤ℤ result }
+    ensures high { result ≤ℤ pos 63 }
+{
+    if alpha < -64 {
+        return -64;
+    }
+    if alpha > 63 {
+        return 63;
+    }
+    alpha
+}
+
+fn wider(step: i8) -> i8
+    requires low { pos 1 ≤ℤ step }
+    requires high { step ≤ℤ pos 63 }
+    ensures low { pos 1 ≤ℤ result }
+    ensures high { result ≤ℤ pos 63 }
+{
+    if step < 31 { 2 * step + 1 } else { WIDEST }
 }

@@ -37,7 +37,7 @@ pub use kind::Kind;
 pub use lifting::NotChild;
 pub use memo::Memo;
 pub use ordering::order;
-pub use root::settle_moves;
+pub use root::{guessed_score, settle_moves};
 pub use searching::search;
 pub use solving::{TooManyEmpties, before_pass, ended, solve_alone, solve_moves, solve_with};
 

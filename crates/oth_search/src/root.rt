@@ -55,6 +55,18 @@ fn replies_of(root: &Solved, known: &[Solved]) -> ArrayVec<Solved, 64> {
     replies
 }
 
+/// The score that the root seems to have, by a search of few moves where many squares are empty. No answer depends on it.
+pub fn guessed_score<C: Cells>(root: &Board, cells: &mut C, scoring: Scoring) -> i8
+    ensures score { IsScore result }
+    ensures fixed { C.fixed cells.new ≡ C.fixed cells.old }
+{
+    if root.empties() < FEWEST_EMPTIES_GUESSED {
+        return 0;
+    }
+    let mut replies = replies_of(&Solved::unknown(*root, scoring), &[]);
+    -guess(replies.as_mut_slice(), cells)
+}
+
 /// Narrows what is known of the replies, one of which is known to have at most the value `limit`.
 fn settle<C: Cells>(replies: &mut [Solved], limit: i8, empties: u8, cells: &mut C)
     requires few { length replies.old ≤ 64 }

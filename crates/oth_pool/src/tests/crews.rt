@@ -101,6 +101,7 @@ fn check_settled_by<R: AllocGlobal + Abort>(rt: &R, words: [u64; 2], alone: bool
         fewest: 12,
         dealt: 64,
         shares: false,
+        guesses: false,
         alone,
     };
     let scene = Scene {
