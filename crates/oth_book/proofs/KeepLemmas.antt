@@ -4,7 +4,7 @@ use Rattle.std.proofs.lemmas.Int.{ints, int_max_is, int_min_is}
 use Rattle.std.proofs.lemmas.List.Elements.{Contains-append_left, Contains-append_right, Contains-append_cases}
 use Rattle.std.proofs.Math.ListN.{set}
 use Rattle.std.specs.Int.{int_max, int_min}
-use Rattle.std.specs.Prelude.{Result, Ok, Err, int_lt}
+use Rattle.std.specs.Prelude.{Result, Ok, Err}
 use Rattle.oth_rules.specs.Score.{score_of}
 use Rattle.oth_rules.specs.Value.{value}
 use Rattle.oth_rules.specs.declared.scoring.Scoring.{Scoring}
