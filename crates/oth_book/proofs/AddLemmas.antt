@@ -97,9 +97,12 @@ book_insert g xs i e book room entry gap = record {
   rising = rising_inserted xs i e book.rising gap;
 }
 
+abbrev pub book_of : Scoring → List Claim → Contents
+book_of g entries = record { scoring = g; entries = entries }
+
 -- std's insert, in two parts
-pub inserts : (xs : List Claim) (i : ℕ) (e : Claim) → Inserts xs (insert xs i e) e
-inserts xs i e = record { front = take i xs; back = drop i xs; before = sym (take-append-drop i xs); after = refl }
+pub inserts : (g : Scoring) (xs : List Claim) (i : ℕ) (e : Claim) → Inserts (book_of g xs) (book_of g (insert xs i e)) e
+inserts g xs i e = record { scoring = refl; front = take i xs; back = drop i xs; before = sym (take-append-drop i xs); after = refl }
 
 -- ---- an entry in place of another of the same board
 
@@ -127,8 +130,9 @@ book_set g xs i e book entry at =
       rising = λ j k d h w. rw (set_board xs i e j d at, set_board xs i e k d at) (book.rising j k d h (omega (arith, len, w)));
     }
 
-pub replaces : (xs : List Claim) (i : ℕ) (c e : Claim) → i < length xs → c ≡ get_or xs i c → Replaces xs (set xs i e) c e
-replaces xs i c e h is = record {
+pub replaces : (g : Scoring) (xs : List Claim) (i : ℕ) (c e : Claim) → i < length xs → c ≡ get_or xs i c → Replaces (book_of g xs) (book_of g (set xs i e)) c e
+replaces g xs i c e h is = record {
+  scoring = refl;
   front = take i xs;
   back = drop (i + 1) xs;
   before = sym (take-append-drop i xs) ∙ ap (λ ys. take i xs ++ ys) (drop-cons xs i c h ∙ ap (λ x. x ∷ drop (suc i) xs) (sym is) ∙ ap (λ k. c ∷ drop k xs) (sym (add-one i)));
@@ -180,9 +184,6 @@ bounds_true g s by few open_bounds = record {
 
 -- ---- what an addition tells
 
-abbrev pub book_of : Scoring → List Claim → Contents
-book_of g entries = record { scoring = g; entries = entries }
-
 -- what was put in, or not
 pub record IsPut (old new : List Claim) (i : ℕ) (e : Claim) (r : Result Added AddError) : Type 0 where
   pub inserted : IfOk r (λ done. (done ≡ added.New) × (new ≡ insert old i e))
@@ -200,7 +201,7 @@ not_new d h k = k h
 pub answer_new : (g : Scoring) (old new : List Claim) (i : ℕ) (e : Claim) (a : Answer) (r : Result Added AddError) → e ≡ answer_entry a → IsGap old i e.board → IsPut old new i e r
     → IfOk r (λ done. IsAdded (book_of g old) (book_of g new) a done)
 answer_new g old new i e a (Ok added.New) is gap put =
-    (gap_absent old i (canonical a.board) (rw is at gap), rw (← is, put.inserted.1) (inserts old i e))
+    (gap_absent old i (canonical a.board) (rw is at gap), rw (← is, put.inserted.1) (inserts g old i e))
 answer_new g old new i e a (Ok added.Present) is gap put = absurd (let no : added.Present ≡ added.New = put.inserted.0 in cc)
 answer_new g old new i e a (Ok added.Sharper) is gap put = absurd (let no : added.Sharper ≡ added.New = put.inserted.0 in cc)
 answer_new g old new i e a (Err why) is gap put = tt
@@ -223,12 +224,12 @@ answer_present g old i kept e a is at there exact =
 pub answer_sharper : (g : Scoring) (old : List Claim) (i : ℕ) (kept e : Claim) (a : Answer) → e ≡ answer_entry a → IsEntryOf old i e.board → kept ≡ get_or old i kept → (IsExact kept → ⊥)
     → IsAdded (book_of g old) (book_of g (set old i e)) a added.Sharper
 answer_sharper g old i kept e a is at there inexact =
-    (kept, ap (λ c. c.board) there ∙ at.same kept ∙ ap (λ c. c.board) is, inexact, rw (← is) (replaces old i kept e at.within there))
+    (kept, ap (λ c. c.board) there ∙ at.same kept ∙ ap (λ c. c.board) is, inexact, rw (← is) (replaces g old i kept e at.within there))
 
 pub bounds_new : (g : Scoring) (old new : List Claim) (i : ℕ) (e : Claim) (s : Solved) (r : Result Added AddError) → e ≡ bounds_entry s → (IsExact e → ⊥) → IsGap old i e.board → IsPut old new i e r
     → IfOk r (λ done. AreAdded (book_of g old) (book_of g new) s done)
 bounds_new g old new i e s (Ok added.New) is inexact gap put =
-    (gap_absent old i (canonical s.board) (rw is at gap), rw is at inexact, rw (← is, put.inserted.1) (inserts old i e))
+    (gap_absent old i (canonical s.board) (rw is at gap), rw is at inexact, rw (← is, put.inserted.1) (inserts g old i e))
 bounds_new g old new i e s (Ok added.Present) is inexact gap put = absurd (let no : added.Present ≡ added.New = put.inserted.0 in cc)
 bounds_new g old new i e s (Ok added.Sharper) is inexact gap put = absurd (let no : added.Sharper ≡ added.New = put.inserted.0 in cc)
 bounds_new g old new i e s (Err why) is inexact gap put = tt
@@ -260,7 +261,7 @@ bounds_one_new g old i e s asked is gap exact = (asked, inr (gap_absent old i (c
 pub bounds_sharper : (g : Scoring) (old : List Claim) (i : ℕ) (kept e d : Claim) (s : Solved) → e ≡ bounds_entry s → IsEntryOf old i e.board → kept ≡ get_or old i kept → d ≡ closer kept s
     → (SameBounds d kept → ⊥) → (IsExact d → ⊥) → AreAdded (book_of g old) (book_of g (set old i d)) s added.Sharper
 bounds_sharper g old i kept e d s is at there closer_is other inexact =
-    (kept, kept_entry g old i kept e s is at there, rw closer_is at other, rw closer_is at inexact, rw (← closer_is) (replaces old i kept d at.within there))
+    (kept, kept_entry g old i kept e s is at there, rw closer_is at other, rw closer_is at inexact, rw (← closer_is) (replaces g old i kept d at.within there))
 
 -- the closer entry keeps the book true
 pub closer_set : (g : Scoring) (old : List Claim) (i : ℕ) (kept e d : Claim) (s : Solved) → TrueBook g old → s.scoring ≡ g → e ≡ bounds_entry s → IsEntryOf old i e.board → kept ≡ get_or old i kept → d ≡ closer kept s

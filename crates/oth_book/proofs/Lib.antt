@@ -9,6 +9,7 @@ pub mod BoundsLemmas
 pub mod ReadLemmas
 pub mod BookLemmas
 pub mod AddLemmas
+pub mod KeepLemmas
 pub mod VerifyLemmas
 pub mod WriteLemmas
 pub mod LawLemmas

@@ -1,9 +1,10 @@
 -- What an addition does to a book.
+--     Keeps old new      all that the old book says stands in the new one, with bounds at least as close
 --     IsAdded old new a done      an answer was added
 --     IsRefused old a why      why an answer was refused
 --     AreAdded old new s done      bounds were added
 --     AreRefused old s why      why bounds were refused
-use Rattle.std.specs.Prelude.{◌≡◌, ◌≢◌, ◌<◌, ◌≤◌, ◌⊎◌, List, ◌++◌, ◌∷◌, length, Contains}
+use Rattle.std.specs.Prelude.{◌≡◌, ◌≢◌, ◌<◌, ◌≤◌, ◌⊎◌, ℤ, ◌≤ℤ◌, List, ◌++◌, ◌∷◌, length, Contains}
 use Rattle.std.specs.Int.{int_max, int_min}
 use Rattle.oth_rules.specs.Position.{Position, empty_count}
 use Rattle.oth_rules.specs.Symmetry.{canonical}
@@ -16,21 +17,35 @@ use Rattle.oth_book.specs.declared.add.AddError.{AddError}
 use Rattle.oth_book.specs.declared.add.AddError.TheVariants as refused
 use Rattle.oth_book.specs.Contents.{Contents}
 use Rattle.oth_book.specs.True.{best_word}
-use Rattle.oth_book.specs.Book.{HasExact, HasBoard}
+use Rattle.oth_book.specs.Book.{Has, HasExact, HasBoard}
 
--- the new entries are the old ones with this one put in
-pub record Inserts (old new : List Claim) (c : Claim) : Type 0 where
+-- the board stands there with bounds at least as close
+pub record HasWithin (entries : List Claim) (p : Position) (lower upper : ℤ) : Type 0 where
+  pub closer_lower : ℤ
+  pub closer_upper : ℤ
+  pub has : Has entries p closer_lower closer_upper
+  pub above : lower ≤ℤ closer_lower
+  pub below : closer_upper ≤ℤ upper
+
+pub record Keeps (old new : Contents) : Type 0 where
+  pub scoring : new.scoring ≡ old.scoring
+  pub boards : (p : Position) (lower upper : ℤ) → Has old.entries p lower upper → HasWithin new.entries p lower upper
+
+-- the new book is the old one with this entry put in
+pub record Inserts (old new : Contents) (c : Claim) : Type 0 where
+  pub scoring : new.scoring ≡ old.scoring
   pub front : List Claim
   pub back : List Claim
-  pub before : old ≡ front ++ back
-  pub after : new ≡ front ++ c ∷ back
+  pub before : old.entries ≡ front ++ back
+  pub after : new.entries ≡ front ++ c ∷ back
 
--- the new entries are the old ones with c replaced by d
-pub record Replaces (old new : List Claim) (c d : Claim) : Type 0 where
+-- the new book is the old one with c replaced by d
+pub record Replaces (old new : Contents) (c d : Claim) : Type 0 where
+  pub scoring : new.scoring ≡ old.scoring
   pub front : List Claim
   pub back : List Claim
-  pub before : old ≡ front ++ c ∷ back
-  pub after : new ≡ front ++ d ∷ back
+  pub before : old.entries ≡ front ++ c ∷ back
+  pub after : new.entries ≡ front ++ d ∷ back
 
 -- no room is left, or no memory for one entry more
 abbrev pub HasNoRoom : List Claim → AddError → Type 0
@@ -48,10 +63,10 @@ abbrev pub answer_entry : Answer → Claim
 answer_entry a = record { board = canonical a.board; lower = a.score; upper = a.score; best = best_word a.scoring (canonical a.board) }
 
 abbrev pub IsAdded : Contents → Contents → Answer → Added → Type 0
-IsAdded old new a added.New = IsAbsent old a.board × Inserts old.entries new.entries (answer_entry a)
+IsAdded old new a added.New = IsAbsent old a.board × Inserts old new (answer_entry a)
 IsAdded old new a added.Present = HasExact old.entries (canonical a.board) × (new ≡ old)
 IsAdded old new a added.Sharper =
-    (c : Claim) × (c.board ≡ canonical a.board) × (c.lower ≢ c.upper) × Replaces old.entries new.entries c (answer_entry a)
+    (c : Claim) × (c.board ≡ canonical a.board) × (c.lower ≢ c.upper) × Replaces old new c (answer_entry a)
 
 abbrev pub IsRefused : Contents → Answer → AddError → Type 0
 IsRefused old a refused.Scoring = a.scoring ≢ old.scoring
@@ -75,10 +90,10 @@ pub record IsKept (book : Contents) (p : Position) (c : Claim) : Type 0 where
   pub board : c.board ≡ canonical p
 
 abbrev pub AreAdded : Contents → Contents → Solved → Added → Type 0
-AreAdded old new s added.New = IsAbsent old s.board × (s.interval.lower ≢ s.interval.upper) × Inserts old.entries new.entries (bounds_entry s)
+AreAdded old new s added.New = IsAbsent old s.board × (s.interval.lower ≢ s.interval.upper) × Inserts old new (bounds_entry s)
 AreAdded old new s added.Present = (c : Claim) × IsKept old s.board c × SameBounds (closer c s) c × (new ≡ old)
 AreAdded old new s added.Sharper =
-    (c : Claim) × IsKept old s.board c × (SameBounds (closer c s) c → ⊥) × ((closer c s).lower ≢ (closer c s).upper) × Replaces old.entries new.entries c (closer c s)
+    (c : Claim) × IsKept old s.board c × (SameBounds (closer c s) c → ⊥) × ((closer c s).lower ≢ (closer c s).upper) × Replaces old new c (closer c s)
 
 -- tested before the book is looked into
 pub record IsAskable (old : Contents) (s : Solved) : Type 0 where

@@ -1,8 +1,8 @@
 -- When an entry is true, and which of a book's entries is the first that isn't.
 --     IsTrueClaim g c      the entry is true by the scoring g, and of at most 30 empty squares
 --     IsCause g c why      the first cause for which it isn't
---     IsWrong said wrong      the first entry that isn't true, counted from 1, with its cause; or want of memory
-use Rattle.std.specs.Prelude.{◌≡◌, ◌≢◌, ℕ, ◌+◌, ◌<◌, ◌≤◌, take, slice_get, Some, All, ⊤}
+--     IsWrong said wrong      the first entry that isn't true, counted from 1, with its cause; or want of memory for some entries
+use Rattle.std.specs.Prelude.{◌≡◌, ◌≢◌, ℕ, ◌+◌, ◌<◌, ◌≤◌, [], take, slice_get, Some, All}
 use Rattle.oth_rules.specs.Square.{word_of}
 use Rattle.oth_rules.specs.Position.{Position, empty_count}
 use Rattle.oth_rules.specs.Score.{score_of}
@@ -45,4 +45,4 @@ pub record IsFirstUntrue (said : Contents) (i : ℕ) (why : Cause) : Type 0 wher
 
 abbrev pub IsWrong : Contents → Wrong → Type 0
 IsWrong said (wrong.Entry k why) = (i : ℕ) × (k ≡ i + 1) × IsFirstUntrue said i why
-IsWrong said wrong.Memory = ⊤
+IsWrong said wrong.Memory = said.entries ≢ []

@@ -8,7 +8,7 @@ ghost use Rattle.oth_book.specs.Order.{board_cmp};
 ghost use Rattle.oth_book.specs.Contents.{Contents};
 ghost use Rattle.oth_book.specs.True.{IsExact};
 ghost use Rattle.oth_book.specs.Book.{IsTrueBook, IsBookEntry, IsEntryOf, IsGap, Has, HasExact, HasBoard};
-ghost use Rattle.oth_book.specs.Add.{IsAdded, IsRefused, AreAdded, AreRefused, IsAskable, SameBounds, answer_entry, bounds_entry, closer};
+ghost use Rattle.oth_book.specs.Add.{IsAdded, IsRefused, AreAdded, AreRefused, IsAskable, Keeps, SameBounds, answer_entry, bounds_entry, closer};
 
 use crate::add::{AddError, Added, greater, lesser, put_in};
 use crate::claim::Claim;
@@ -69,7 +69,8 @@ impl Book {
 
     /// How many entries it has, at most 100,000.
     pub fn len(&self) -> usize
-        ensures { result ≡ length self.now.entries }
+        ensures entries { result ≡ length self.now.entries }
+        ensures most { result ≤ 100000 }
     {
         self.entries.len()
     }
@@ -125,13 +126,15 @@ impl Book {
         }
     }
 
-    /// Puts the answer's canonical board in, or makes its entry exact.
+    /// Puts the answer's canonical board in, or makes its entry exact. What the book said before stands.
     pub fn add(&mut self, answer: &Answer) -> Result<Added, AddError>
         requires { empty_count answer.now.board ≤ 30 }
         ensures scoring { OnOk result (answer.now.scoring ≡ self.old.scoring) }
         ensures added { IfOk result (λ done. IsAdded self.old self.new answer.now done) }
         ensures refused { IfErr result (λ why. IsRefused self.old answer.now why) }
         ensures unchanged { OnErr result (self.new ≡ self.old) }
+        ensures kept { Keeps self.old self.new }
+        ensures book { IsTrueBook self.new }
     {
         if !agree(answer.scoring, self.scoring) {
             return Err(AddError::Scoring);
@@ -150,12 +153,14 @@ impl Book {
         }
     }
 
-    /// Puts the bounds of the canonical board in, or makes its entry's bounds closer.
+    /// Puts the bounds of the canonical board in, or makes its entry's bounds closer. What the book said before stands.
     pub fn add_bounds(&mut self, solved: &Solved) -> Result<Added, AddError>
         ensures asked { OnOk result (IsAskable self.old solved.now) }
         ensures added { IfOk result (λ done. AreAdded self.old self.new solved.now done) }
         ensures refused { IfErr result (λ why. AreRefused self.old solved.now why) }
         ensures unchanged { OnErr result (self.new ≡ self.old) }
+        ensures kept { Keeps self.old self.new }
+        ensures book { IsTrueBook self.new }
     {
         if !agree(solved.scoring, self.scoring) {
             return Err(AddError::Scoring);

@@ -302,14 +302,7 @@ fn answers_are_added_and_found(rt: HostRuntime) -> Result<(), Fail> {
         add(&mut book, A, Scoring::Discs),
         Some(Err(AddError::Scoring))
     );
-    let done = add(&mut book, C, Scoring::Winner);
-    if done == Some(Err(AddError::Memory)) {
-        assert_eq!(rt; book.len(), 1);
-        assert_eq!(rt; found(&book, C), None);
-        assert!(rt; is_written(&book, BOOK_2));
-        return Ok(());
-    }
-    assert_eq!(rt; done, Some(Ok(Added::New)));
+    assert_eq!(rt; add(&mut book, C, Scoring::Winner), Some(Ok(Added::New)));
     assert_eq!(rt;
         add(&mut book, C, Scoring::Winner),
         Some(Ok(Added::Present))
@@ -327,12 +320,7 @@ fn bounds_are_kept_and_made_closer(rt: HostRuntime) -> Result<(), Fail> {
         add_bounds(&mut book, -50, -50),
         Some(Err(AddError::OneNumber))
     );
-    let done = add_bounds(&mut book, -64, -40);
-    if done == Some(Err(AddError::Memory)) {
-        assert!(rt; book.is_empty());
-        return Ok(());
-    }
-    assert_eq!(rt; done, Some(Ok(Added::New)));
+    assert_eq!(rt; add_bounds(&mut book, -64, -40), Some(Ok(Added::New)));
     assert_eq!(rt; found(&book, A), None);
     assert_eq!(rt; bounds(&book, FIRST_IMAGE), Some((-64, -40)));
     assert_eq!(rt; bounds(&book, C), None);

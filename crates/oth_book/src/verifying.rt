@@ -17,7 +17,7 @@ use oth_search::{Interval, NoCells, search, solve_alone};
 use std::alloc::Global;
 
 /// The book of claims that are all true, or the first that isn't. Each is solved anew. The claims are given up. Memory is asked for
-/// once, before any is solved.
+/// once, before any is solved, and not where there are no claims.
 pub fn verify(alloc: Global, claims: Claims) -> Result<Book, Wrong>
     ensures same { IfOk result (λ book. book ≡ claims) }
     ensures holds { IfOk result (λ book. IsTrueBook book) }

@@ -10,6 +10,7 @@ ghost use Rattle.oth_book.specs.Order.{cells};
 ghost use Rattle.oth_book.specs.Numeral.{numeral};
 ghost use Rattle.oth_book.specs.Text.{book_text, entry_line, end_line, signed, IsBookText};
 ghost use Rattle.oth_book.specs.Contents.{written, IsText};
+ghost use Rattle.oth_book.specs.Book.{IsTrueBook};
 
 use crate::book::Book;
 use crate::claim::Claim;
@@ -30,9 +31,10 @@ const LINE_LEN: usize = 90;
 #[error("the book couldn't be written")]
 pub struct WriteFault;
 
-/// Writes the text of the book, in version 2. Where the writer fails, a beginning of the text was written.
+/// Writes the text of the book, in version 2: of a true book, since there is no other. Where the writer fails, a beginning of the text was written.
 pub fn write<W: Sink>(book: &Book, writer: &mut W) -> Result<(), WriteFault>
     requires { W.failed writer.old ≡ false }
+    ensures book { IsTrueBook book.now }
     ensures text { IsText book.now (written book.now) }
     ensures ok { OnOk result (Appends (W.contents writer.old) (W.contents writer.new) (written book.now)) }
     ensures err { OnErr result (AppendsBeginning (W.contents writer.old) (W.contents writer.new) (written book.now)) }

@@ -1,3 +1,5 @@
 pub mod CutLemmas
 pub mod GatherLemmas
 pub mod ReplyLemmas
+pub mod AdditionLemmas
+pub mod FileLemmas

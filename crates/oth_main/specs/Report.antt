@@ -1,5 +1,6 @@
 -- The report of an input.
 --     cut input      the lines that a byte 10 ends, without it, and the rest after the last byte 10
+--     lines_of input      these lines, and the rest unless it is empty
 --     ended_report reply input      what is written for the lines that a byte 10 ends: for each its reply, and byte 10
 --     report reply input      the same for all lines, where a rest that is not empty counts as a line
 use Rattle.std.specs.Prelude.{ℕ, ◌==◌, if◌then◌else◌, List, [], ◌∷◌, ◌++◌}
@@ -21,6 +22,14 @@ after_end c = record { lines = [] ∷ c.lines; rest = c.rest }
 unfoldable pub cut : List ℕ → Cut
 cut [] = record { lines = []; rest = [] }
 cut (b ∷ bs) = if b == 10 then after_end (cut bs) else onto_first b (cut bs).lines (cut bs).rest
+
+-- what no byte 10 ends counts as a line unless it is empty
+abbrev pub last_line : List ℕ → List (List ℕ)
+last_line [] = []
+last_line (b ∷ bs) = (b ∷ bs) ∷ []
+
+abbrev pub lines_of : List ℕ → List (List ℕ)
+lines_of input = (cut input).lines ++ last_line (cut input).rest
 
 module _ (reply : List ℕ → List ℕ) where
   abbrev pub with_end : List ℕ → List ℕ

@@ -1,7 +1,17 @@
 //! The commands of the book.
 
-ghost use Rattle.std.specs.Prelude.{◌≡◌, ◌↔◌, ◌⊎◌, false, true, IfErr, OnErr, OnOk};
-ghost use Rattle.oth_main.specs.BookFile.{IsAdded, IsBook, IsRefusedLine, IsVerdict, StopsBy, WritesBook};
+ghost use Rattle.std.specs.Prelude.{◌≡◌, ◌↔◌, ◌≤◌, ◌⊎◌, ◌++◌, ◌∷◌, [], ℕ, List, false, true, IfErr, IfOk, OnErr, OnOk};
+ghost use Rattle.std.specs.Io.KnownBytes.{Appends, IsAtEnd};
+ghost use Rattle.oth_rules.specs.Position.{empty_count};
+ghost use Rattle.oth_rules.specs.Symmetry.{canonical};
+ghost use Rattle.oth_text.specs.BoardLine.{KeepsLine, solvable_reading};
+ghost use Rattle.oth_book.specs.Add.{HasNoRoom, IsAbsent, Keeps};
+ghost use Rattle.oth_book.specs.Book.{HasExact, IsTrueBook};
+ghost use Rattle.oth_book.specs.Contents.{Contents, IsText, written};
+ghost use Rattle.oth_book.specs.declared.add.AddError.{AddError as AnyRefusal};
+ghost use Rattle.oth_main.specs.Addition.{AddsLines, AddsTo, AnswersLine, DeviceFails, FindsNoRoom, HasAdded, HasNoPlace, IsAdding, IsAnswered, IsFullFor, IsRefusedLine, IsStatus, OfInput, StopsBy, StopsFull, StopsReading};
+ghost use Rattle.oth_main.specs.BookFile.{IsRefused, IsVerdict};
+ghost use Rattle.oth_main.specs.Report.{cut, lines_of};
 ghost use Rattle.oth_main.specs.Run.{AreLawful, status_of};
 ghost use Rattle.oth_main.specs.declared.book_commands.Stop.TheVariants.{Run};
 ghost use Rattle.oth_main.specs.declared.fault.RunFault.TheVariants.{Write};
@@ -42,7 +52,7 @@ pub fn book_verify<W: Sink, E: Sink>(
     errors: &mut E,
 ) -> u8
     ensures verdict { IsVerdict file.now result (W.failed writer.new) }
-    ensures works { result ≡ 0 → W.failed writer.new ≡ false }
+    ensures works { result ≡ 0 → (W.failed writer.new ≡ false) × (W.flushed writer.new ≡ true) }
 {
     match open_book(alloc, file) {
         Ok(book) => {
@@ -74,10 +84,15 @@ pub fn book_add<T: Wait + Threads + Sync, R: Source, W: Sink, E: Sink>(
     settings: &Settings,
 ) -> u8
     ensures lawful { result ≡ 2 ↔ (AreLawful settings.now → ⊥) }
-    ensures untouched { result ≡ 2 → writer.new ≡ writer.old }
-    ensures added { (result ≡ 2) ⊎ IsAdded result (R.failed reader.new) (W.failed writer.new)
-        (IsBook file.now × WritesBook (W.contents writer.old) (W.contents writer.new)) (writer.new ≡ writer.old) }
-    ensures works { result ≡ 0 → W.failed writer.new ≡ false }
+    ensures untouched { result ≡ 2 → (reader.new ≡ reader.old) × (writer.new ≡ writer.old) }
+    ensures added { result ≡ 0 → AddsTo file.now (R.remaining reader.old) (R.remaining reader.new)
+        (W.contents writer.old) (W.contents writer.new) }
+    ensures works { result ≡ 0 → (R.failed reader.new ≡ R.failed reader.old)
+        × (W.failed writer.new ≡ false) × (W.flushed writer.new ≡ true) }
+    ensures devices { result ≡ 1 → DeviceFails (R.failed reader.new) (W.failed writer.new) (writer.new ≡ writer.old) }
+    ensures refused { result ≡ 3 → (writer.new ≡ writer.old)
+        × (IsRefused file.now ⊎ IsFullFor file.now (R.remaining reader.old) (R.remaining reader.new)) }
+    ensures statuses { result ≤ 3 }
 {
     if let Err(fault) = check_settings(settings) {
         return print_run_fault(fault, errors);
@@ -114,10 +129,14 @@ fn add_lines<T: Wait + Threads + Sync, R: Source, W: Sink, E: Sink>(
     errors: &mut E,
     settings: &Settings,
 ) -> u8
-    requires { AreLawful settings.now }
-    ensures added { IsAdded result (R.failed reader.new) (W.failed writer.new)
-        (WritesBook (W.contents writer.old) (W.contents writer.new)) (writer.new ≡ writer.old) }
-    ensures works { result ≡ 0 → W.failed writer.new ≡ false }
+    requires lawful { AreLawful settings.now }
+    requires holds { IsTrueBook book }
+    ensures status { IsStatus result
+        (AddsLines book (R.remaining reader.old) (R.remaining reader.new) (W.contents writer.old) (W.contents writer.new))
+        (DeviceFails (R.failed reader.new) (W.failed writer.new) (writer.new ≡ writer.old))
+        ((writer.new ≡ writer.old) × StopsFull book (R.remaining reader.old) (R.remaining reader.new)) }
+    ensures works { result ≡ 0 → (R.failed reader.new ≡ R.failed reader.old)
+        × (W.failed writer.new ≡ false) × (W.flushed writer.new ≡ true) }
 {
     let mut addition = Addition {
         book,
@@ -157,10 +176,39 @@ impl Addition {
         errors: &mut E,
         settings: &Settings,
     ) -> Result<(), Stop>
-        requires { AreLawful settings.now }
-        ensures ok { OnOk result (WritesBook (W.contents writer.old) (W.contents writer.new)) }
-        ensures works { OnOk result (W.failed writer.new ≡ false) }
-        ensures err { IfErr result (λ stop. StopsBy stop (R.failed reader.new) (W.failed writer.new) (writer.new ≡ writer.old)) }
+        requires lawful { AreLawful settings.now }
+        requires line { KeepsLine self.old.line [] }
+        requires holds { IsTrueBook self.old.book }
+        ensures ok { OnOk result (AddsLines self.old.book (R.remaining reader.old) (R.remaining reader.new)
+            (W.contents writer.old) (W.contents writer.new)) }
+        ensures works { OnOk result ((R.failed reader.new ≡ R.failed reader.old)
+            × (W.failed writer.new ≡ false) × (W.flushed writer.new ≡ true)) }
+        ensures err { IfErr result (λ stop. StopsBy stop (R.failed reader.new) (W.failed writer.new) (writer.new ≡ writer.old)
+            (StopsFull self.old.book (R.remaining reader.old) (R.remaining reader.new))) }
+    {
+        self.read_lines(rt, alloc, reader, errors, settings)?;
+        self.end_last(rt, alloc, errors, settings)?;
+        self.write_to(writer)
+    }
+
+    // Adds the lines that byte 10 ends, up to the end of input.
+    fn read_lines<T: Wait + Threads + Sync, R: Source, E: Sink>(
+        &mut self,
+        rt: &T,
+        alloc: Global,
+        reader: &mut R,
+        errors: &mut E,
+        settings: &Settings,
+    ) -> Result<(), Stop>
+        requires lawful { AreLawful settings.now }
+        requires line { KeepsLine self.old.line [] }
+        requires holds { IsTrueBook self.old.book }
+        ensures ok { OnOk result (OfInput (R.remaining reader.old) (R.remaining reader.new)
+            (IsAdding self.old.book self.new.book self.new.line)) }
+        ensures at_end { OnOk result (IsAtEnd (R.remaining reader.new)) }
+        ensures works { OnOk result (R.failed reader.new ≡ R.failed reader.old) }
+        ensures err { IfErr result (λ stop. StopsReading stop (R.failed reader.new)
+            (StopsFull self.old.book (R.remaining reader.old) (R.remaining reader.new))) }
     {
         let mut buffer = [0u8; BUFFER_LEN];
         for _ in rt.forever() {
@@ -172,10 +220,7 @@ impl Addition {
             }
             self.take_bytes(rt, alloc, &buffer[..count], errors, settings)?;
         }
-        if !self.line.is_empty() {
-            self.end_line(rt, alloc, errors, settings)?;
-        }
-        self.write_to(writer)
+        Ok(())
     }
 
     // Takes further bytes of the input.
@@ -187,20 +232,64 @@ impl Addition {
         errors: &mut E,
         settings: &Settings,
     ) -> Result<(), Stop>
-        requires { AreLawful settings.now }
-        ensures { IfErr result IsRefusedLine }
+        requires lawful { AreLawful settings.now }
+        ensures ok { OnOk result ((before : Contents) (input : List ℕ) → IsAdding before self.old.book self.old.line input
+            → IsAdding before self.new.book self.new.line (input ++ bytes.now)) }
+        ensures full { OnErr result ((before : Contents) (input : List ℕ) → IsAdding before self.old.book self.old.line input
+            → FindsNoRoom before (cut (input ++ bytes.now)).lines) }
+        ensures refused { IfErr result IsRefusedLine }
     {
         for byte in bytes {
-            if *byte == b'\n' {
-                self.end_line(rt, alloc, errors, settings)?;
-            } else {
-                self.line.push(&[*byte]);
-            }
+            self.take_byte(rt, alloc, *byte, errors, settings)?;
         }
         Ok(())
     }
 
-    // Adds the answer of the line that has begun, or prints its fault, and begins a new one.
+    // Takes a further byte.
+    fn take_byte<T: Threads + Sync, E: Sink>(
+        &mut self,
+        rt: &T,
+        alloc: Global,
+        byte: u8,
+        errors: &mut E,
+        settings: &Settings,
+    ) -> Result<(), Stop>
+        requires lawful { AreLawful settings.now }
+        ensures ok { OnOk result ((before : Contents) (input : List ℕ) → IsAdding before self.old.book self.old.line input
+            → IsAdding before self.new.book self.new.line (input ++ byte ∷ [])) }
+        ensures full { OnErr result ((before : Contents) (input : List ℕ) → IsAdding before self.old.book self.old.line input
+            → FindsNoRoom before (cut (input ++ byte ∷ [])).lines) }
+        ensures refused { IfErr result IsRefusedLine }
+    {
+        if byte == b'\n' {
+            return self.end_line(rt, alloc, errors, settings);
+        }
+        self.line.push(&[byte]);
+        Ok(())
+    }
+
+    // Adds the last line, unless it is empty.
+    fn end_last<T: Threads + Sync, E: Sink>(
+        &mut self,
+        rt: &T,
+        alloc: Global,
+        errors: &mut E,
+        settings: &Settings,
+    ) -> Result<(), Stop>
+        requires lawful { AreLawful settings.now }
+        ensures ok { OnOk result ((before : Contents) (input : List ℕ) → IsAdding before self.old.book self.old.line input
+            → HasAdded before self.new.book input) }
+        ensures full { OnErr result ((before : Contents) (input : List ℕ) → IsAdding before self.old.book self.old.line input
+            → FindsNoRoom before (lines_of input)) }
+        ensures refused { IfErr result IsRefusedLine }
+    {
+        if self.line.is_empty() {
+            return Ok(());
+        }
+        self.end_line(rt, alloc, errors, settings)
+    }
+
+    // Ends the line that has begun, and begins a new one.
     fn end_line<T: Threads + Sync, E: Sink>(
         &mut self,
         rt: &T,
@@ -208,20 +297,46 @@ impl Addition {
         errors: &mut E,
         settings: &Settings,
     ) -> Result<(), Stop>
-        requires { AreLawful settings.now }
-        ensures { IfErr result IsRefusedLine }
+        requires lawful { AreLawful settings.now }
+        ensures ok { OnOk result ((before : Contents) (input : List ℕ) → IsAdding before self.old.book self.old.line input
+            → IsAdding before self.new.book self.new.line (input ++ 10 ∷ [])) }
+        ensures full { OnErr result ((before : Contents) (input : List ℕ) → IsAdding before self.old.book self.old.line input
+            → FindsNoRoom before (cut (input ++ 10 ∷ [])).lines) }
+        ensures refused { IfErr result IsRefusedLine }
     {
-        match self.answer(rt, alloc, settings) {
-            Ok(answer) => self.add(&answer)?,
-            Err(fault) => Message::of(b"line ")
-                .number(self.number)
-                .text(b": ")
-                .text(fault_line(&fault).as_slice())
-                .print(errors),
-        }
+        self.add_line(rt, alloc, errors, settings)?;
         self.line.clear();
         self.number = self.number.saturating_add(1);
         Ok(())
+    }
+
+    // Adds the answer of the line that has begun, or prints its fault.
+    fn add_line<T: Threads + Sync, E: Sink>(
+        &mut self,
+        rt: &T,
+        alloc: Global,
+        errors: &mut E,
+        settings: &Settings,
+    ) -> Result<(), Stop>
+        requires lawful { AreLawful settings.now }
+        ensures line { self.new.line ≡ self.old.line }
+        ensures kept { Keeps self.old.book self.new.book }
+        ensures holds { IsTrueBook self.old.book → IsTrueBook self.new.book }
+        ensures answered { OnOk result ((line : List ℕ) → KeepsLine self.old.line line → IsAnswered self.new.book line) }
+        ensures full { OnErr result ((line : List ℕ) → KeepsLine self.old.line line → HasNoPlace self.old.book line) }
+        ensures refused { IfErr result IsRefusedLine }
+    {
+        match self.answer(rt, alloc, settings) {
+            Ok(answer) => self.add(&answer),
+            Err(fault) => {
+                Message::of(b"line ")
+                    .number(self.number)
+                    .text(b": ")
+                    .text(fault_line(&fault).as_slice())
+                    .print(errors);
+                Ok(())
+            }
+        }
     }
 
     // The answer of the line that has begun, by the book's scoring.
@@ -231,7 +346,10 @@ impl Addition {
         alloc: Global,
         settings: &Settings,
     ) -> Result<Answer, LineFault>
-        requires { AreLawful settings.now }
+        requires lawful { AreLawful settings.now }
+        ensures answers { (line : List ℕ) → KeepsLine self.now.line line → AnswersLine (solvable_reading line) result }
+        ensures scoring { IfOk result (λ a. a.scoring ≡ self.now.book.scoring) }
+        ensures few { IfOk result (λ a. empty_count a.board ≤ 30) }
     {
         let position = self.line.read()?;
         let by_book = Settings {
@@ -251,11 +369,16 @@ impl Addition {
     }
 
     fn add(&mut self, answer: &Answer) -> Result<(), Stop>
-        ensures { IfErr result IsRefusedLine }
+        requires scoring { answer.now.scoring ≡ self.old.book.scoring }
+        requires few { empty_count answer.now.board ≤ 30 }
+        ensures line { self.new.line ≡ self.old.line }
+        ensures kept { Keeps self.old.book self.new.book }
+        ensures holds { IsTrueBook self.new.book }
+        ensures there { OnOk result (HasExact self.new.book.entries (canonical answer.now.board)) }
+        ensures full { OnErr result (IsAbsent self.old.book answer.now.board
+            × ((why : AnyRefusal) × HasNoRoom self.old.book.entries why)) }
+        ensures refused { IfErr result IsRefusedLine }
     {
-        if answer.board.empties() > 30 {
-            return Err(Stop::Refused(self.number, AddError::Empties));
-        }
         match self.book.add(answer) {
             Ok(_) => Ok(()),
             Err(error) => Err(Stop::Refused(self.number, error)),
@@ -264,8 +387,9 @@ impl Addition {
 
     // Writes the book. A writer that failed before is not called.
     fn write_to<W: Sink>(&self, writer: &mut W) -> Result<(), Stop>
-        ensures ok { OnOk result (WritesBook (W.contents writer.old) (W.contents writer.new)) }
-        ensures works { OnOk result (W.failed writer.new ≡ false) }
+        ensures text { OnOk result (IsText self.now.book (written self.now.book)) }
+        ensures ok { OnOk result (Appends (W.contents writer.old) (W.contents writer.new) (written self.now.book)) }
+        ensures works { OnOk result ((W.failed writer.new ≡ false) × (W.flushed writer.new ≡ true)) }
         ensures err { IfErr result (λ stop. stop ≡ Run Write) }
         ensures fails { OnErr result (W.failed writer.new ≡ true) }
     {

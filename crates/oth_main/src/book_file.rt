@@ -3,7 +3,7 @@
 ghost use Rattle.std.specs.Prelude.{IfOk, IfErr};
 ghost use Rattle.oth_book.specs.Book.{IsTrueBook};
 ghost use Rattle.oth_book.specs.Contents.{IsText};
-ghost use Rattle.oth_main.specs.BookFile.{IsRefusal};
+ghost use Rattle.oth_main.specs.BookFile.{IsBook, IsForMemory, IsRefusal};
 
 use crate::message::Message;
 use oth_book::{Book, BookFault, Wrong, read_claims, verify};
@@ -25,11 +25,12 @@ pub enum BookRefusal {
     Claim(Wrong),
 }
 
-/// The book of a file's bytes, each entry solved anew.
+/// The book of a file's bytes, each entry solved anew. The text of a true book is refused for want of memory alone.
 pub fn open_book(alloc: Global, file: &[u8]) -> Result<Book, BookRefusal>
     ensures text { IfOk result (λ book. IsText book file.now) }
     ensures holds { IfOk result (λ book. IsTrueBook book) }
     ensures refused { IfErr result (λ why. IsRefusal file.now why) }
+    ensures memory { IfErr result (λ why. IsBook file.now → IsForMemory why) }
 {
     let claims = match read_claims(alloc, file) {
         Ok(claims) => claims,

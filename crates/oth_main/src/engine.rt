@@ -200,6 +200,7 @@ impl Engine {
         requires lawful { AreLawful settings.now }
         ensures ok { OnOk result (Ends (last_report (reply settings.now)) settings.now self.old
             (W.contents writer.old) (W.contents writer.new)) }
+        ensures flushed { OnOk result (W.flushed writer.new ≡ true) }
         ensures err { OnErr result (StopsInside (last_report (reply settings.now)) settings.now self.old
             (W.contents writer.old) (W.contents writer.new)) }
         ensures works { OnOk result (W.failed writer.new ≡ W.failed writer.old) }

@@ -1,6 +1,6 @@
 //! A run over an input.
 
-ghost use Rattle.std.specs.Prelude.{◌≡◌, ◌↔◌, IsTrue, ℕ, List, [], false, OnOk};
+ghost use Rattle.std.specs.Prelude.{◌≡◌, ◌↔◌, IsTrue, ℕ, List, [], false, true, OnOk};
 ghost use Rattle.std.specs.Io.KnownBytes.{Appends, Consumes, IsAtEnd};
 ghost use Rattle.oth_main.specs.Reply.{reply};
 ghost use Rattle.oth_main.specs.Run.{AreCells, AreLawful, AreWorkers, FailsBy, IsPastTests, OnRefusal, RefusesBy, Writes};
@@ -19,7 +19,7 @@ use std::thread::Threads;
 /// Reads lines from the reader until its end, and writes the report of them: for each line by itself its reply and byte
 /// 10. Byte 10 ends a line, and a last line without it counts if it isn't empty.
 ///
-/// The numbers of workers and of cells are tested first, in this order, and where one is refused nothing is read or
+/// At `Ok` the writer was flushed behind the last byte. The numbers of workers and of cells are tested first, in this order, and where one is refused nothing is read or
 /// written. The reader's fault leaves the report of the lines that byte 10 had ended; the writer's fault, in a write or
 /// the flush at the end, leaves a beginning of the report. After a fault no device is called again. The run returns only
 /// if the input ends or a device fails.
@@ -41,6 +41,7 @@ pub fn run<T: Wait + Threads + Sync, R: Source, W: Sink, G: Gate>(
         × Appends (W.contents writer.old) (W.contents writer.new) written
         × Writes (reply settings.now) result input written }
     ensures end { OnOk result (IsAtEnd (R.remaining reader.new)) }
+    ensures flushed { OnOk result (W.flushed writer.new ≡ true) }
     ensures devices { FailsBy result (R.failed reader.new) (W.failed writer.new) }
     ensures refused { RefusesBy settings.now.workers settings.now.cells result }
     ensures untouched { OnRefusal result ((reader.new ≡ reader.old) × (writer.new ≡ writer.old)) }
@@ -96,6 +97,7 @@ fn run_lines<T: Wait + Threads + Sync, R: Source, W: Sink, G: Gate>(
         × Appends (W.contents writer.old) (W.contents writer.new) written
         × Writes (reply settings.now) result input written }
     ensures end { OnOk result (IsAtEnd (R.remaining reader.new)) }
+    ensures flushed { OnOk result (W.flushed writer.new ≡ true) }
     ensures devices { FailsBy result (R.failed reader.new) (W.failed writer.new) }
     ensures past_tests { IsPastTests result }
 {

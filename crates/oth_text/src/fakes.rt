@@ -86,6 +86,7 @@ pub struct ByteSink<const CAPACITY: usize> {
     taken: ArrayVec<u8, CAPACITY>,
     until_failure: usize,
     failed: bool,
+    flushed: bool,
     calls: u64,
 }
 
@@ -99,6 +100,7 @@ impl<const CAPACITY: usize> ByteSink<CAPACITY> {
             taken: ArrayVec::new(),
             until_failure,
             failed: false,
+            flushed: false,
             calls: 0,
         }
     }
@@ -108,6 +110,13 @@ impl<const CAPACITY: usize> ByteSink<CAPACITY> {
         ensures { ⟦<ByteSink<CAPACITY> as Sink>⟧.contents self.now ≡ Some result.now }
     {
         self.taken.as_slice()
+    }
+
+    /// Whether it was flushed, and took no byte since.
+    pub fn is_flushed(&self) -> bool
+        ensures { result ≡ ⟦<ByteSink<CAPACITY> as Sink>⟧.flushed self.now }
+    {
+        self.flushed
     }
 
     /// How often it was written to or flushed.
@@ -121,6 +130,8 @@ impl<const CAPACITY: usize> Sink for ByteSink<CAPACITY> {
 
     ghost failed = { λ s. s.failed };
 
+    ghost flushed = { λ s. s.flushed };
+
     fn write(&mut self, buffer: &[u8]) -> Result<usize, Failed> {
         self.calls = self.calls.saturating_add(1);
         let [first, ..] = buffer else {
@@ -131,12 +142,14 @@ impl<const CAPACITY: usize> Sink for ByteSink<CAPACITY> {
             return Err(Failed);
         }
         self.taken.push(*first);
+        self.flushed = false;
         self.until_failure -= 1;
         Ok(1)
     }
 
     fn flush(&mut self) -> Result<(), Failed> {
         self.calls = self.calls.saturating_add(1);
+        self.flushed = true;
         Ok(())
     }
 

@@ -204,10 +204,11 @@ fn devices_that_fail(rt: HostRuntime) {
     assert!(rt; source.failed());
     assert!(rt; source.calls() == 3);
     let mut sink = ByteSink::<8>::new(2);
+    assert!(rt; sink.flush() == Ok(()) && sink.is_flushed());
     assert!(rt; write_all(&mut sink, b"abc") == Err(Failed));
-    assert!(rt; sink.taken() == b"ab".as_slice());
+    assert!(rt; sink.taken() == b"ab".as_slice() && !sink.is_flushed());
     assert!(rt; sink.failed());
-    assert!(rt; sink.calls() == 3);
+    assert!(rt; sink.calls() == 4);
 }
 
 #[test]

@@ -1,15 +1,18 @@
 -- What a subcommand and its matches stand for.
-use Rattle.std.proofs.Common.{[], ◌≡◌, ◌∙◌, ℕ, List, Option, Some, None, true, refl, sym, ap, codes, subst, slice_index, arith, is_some, true≢false}
+use Rattle.std.proofs.Common.{[], ◌≡◌, ◌∙◌, ℕ, List, Option, Some, None, true, refl, sym, ap, codes, subst, slice_index, arith, is_some, true≢false, inl}
 use Rattle.std.specs.Prelude.{option_map, unwrap_or}
 use Rattle.std.specs.Borrow.{Bor}
 use Rattle.oth_rules.specs.declared.scoring.Scoring.{Scoring}
 use Rattle.oth_rules.specs.declared.scoring.Scoring.TheVariants.{Winner, Discs}
+use Rattle.clap.specs.declared.error.Error.{Error}
+use Rattle.clap.specs.Kinds.{HasKind}
+use Rattle.clap.specs.declared.error.kind.ErrorKind.TheVariants.{OutOfMemory}
 use Rattle.clap.specs.Walk.{first_of}
-use Rattle.clap.specs.Words.{App, HasMatchesOf, Row, Text, fault_of, is_simple_and_free, subcommand_of, subcommand_rows_of, is_simple, one_of, one_text, rows_of}
+use Rattle.clap.specs.Words.{App, HasMatchesOf, Row, Text, fault_of, is_simple_and_free, kind_of, subcommand_of, subcommand_rows_of, is_simple, one_of, one_text, rows_of}
 use Rattle.clap.proofs.WalkLemmas.{one_text-rows}
 use Rattle.clap.specs.declared.parser.matches.Found.{Found}
 use Rattle.clap.specs.declared.parser.matches.ArgMatches.{ArgMatches}
-use Rattle.oth_words.specs.CommandLine.{HasNumbers, IsNumber, Meaning, Means, MeansRun, ScoringWords, add, othsolve, run, scoring_word, verify}
+use Rattle.oth_words.specs.CommandLine.{HasNumbers, IsNumber, IsUnread, Meaning, Means, MeansRun, ScoringWords, add, othsolve, run, scoring_word, verify}
 use Rattle.oth_words.specs.declared.settings.Settings.{Settings}
 use Rattle.oth_words.specs.declared.settings.Command.{Command}
 use Rattle.oth_words.specs.declared.settings.Command.TheVariants.{Solve, Moves, Transcript}
@@ -88,3 +91,13 @@ not_scoring Discs o t first second is other = second (ap (λ x. unwrap_or x t) (
 pub no_fault : (scorings : ScoringWords) (app : App) (words : List Text) → app ≡ othsolve scorings
     → (is_simple_and_free app ≡ true → fault_of app words ≡ []) → fault_of (othsolve scorings) words ≡ []
 no_fault scorings app words is none = ap (λ (a : App). fault_of a words) (sym is) ∙ none (ap is_simple_and_free is ∙ othsolve_is_free scorings)
+
+-- a parse that fails does so for want of memory, or by an error of a fault's kind
+pub fault_kind : (scorings : ScoringWords) (app : App) (words : List Text) (e : Error) → app ≡ othsolve scorings
+    → (is_simple_and_free app ≡ true → HasKind (fault_of app words) e) → HasKind (fault_of (othsolve scorings) words) e
+fault_kind scorings app words e is fails =
+    subst (λ (a : App). HasKind (fault_of a words) e) is (fails (ap is_simple_and_free is ∙ othsolve_is_free scorings))
+
+-- memory was wanting
+pub unread : (app : App) (words : List Text) (e : Error) → kind_of e ≡ OutOfMemory → IsUnread app words e
+unread app words e wants = record { taken = λ taken. wants; faulty = λ any. inl wants }

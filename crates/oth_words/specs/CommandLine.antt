@@ -2,12 +2,13 @@
 -- `othsolve` is the command as clap sees it: its subcommands, and the rule of each of their arguments. By clap's exact meaning
 -- `takes` says whether the words are a lawful call of it, `fault_of` which fault they have, and `subcommand_of` which subcommand
 -- they name, with a row of texts for each argument, the default where none is given. `Means` says what that stands for.
-use Rattle.std.specs.Prelude.{◌≡◌, ◌≤◌, ℕ, pos, true, List, [], ◌∷◌, Option, Some, None, Result, Ok, Err, codes, option_map}
+use Rattle.std.specs.Prelude.{◌≡◌, ◌≢◌, ◌≤◌, ℕ, pos, true, List, [], ◌∷◌, Option, Some, None, Result, Ok, Err, codes, option_map}
 use Rattle.clap.specs.declared.error.Error.{Error}
 use Rattle.clap.specs.declared.error.kind.ErrorKind.TheVariants.{OutOfMemory}
 use Rattle.std.specs.Borrow.{Bor}
 use Rattle.std.specs.Str.Parse.{IsNumeral, digits_value, without_leading_plus}
 use Rattle.std.specs.String.{string_bytes}
+use Rattle.clap.specs.Kinds.{HasKind}
 use Rattle.clap.specs.Walk.{texts}
 use Rattle.clap.specs.Words.{App, Row, Rule, Text, fault_of, first_of, kind_of, new_app, new_rule, one_of, subcommand_of, takes, with_rule, with_subcommand}
 use Rattle.clap.specs.declared.builder.action.ArgAction.TheVariants.{Set}
@@ -126,8 +127,13 @@ Means (Some sub) (verify file) = (sub.0 ≡ codes "book-verify") × (first_of (c
 Means (Some sub) (add s file) = (sub.0 ≡ codes "book-add") × HasNumbers sub.1 s × (s.command ≡ Solve) × (s.scoring ≡ Winner)
     × (first_of (codes "file") sub.1 ≡ Some file)
 
--- at Ok the command finds no fault in the words and they stand for the value, and where the command takes them, want of memory is the
--- only error
+-- why the words are not read: where the command takes them, for want of memory alone; where it finds a fault in them, for that too, or
+-- by an error of that fault's kind
+pub record IsUnread (app : App) (words : List Text) (e : Error) : Type 0 where
+  pub taken : takes app words ≡ true → kind_of e ≡ OutOfMemory
+  pub faulty : fault_of app words ≢ [] → HasKind (fault_of app words) e
+
+-- at Ok the command finds no fault in the words and they stand for the value
 abbrev pub IsReading : App → List Text → Result Words Error → Type 0
 IsReading app words (Ok value) = (fault_of app words ≡ []) × Means (subcommand_of app words) (meaning_of value)
-IsReading app words (Err e) = takes app words ≡ true → kind_of e ≡ OutOfMemory
+IsReading app words (Err e) = IsUnread app words e

@@ -17,7 +17,7 @@ use std::test::Fail;
 use std::thread::Threads;
 
 // Files, and what `book_verify` writes of each on standard output and on standard error, and its status.
-const VERIFIED: [(&[u8], &[u8], &[u8], u8); 21] = [
+const VERIFIED: [(&[u8], &[u8], &[u8], u8); 24] = [
     (b"OBOOK1\nEND 000000\n", b"book ok 0\n", b"", 0),
     (b"OBOOK2 W\nEND 000000\n", b"book ok 0\n", b"", 0),
     (b"OBOOK2 D\nEND 000000\n", b"book ok 0\n", b"", 0),
@@ -102,6 +102,24 @@ const VERIFIED: [(&[u8], &[u8], &[u8], u8); 21] = [
         b"OBOOK2 W\n--OXOOO-OOOOOOOOOOOOOOOOOOOOOOOOOOOOOOOOOOOOOOOOOOOOOOOOOOOOOOOO -50 -50 0000000000000000\nEND 000001\n",
         b"",
         b"book wrong 2 at 1\n",
+        3,
+    ),
+    (
+        b"OBOOK2 W\n---------------------------------------------------------------- -64 +64 0000000000000000\nEND 000001\n",
+        b"",
+        b"book wrong 3 at 1\n",
+        3,
+    ),
+    (
+        b"OBOOK2 W\n--OXOOO-OOOOOOOOOOOOOOOOOOOOOOOOOOOOOOOOOOOOOOOOOOOOOOOOOOOOOOOO -50 -50 0000000000000080\nXXXXXXXXXXXXXXXXXXXXXXXXXXXXXXXXXXXXXXXXXXXXXXXXXXXXXXXX-OXXXXO- +62 +62 8100000000000000\nEND 000002\n",
+        b"",
+        b"book wrong 1 at 2\n",
+        3,
+    ),
+    (
+        b"OBOOK2 W\n--OXOOO-OOOOOOOOOOOOOOOOOOOOOOOOOOOOOOOOOOOOOOOOOOOOOOOOOOOOOOOO -50 -50 0000000000000080\nXXXXXXXXXXXXXXXXXXXXXXXXXXXXXXXXXXXXXXXXXXXXXXXXXXXXXXXX-OXXXXO- +65 +65 8100000000000000\nEND 000002\n",
+        b"",
+        b"book error 2 at 2\n",
         3,
     ),
 ];

@@ -102,7 +102,7 @@ fn all_is_read_and_reported(rt: HostRuntime) {
     for (asked, input, report) in walks() {
         let done = walk(&rt, &asked, input, NO_FAILURE, NO_FAILURE);
         assert!(rt; done.result == Ok(()));
-        assert!(rt; done.writer.taken() == report);
+        assert!(rt; done.writer.taken() == report && done.writer.is_flushed());
         assert!(rt; done.reads == (input.len() as u64).saturating_add(1));
         assert!(rt; done.writes == (report.len() as u64).saturating_add(1));
     }
@@ -134,6 +134,25 @@ fn a_writer_fails_after_each_byte(rt: HostRuntime) {
             assert!(rt; done.reads == reads_until(input, report, n));
             assert!(rt; done.writes == (n as u64).saturating_add(1));
         }
+    }
+}
+
+// Within the first line, at its end, within the second one and at its end.
+#[test]
+fn a_reader_fails_round_the_ends_of_two_lines(rt: HostRuntime) {
+    let asked = by_two_workers(Scoring::Winner);
+    let rows: [(usize, &[u8]); 6] = [
+        (0, b""),
+        (66, b""),
+        (67, b"error 5 60\n"),
+        (68, b"error 5 60\n"),
+        (133, b"error 5 60\n"),
+        (134, b"error 5 60\n-50 h1\n"),
+    ];
+    for (read, written) in rows {
+        let done = walk(&rt, &asked, TWO_LINES, read, NO_FAILURE);
+        assert!(rt; done.result == Err(RunFault::Read));
+        assert!(rt; done.writer.taken() == written);
     }
 }
 

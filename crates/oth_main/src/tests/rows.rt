@@ -146,7 +146,7 @@ const SOLVED_BY_DISCS: [(&[u8], &[u8]); 10] = [
 ];
 
 // Lines, and what `Moves` writes of each.
-const MOVED: [(&[u8], &[u8]); 6] = [
+const MOVED: [(&[u8], &[u8]); 8] = [
     (
         b"---------------------------OX------XO--------------------------- X\n",
         b"d3 c4 f5 e6\n",
@@ -164,6 +164,14 @@ const MOVED: [(&[u8], &[u8]); 6] = [
         b"end\n",
     ),
     (b"\n", b"error 1\n"),
+    (
+        b"--OXOOO-OOOOOOOOOOOOOOOOOOOOOOOOOOOOOOOOOOOOOOOOOOOOOOOOOOOOOOOO X-\n",
+        b"error 1\n",
+    ),
+    (
+        b"--OXOOO-OOOOOOOOOOOOOOOOOOOOOOOOOOOOOOOOOOOOOOOOOOOOOOOOOOOOOOOO X\r\n",
+        b"error 1\n",
+    ),
     (
         b"--OXOOO-OOOOOOOOOOOOOOOOOOOOOOOOOOOOOOOOOOOOOOOOOOOOOOOOOOOOOOOO x\n",
         b"error 4\n",
