@@ -1,0 +1,12 @@
+//! The rules, the solver and the texts for C programs: each export is a call of a crate below it, over numbers and
+//! plain structs. `include/othsolve.h` declares them and says what C must keep.
+#![tactic(auto)]
+
+mod answer;
+mod board;
+mod cells;
+mod position;
+mod refusal;
+mod rules;
+mod solving;
+mod texts;

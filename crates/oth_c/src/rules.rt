@@ -1,0 +1,78 @@
+//! Moves, flips and play.
+
+ghost use Rattle.std.specs.Prelude.{◌≡◌, ◌≢◌, IfOk, IfErr};
+ghost use Rattle.oth_rules.specs.Square.{word_of};
+ghost use Rattle.oth_rules.specs.Move.{after, is_flipped, is_legal};
+ghost use Rattle.oth_c.specs.Boards.{position};
+ghost use Rattle.oth_c.specs.Codes.{code_of};
+ghost use Rattle.oth_c.specs.Rules.{board_code, play_code, square_code};
+
+use crate::board::{OthBoard, square_of};
+use crate::refusal::{DONE, Refusal};
+use oth_rules::Board;
+
+/// Writes the set of the mover's legal squares. Refusal 1.
+#[unsafe(no_mangle)]
+pub extern "C" fn oth_moves(board: OthBoard, moves: &mut u64) -> u32
+    ensures code { result ≡ board_code board }
+    ensures moves { result ≡ DONE → moves.new ≡ word_of (is_legal (position board)) }
+    ensures kept { result ≢ DONE → moves.new ≡ moves.old }
+{
+    match board.board() {
+        Ok(board) => {
+            *moves = board.moves();
+            DONE
+        }
+        Err(refusal) => refusal.code(),
+    }
+}
+
+/// Writes the discs that a move to the square flips: none where the move is illegal. Refusals 1 and 2, tested in this order.
+#[unsafe(no_mangle)]
+pub extern "C" fn oth_flips(board: OthBoard, square: u8, flips: &mut u64) -> u32
+    ensures code { result ≡ square_code board square }
+    ensures flips { result ≡ DONE → flips.new ≡ word_of (is_flipped (position board) square) }
+    ensures kept { result ≢ DONE → flips.new ≡ flips.old }
+{
+    match flipped(board, square) {
+        Ok(flipped) => {
+            *flips = flipped;
+            DONE
+        }
+        Err(refusal) => refusal.code(),
+    }
+}
+
+fn flipped(board: OthBoard, square: u8) -> Result<u64, Refusal>
+    ensures ok { IfOk result (λ w. (square_code board square ≡ DONE) × (w ≡ word_of (is_flipped (position board) square))) }
+    ensures err { IfErr result (λ r. square_code board square ≡ code_of r) }
+{
+    let board = board.board()?;
+    let square = square_of(square)?;
+    Ok(board.flips(square))
+}
+
+/// Writes the board after a move to the square, as the other side sees it. Refusals 1, 2 and 3, tested in this order.
+#[unsafe(no_mangle)]
+pub extern "C" fn oth_play(board: OthBoard, square: u8, next: &mut OthBoard) -> u32
+    ensures code { result ≡ play_code board square }
+    ensures played { result ≡ DONE → position next.new ≡ after (position board) square }
+    ensures kept { result ≢ DONE → next.new ≡ next.old }
+{
+    match played(board, square) {
+        Ok(board) => {
+            *next = OthBoard::of(&board);
+            DONE
+        }
+        Err(refusal) => refusal.code(),
+    }
+}
+
+fn played(board: OthBoard, square: u8) -> Result<Board, Refusal>
+    ensures ok { IfOk result (λ b. (play_code board square ≡ DONE) × (b ≡ after (position board) square)) }
+    ensures err { IfErr result (λ r. play_code board square ≡ code_of r) }
+{
+    let board = board.board()?;
+    let square = square_of(square)?;
+    board.play(square).ok_or(Refusal::Illegal)
+}

@@ -1,0 +1,135 @@
+//! Board lines, transcripts and moves lines.
+
+ghost use Rattle.std.specs.Prelude.{◌≡◌, ◌≢◌, ◌<◌, ◌≤◌, ◌++◌, drop, length, Ok, Err, IfOk, IfErr};
+ghost use Rattle.oth_text.specs.declared.position.Position.{Position as PositionShown};
+ghost use Rattle.oth_text.specs.declared.fault.LineFault.{LineFault as FaultOfLine};
+ghost use Rattle.oth_text.specs.declared.fault.TranscriptFault.{TranscriptFault as FaultOfTranscript};
+ghost use Rattle.oth_text.specs.BoardLine.{board_line, reading};
+ghost use Rattle.oth_text.specs.Transcript.{transcript_reading};
+ghost use Rattle.oth_text.specs.Report.{moves_line_of};
+ghost use Rattle.oth_c.specs.Boards.{position};
+ghost use Rattle.oth_c.specs.Codes.{code_of};
+ghost use Rattle.oth_c.specs.Positions.{shown, words_of};
+ghost use Rattle.oth_c.specs.declared.refusal.Refusal.TheVariants as refusal;
+ghost use Rattle.oth_c.specs.Texts.{line_code, line_place, moves_line_code, print_code, transcript_code, transcript_place};
+
+use crate::board::OthBoard;
+use crate::position::OthPosition;
+use crate::refusal::{DONE, Refusal};
+use oth_text::{LineFault, TranscriptFault, moves_line, read_board, read_transcript, write_board};
+
+/// Writes the position of a board line of 66 bytes. `place` gets the place, from 1, of the byte of refusal 12, and else 0.
+/// Refusals 11 to 14: the length, a cell, byte 65, byte 66.
+#[unsafe(no_mangle)]
+pub extern "C" fn oth_read_board(text: &[u8], position: &mut OthPosition, place: &mut u8) -> u32
+    ensures code { result ≡ line_code (reading text.now) }
+    ensures place { place.new ≡ line_place (reading text.now) }
+    ensures shown { (p : PositionShown) → reading text.now ≡ Ok p → position.new ≡ words_of p }
+    ensures kept { (f : FaultOfLine) → reading text.now ≡ Err f → position.new ≡ position.old }
+{
+    *place = 0;
+    match read_board(text) {
+        Ok(read) => {
+            *position = OthPosition::of(&read);
+            DONE
+        }
+        Err(LineFault::Length) => 11,
+        Err(LineFault::BadCell(at)) => {
+            *place = at;
+            12
+        }
+        Err(LineFault::Space) => 13,
+        Err(LineFault::Mover) => 14,
+        Err(LineFault::Empties(_)) => Refusal::Empties.code(),
+    }
+}
+
+/// Writes the position that a transcript leads to. `place` gets the number, from 1, of the pair of refusals 22 to 24, and else
+/// 0. Refusals 21 to 24: an odd length, a pair that is no square, an illegal move, the game is over before the pair.
+#[unsafe(no_mangle)]
+pub extern "C" fn oth_read_transcript(
+    text: &[u8],
+    position: &mut OthPosition,
+    place: &mut u8,
+) -> u32
+    ensures code { result ≡ transcript_code (transcript_reading text.now) }
+    ensures place { place.new ≡ transcript_place (transcript_reading text.now) }
+    ensures shown { (p : PositionShown) → transcript_reading text.now ≡ Ok p → position.new ≡ words_of p }
+    ensures kept { (f : FaultOfTranscript) → transcript_reading text.now ≡ Err f → position.new ≡ position.old }
+{
+    let (code, at) = match read_transcript(text) {
+        Ok(read) => {
+            *position = OthPosition::of(&read);
+            (DONE, 0)
+        }
+        Err(TranscriptFault::OddLength) => (21, 0),
+        Err(TranscriptFault::BadPair(at)) => (22, at),
+        Err(TranscriptFault::Illegal(at)) => (23, at),
+        Err(TranscriptFault::Over(at)) => (24, at),
+    };
+    *place = at;
+    code
+}
+
+/// Prints the board line of a position, 66 bytes, into the front of a buffer. Refusals 1, 8 and 7, tested in this order.
+#[unsafe(no_mangle)]
+pub extern "C" fn oth_print_board(position: OthPosition, line: &mut [u8]) -> u32
+    ensures code { result ≡ print_code position (length line.old) }
+    ensures line { result ≡ DONE → line.new ≡ board_line (shown position) ++ drop 66 line.old }
+    ensures kept { result ≢ DONE → line.new ≡ line.old }
+{
+    match printed(position, line) {
+        Ok(()) => DONE,
+        Err(refusal) => refusal.code(),
+    }
+}
+
+fn printed(position: OthPosition, line: &mut [u8]) -> Result<(), Refusal>
+    ensures ok { IfOk result (λ u. (print_code position (length line.old) ≡ DONE) × (line.new ≡ board_line (shown position) ++ drop 66 line.old)) }
+    ensures err { IfErr result (λ r. (print_code position (length line.old) ≡ code_of r) × (line.new ≡ line.old)) }
+{
+    let position = position.position()?;
+    put(write_board(&position).as_slice(), line)
+}
+
+// Copies the text into the front of the buffer; refused where it is too short.
+fn put(text: &[u8], buffer: &mut [u8]) -> Result<(), Refusal>
+    ensures ok { IfOk result (λ u. (length text.now ≤ length buffer.old) × (buffer.new ≡ text.now ++ drop (length text.now) buffer.old)) }
+    ensures err { IfErr result (λ r. (length buffer.old < length text.now) × (r ≡ refusal.Room) × (buffer.new ≡ buffer.old)) }
+{
+    if buffer.len() < text.len() {
+        return Err(Refusal::Room);
+    }
+    buffer[..text.len()].copy_from_slice(text);
+    Ok(())
+}
+
+/// Prints a board's moves line, at most 191 bytes, into the front of a buffer, and writes its length. Refusals 1 and 7,
+/// tested in this order.
+#[unsafe(no_mangle)]
+pub extern "C" fn oth_print_moves(board: OthBoard, line: &mut [u8], written: &mut usize) -> u32
+    ensures code { result ≡ moves_line_code board (length line.old) }
+    ensures line { result ≡ DONE → line.new ≡ moves_line_of (position board) ++ drop written.new line.old }
+    ensures written { result ≡ DONE → written.new ≡ length (moves_line_of (position board)) }
+    ensures kept { result ≢ DONE → (line.new ≡ line.old) × (written.new ≡ written.old) }
+{
+    match moves_printed(board, line) {
+        Ok(count) => {
+            *written = count;
+            DONE
+        }
+        Err(refusal) => refusal.code(),
+    }
+}
+
+fn moves_printed(board: OthBoard, line: &mut [u8]) -> Result<usize, Refusal>
+    ensures ok { IfOk result (λ n. (moves_line_code board (length line.old) ≡ DONE)
+        × (n ≡ length (moves_line_of (position board)))
+        × (line.new ≡ moves_line_of (position board) ++ drop n line.old)) }
+    ensures err { IfErr result (λ r. (moves_line_code board (length line.old) ≡ code_of r) × (line.new ≡ line.old)) }
+{
+    let board = board.board()?;
+    let text = moves_line(&board);
+    put(text.as_slice(), line)?;
+    Ok(text.len())
+}

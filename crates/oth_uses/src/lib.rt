@@ -1,0 +1,16 @@
+//! Callers of the crates, as `docs/LIBRARY.md` shows them: each a file of its own, with its promise and its proof.
+#![tactic(auto)]
+
+mod book_and_workers;
+mod game;
+mod own_sink;
+mod shared_table;
+mod solved_board;
+#[cfg(test)]
+mod tests;
+
+pub use book_and_workers::{NoAnswer, solve_by_book};
+pub use game::board_after;
+pub use own_sink::{Kept, kept_report};
+pub use shared_table::solve_both;
+pub use solved_board::{Unsolved, best_moves};

@@ -1,0 +1,66 @@
+//! Each caller once, on boards whose answers are known.
+
+use crate::{Unsolved, best_moves, board_after, kept_report, solve_both, solve_by_book};
+use oth_rules::Board;
+use std::test::Fail;
+
+// Row 1 `--OXOOO-`, all other cells O: the mover X has d1.
+const A: [u64; 2] = [0x8, 0xffff_ffff_ffff_ff74];
+
+const BOOK: &[u8] =
+    b"OBOOK2 W\n--OXOOO-OOOOOOOOOOOOOOOOOOOOOOOOOOOOOOOOOOOOOOOOOOOOOOOOOOOOOOOO -50 -50 0000000000000080\nEND 000001\n";
+
+#[test]
+fn a_board_is_solved(rt: HostRuntime) {
+    let found = best_moves(A[0], A[1]).map(|answer| (answer.score, answer.best));
+    assert!(rt; found == Ok((-50, 0x80)));
+    assert!(rt; best_moves(1, 1).err() == Some(Unsolved::Overlap));
+    assert!(rt; best_moves(1, 2).err() == Some(Unsolved::Empties));
+}
+
+#[test]
+fn a_board_is_solved_by_a_book(rt: HostRuntime) {
+    let Ok(board) = Board::of(A[0], A[1]) else {
+        panic!(rt; "no board")
+    };
+    let found = solve_by_book(&rt, rt.alloc(), BOOK, &board).map(|answer| (
+        answer.score,
+        answer.best,
+    ));
+    assert!(rt; found == Ok((-50, 0x80)));
+}
+
+#[test]
+fn two_threads_solve_over_one_table(rt: HostRuntime) -> Result<(), Fail> {
+    let Ok(board) = Board::of(A[0], A[1]) else {
+        panic!(rt; "no board")
+    };
+    let Ok((first, second)) = solve_both(&rt, rt.alloc(), board, board.pass(), 64) else {
+        panic!(rt; "no table")
+    };
+    assert!(rt; first.score == -50 && second.score == 50);
+    Ok(())
+}
+
+#[test]
+fn a_report_is_kept(rt: HostRuntime) -> Result<(), Fail> {
+    let Ok(answer) = best_moves(A[0], A[1]) else {
+        panic!(rt; "no answer")
+    };
+    let Ok(text) = kept_report(rt.alloc(), &answer) else {
+        panic!(rt; "no memory")
+    };
+    assert!(rt; text.as_slice() == b"-50 h1".as_slice());
+    Ok(())
+}
+
+#[test]
+fn a_game_leads_to_its_board(rt: HostRuntime) {
+    let Ok(line) = board_after(b"f5d6") else {
+        panic!(rt; "no board")
+    };
+    assert!(rt;
+        line.as_slice()
+            == b"---------------------------OX------OXX-----O-------------------- X".as_slice()
+    );
+}

@@ -1,0 +1,19 @@
+#!/bin/sh
+# Writes libothsolve.a: the static library of crates/oth_c, once it is proved, and the allocator's three functions of the toolchain in one file.
+#     examples/c/library.sh FOLDER [CRATES]
+# FOLDER gets libothsolve.a, othsolve.h and worked.c. Then, there: cc -O2 -I. worked.c libothsolve.a -o worked
+# CRATES is the folder of the crates, the repository's own if not given.
+set -e
+top=$(cd "$(dirname "$0")/../.." && pwd)
+folder=$(cd "$1" && pwd)
+crates=$(cd "${2:-$top/crates}" && pwd)
+heap=$(dirname "$(rt doc)")/c/liblibc_c.a
+[ -f "$crates/oth_c/out/liboth_c.a" ] || (cd "$crates/oth_c" && rt lib)
+ar -M <<SCRIPT
+CREATE $folder/libothsolve.a
+ADDLIB $crates/oth_c/out/liboth_c.a
+ADDLIB $heap
+SAVE
+END
+SCRIPT
+cp "$top/include/othsolve.h" "$top/examples/c/worked.c" "$folder"

@@ -1,0 +1,230 @@
+/* Calls the C library as a program would, and prints what `othsolve` prints, so that both can be compared byte by byte.
+ *     c_calls refusals                          each refusal by its name; prints the names of those that do not come, or that write something
+ *     c_calls moves | transcript                each line of standard input
+ *     c_calls solve SCORING CELLS THREADS       so many threads at once solve all lines, with 1 MB of stack each; prints what all of them found
+ * Linked with -Wl,--wrap=malloc it refuses, in each call, the request for memory whose number the environment's REFUSED gives. */
+#include "othsolve.h"
+
+#include <pthread.h>
+#include <stdio.h>
+#include <stdlib.h>
+#include <string.h>
+
+enum { MOST_LINES = 4096, LINE = 256, MOST_THREADS = 16, STACK = 1 << 20 };
+
+void *__real_malloc(size_t);
+
+static long refused;
+static _Thread_local long asked;
+
+void *__wrap_malloc(size_t size) {
+    asked += 1;
+    return asked == refused ? NULL : __real_malloc(size);
+}
+
+static char lines[MOST_LINES][LINE];
+static int line_count;
+static uint8_t scoring;
+static uint32_t cells;
+
+static void print_squares(FILE *file, uint64_t squares) {
+    for (int square = 0; square < 64; square++) {
+        if (squares >> square & 1) {
+            fprintf(file, " %c%c", 'a' + square % 8, '1' + square / 8);
+        }
+    }
+}
+
+static int empties(oth_board board) {
+    return 64 - __builtin_popcountll(board.own | board.opp);
+}
+
+/* The line of a refusal, by the numbers of docs/FORMATS.md. */
+static void print_refusal(FILE *file, uint32_t code, uint8_t place, int count) {
+    if (code == OTH_EMPTIES) {
+        fprintf(file, "error 5 %d", count);
+    } else if (place != 0) {
+        fprintf(file, "error %u at %u", code % 10, place);
+    } else {
+        fprintf(file, "error %u", code % 10);
+    }
+}
+
+static void solve_line(FILE *file, const char *line) {
+    static const char *const words[] = {"", " pass", " end"};
+    oth_position position = {{0, 0}, 0};
+    oth_answer answer;
+    uint8_t place;
+    uint32_t code = oth_read_board((const uint8_t *)line, strlen(line), &position, &place);
+    asked = 0;
+    if (code == OTH_DONE) {
+        code = oth_solve_alone(position.board, scoring, cells, &answer);
+    }
+    if (code != OTH_DONE) {
+        print_refusal(file, code, place, empties(position.board));
+    } else {
+        fprintf(file, "%c%d%s", answer.score < 0 ? '-' : '+', abs(answer.score), words[answer.kind]);
+        print_squares(file, answer.best);
+    }
+    fputc('\n', file);
+}
+
+static void moves_line(FILE *file, const char *line) {
+    uint8_t buffer[OTH_MOVES_LINE], place;
+    size_t written;
+    oth_position position;
+    uint32_t code = oth_read_board((const uint8_t *)line, strlen(line), &position, &place);
+    if (code == OTH_DONE) {
+        code = oth_print_moves(position.board, buffer, sizeof buffer, &written);
+    }
+    if (code == OTH_DONE) {
+        fwrite(buffer, 1, written, file);
+    } else {
+        print_refusal(file, code, place, 0);
+    }
+    fputc('\n', file);
+}
+
+static void transcript_line(FILE *file, const char *line) {
+    uint8_t buffer[OTH_BOARD_LINE], place;
+    oth_position position;
+    uint32_t code = oth_read_transcript((const uint8_t *)line, strlen(line), &position, &place);
+    if (code == OTH_DONE) {
+        code = oth_print_board(position, buffer, sizeof buffer);
+    }
+    if (code == OTH_DONE) {
+        fwrite(buffer, 1, sizeof buffer, file);
+    } else {
+        print_refusal(file, code, place, 0);
+    }
+    fputc('\n', file);
+}
+
+static void each_line(FILE *file, void (*reply)(FILE *, const char *)) {
+    for (int at = 0; at < line_count; at++) {
+        reply(file, lines[at]);
+    }
+}
+
+struct report {
+    char *text;
+    size_t length;
+};
+
+static void *solve_all(void *given) {
+    struct report *report = given;
+    FILE *file = open_memstream(&report->text, &report->length);
+    each_line(file, solve_line);
+    fclose(file);
+    return NULL;
+}
+
+/* Whether all threads found the same; prints it. */
+static int solve(int threads) {
+    pthread_t started[MOST_THREADS];
+    struct report found[MOST_THREADS];
+    pthread_attr_t small;
+    int same = 1;
+    pthread_attr_init(&small);
+    pthread_attr_setstacksize(&small, STACK);
+    for (int at = 0; at < threads; at++) {
+        if (pthread_create(&started[at], &small, solve_all, &found[at]) != 0) {
+            abort();
+        }
+    }
+    for (int at = 0; at < threads; at++) {
+        pthread_join(started[at], NULL);
+        same = same && strcmp(found[at].text, found[0].text) == 0;
+    }
+    fputs(found[0].text, stdout);
+    for (int at = 0; at < threads; at++) {
+        free(found[at].text);
+    }
+    pthread_attr_destroy(&small);
+    return same;
+}
+
+static int wrong;
+
+static void want(const char *name, int holds) {
+    if (!holds) {
+        printf("%s\n", name);
+        wrong = 1;
+    }
+}
+
+static const oth_board both = {1, 1}, open_board = {0x0000000810000000, 0x0000001008000000}, full = {~(uint64_t)0, 0};
+
+static void refusals_of_rules(void) {
+    uint64_t word = 7;
+    oth_board next = {7, 7};
+    want("moves: overlap", oth_moves(both, &word) == OTH_OVERLAP && word == 7);
+    want("flips: overlap", oth_flips(both, 64, &word) == OTH_OVERLAP && word == 7);
+    want("flips: square", oth_flips(open_board, 64, &word) == OTH_SQUARE && word == 7);
+    want("play: overlap", oth_play(both, 64, &next) == OTH_OVERLAP && next.own == 7 && next.opp == 7);
+    want("play: square", oth_play(open_board, 64, &next) == OTH_SQUARE && next.own == 7 && next.opp == 7);
+    want("play: illegal", oth_play(open_board, 0, &next) == OTH_ILLEGAL && next.own == 7 && next.opp == 7);
+    want("moves", oth_moves(open_board, &word) == OTH_DONE && word == ((uint64_t)1 << 19 | 1 << 26 | (uint64_t)1 << 37 | (uint64_t)1 << 44));
+    want("flips", oth_flips(open_board, 19, &word) == OTH_DONE && word == 1 << 27);
+    want("no flips", oth_flips(open_board, 0, &word) == OTH_DONE && word == 0);
+    want("play", oth_play(open_board, 19, &next) == OTH_DONE && next.own == (uint64_t)1 << 36 && next.opp == 0x0000000818080000);
+}
+
+static int keeps(uint32_t code, uint32_t wanted, oth_answer answer) {
+    return code == wanted && answer.best == 7 && answer.score == 7 && answer.kind == 7;
+}
+
+static void refusals_of_solving(void) {
+    oth_answer answer = {7, 7, 7};
+    want("solve: overlap", keeps(oth_solve_alone(both, 2, 3, &answer), OTH_OVERLAP, answer));
+    want("solve: scoring", keeps(oth_solve_alone(open_board, 2, 3, &answer), OTH_SCORING, answer));
+    want("solve: empties", keeps(oth_solve_alone(open_board, 1, 3, &answer), OTH_EMPTIES, answer));
+    want("solve: three cells", keeps(oth_solve_alone(full, 1, 3, &answer), OTH_CELLS, answer));
+    want("solve: too many cells", keeps(oth_solve_alone(full, 1, 524288, &answer), OTH_CELLS, answer));
+    asked = 0;
+    want("solve", oth_solve_alone(full, 1, 262144, &answer) == OTH_DONE && answer.score == 64 && answer.kind == OTH_KIND_END);
+    want("solve: the table takes memory", asked > 2);
+}
+
+static void refusals_of_texts(void) {
+    uint8_t buffer[OTH_MOVES_LINE], place = 7;
+    size_t written = 7;
+    oth_position position = {open_board, OTH_BLACK}, side = {open_board, 2}, shared = {both, 2};
+    memset(buffer, 7, sizeof buffer);
+    want("print: overlap", oth_print_board(shared, buffer, 0) == OTH_OVERLAP);
+    want("print: mover", oth_print_board(side, buffer, 0) == OTH_MOVER);
+    want("print: room", oth_print_board(position, buffer, 65) == OTH_ROOM && buffer[0] == 7);
+    want("print moves: overlap", oth_print_moves(both, buffer, 0, &written) == OTH_OVERLAP && written == 7);
+    want("print moves: room", oth_print_moves(open_board, buffer, 10, &written) == OTH_ROOM && written == 7 && buffer[0] == 7);
+    want("print moves", oth_print_moves(open_board, buffer, 11, &written) == OTH_DONE && written == 11 && memcmp(buffer, "d3 c4 f5 e6\7", 12) == 0);
+    want("print", oth_print_board(position, buffer, 66) == OTH_DONE && memcmp(buffer + 26, "-OX", 3) == 0 && buffer[66] == 7);
+    want("read: length", oth_read_board(buffer, 65, &position, &place) == OTH_LINE_LENGTH && place == 0);
+    want("transcript: length", oth_read_transcript(buffer, 3, &position, &place) == OTH_GAME_LENGTH && place == 0);
+    want("transcript: empty", oth_read_transcript(buffer, 0, &position, &place) == OTH_DONE && position.board.own == open_board.own);
+}
+
+static void read_lines(void) {
+    while (line_count < MOST_LINES && fgets(lines[line_count], LINE, stdin) != NULL) {
+        lines[line_count][strcspn(lines[line_count], "\n")] = 0;
+        line_count++;
+    }
+}
+
+int main(int count, char **words) {
+    const char *command = count > 1 ? words[1] : "refusals", *number = getenv("REFUSED");
+    refused = number == NULL ? 0 : atol(number);
+    if (strcmp(command, "refusals") == 0) {
+        refusals_of_rules();
+        refusals_of_solving();
+        refusals_of_texts();
+        return wrong;
+    }
+    read_lines();
+    if (strcmp(command, "solve") == 0 && count == 5) {
+        scoring = strcmp(words[2], "discs") == 0;
+        cells = (uint32_t)strtoul(words[3], NULL, 10);
+        return !solve(atoi(words[4]));
+    }
+    each_line(stdout, strcmp(command, "moves") == 0 ? moves_line : transcript_line);
+    return 0;
+}

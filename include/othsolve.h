@@ -1,0 +1,130 @@
+/* othsolve.h: the rules of Othello, its solver and its texts, for C and C++.
+ *
+ * Squares   The number of a square is 8 * (row - 1) + column, with column a as 0: a1 is 0, h1 is 7, a8 is 56, h8 is 63.
+ *           A set of squares is a word of 64 bits: bit n is square n.
+ * Boards    A board is seen by the side to move: `own` has the mover's discs, `opp` the opponent's. Any two words that
+ *           share no bit are a board, whether or not a game reaches it. A mover with no move passes where the other side
+ *           has one: `own` and `opp` change places. Where neither side has a move the game is over.
+ * Score     What the mover gets if both sides play best, -64 to 64: its discs less the opponent's where the game is over.
+ *           By OTH_SCORING_WINNER the squares that stay empty go to the winner, by OTH_SCORING_DISCS to nobody.
+ * Answers   Each call returns OTH_DONE, which is 0, or the number of a refusal. A refused call writes nothing, but for
+ *           `place` of the two readers.
+ *
+ * Proved of each call is the contract beside it in crates/oth_c/src: what it writes is exactly what the rules over single
+ * squares say, scores and best moves are those of full minimax, and a refusal comes exactly where it is named here.
+ * Nothing checks a C program. It has to keep this:
+ *
+ * 1. A pointer leads to memory of the named type, which lives until the call returns. It is never null, also where the
+ *    length beside it is 0. A text is a pointer and the number of its bytes, which the call reads; a buffer is a pointer
+ *    and the number of its bytes, which the call may write, and which hold some value before. No text ends with a NUL.
+ * 2. What a call may write, no other pointer of that call leads to, and no other thread reads or writes meanwhile.
+ * 3. The program's malloc, realloc and free are of one allocator, which aligns as C asks. Only oth_solve_alone uses them.
+ * 4. No call is made from a signal handler, or from the forked child of a process with threads.
+ * 5. A thread that calls oth_solve_alone has 1 MB of stack. The other calls need a few kilobytes.
+ *
+ * Threads   No call starts a thread, waits, takes a lock, prints, or keeps anything for a later call. A program may call
+ *           from as many threads of its own as it likes, at the same time, each call with memory of its own.
+ * Build     cc -O2 -I. worked.c libothsolve.a -o worked             (x86-64-v2: with SSE4.2 and POPCNT; no other library)
+ */
+#ifndef OTHSOLVE_H
+#define OTHSOLVE_H
+
+#include <stddef.h>
+#include <stdint.h>
+
+#ifdef __cplusplus
+extern "C" {
+#endif
+
+/* What a call returns. */
+enum {
+    OTH_DONE = 0,
+    OTH_OVERLAP = 1, /* a square has discs of both sides */
+    OTH_SQUARE = 2,  /* the number of the square is 64 or more */
+    OTH_ILLEGAL = 3, /* the move is illegal */
+    OTH_SCORING = 4, /* the scoring is neither 0 nor 1 */
+    OTH_EMPTIES = 5, /* more than 30 squares are empty */
+    OTH_CELLS = 6,   /* the cells are neither 0 nor one of 1, 2, 4 .. 262144 */
+    OTH_ROOM = 7,    /* the buffer is too short */
+    OTH_MOVER = 8,   /* the mover is neither 0 nor 1 */
+
+    OTH_LINE_LENGTH = 11, /* a board line has 66 bytes */
+    OTH_LINE_CELL = 12,   /* byte `place`, 1 to 64, is none of 'X', 'O' and '-'; it is the leftmost such byte */
+    OTH_LINE_SPACE = 13,  /* byte 65 is no space */
+    OTH_LINE_MOVER = 14,  /* byte 66 is neither 'X' nor 'O' */
+
+    OTH_GAME_LENGTH = 21,  /* the number of bytes is odd */
+    OTH_GAME_SQUARE = 22,  /* pair `place`, counted from 1, is no letter from a to h and a digit from 1 to 8 */
+    OTH_GAME_ILLEGAL = 23, /* the move of pair `place` is illegal */
+    OTH_GAME_OVER = 24     /* the game is over before pair `place` */
+};
+
+enum { OTH_SCORING_WINNER = 0, OTH_SCORING_DISCS = 1 };
+enum { OTH_KIND_MOVE = 0, OTH_KIND_PASS = 1, OTH_KIND_END = 2 };
+enum { OTH_BLACK = 0, OTH_WHITE = 1 };
+enum { OTH_BOARD_LINE = 66, OTH_MOVES_LINE = 191 };
+
+/* The discs of the mover and of the opponent. */
+typedef struct {
+    uint64_t own;
+    uint64_t opp;
+} oth_board;
+
+/* A board and who moves: OTH_BLACK or OTH_WHITE. */
+typedef struct {
+    oth_board board;
+    uint8_t mover;
+} oth_position;
+
+/* All best moves, none where the mover passes or the game is over; the score for the mover; and what the mover does,
+ * OTH_KIND_.. */
+typedef struct {
+    uint64_t best;
+    int8_t score;
+    uint8_t kind;
+} oth_answer;
+
+/* The mover's legal squares.
+ * Refusal: OTH_OVERLAP. */
+uint32_t oth_moves(oth_board board, uint64_t *moves);
+
+/* The discs that a move to the square flips: none exactly where the move is illegal.
+ * Refusals, the first that holds: OTH_OVERLAP, OTH_SQUARE. */
+uint32_t oth_flips(oth_board board, uint8_t square, uint64_t *flips);
+
+/* The board after a move to the square, as the other side sees it.
+ * Refusals, the first that holds: OTH_OVERLAP, OTH_SQUARE, OTH_ILLEGAL. */
+uint32_t oth_play(oth_board board, uint8_t square, oth_board *next);
+
+/* The score, all best moves and the kind of a board of at most 30 empty squares, by the caller's thread alone. The call
+ * makes a table of `cells` cells of 32 bytes, and frees it: 0 for none, or 1, 2, 4 .. 262144. Where there is no memory it
+ * does without: neither the table nor want of memory changes the answer. A table pays from some 14 empty squares on. The
+ * time grows with the empty squares: about a millisecond at 10, tenths of a second at 16, seconds at 20.
+ * Refusals, the first that holds: OTH_OVERLAP, OTH_SCORING, OTH_EMPTIES, OTH_CELLS. */
+uint32_t oth_solve_alone(oth_board board, uint8_t scoring, uint32_t cells, oth_answer *answer);
+
+/* The position of a board line: 64 cells row by row from a1, each 'X' (black), 'O' (white) or '-', a space, and who moves,
+ * 'X' or 'O'. `place` gets the place of the bad cell, and else 0.
+ * Refusals, the first that holds: OTH_LINE_LENGTH, OTH_LINE_CELL, OTH_LINE_SPACE, OTH_LINE_MOVER. */
+uint32_t oth_read_board(const uint8_t *text, size_t length, oth_position *position, uint8_t *place);
+
+/* The position that moves lead to from the start of a game, as "f5d6c3"; forced passes are not written, and are put in.
+ * `place` gets the number of the faulty pair, and else 0.
+ * Refusals: OTH_GAME_LENGTH, or else of the first faulty pair the first that holds: OTH_GAME_SQUARE, OTH_GAME_OVER,
+ * OTH_GAME_ILLEGAL. */
+uint32_t oth_read_transcript(const uint8_t *text, size_t length, oth_position *position, uint8_t *place);
+
+/* Prints the board line of a position, OTH_BOARD_LINE bytes, into the front of a buffer.
+ * Refusals, the first that holds: OTH_OVERLAP, OTH_MOVER, OTH_ROOM. */
+uint32_t oth_print_board(oth_position position, uint8_t *buffer, size_t size);
+
+/* Prints the names of the legal moves, rising, with a space between them, or "pass", or "end", into the front of a buffer.
+ * `written` gets the number of bytes, at most OTH_MOVES_LINE.
+ * Refusals, the first that holds: OTH_OVERLAP, OTH_ROOM. */
+uint32_t oth_print_moves(oth_board board, uint8_t *buffer, size_t size, size_t *written);
+
+#ifdef __cplusplus
+}
+#endif
+
+#endif
