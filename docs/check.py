@@ -1,0 +1,294 @@
+#!/usr/bin/env python3
+"""Tests that what the documents name is there.
+
+    docs/check.py            tests, prints a line for each fault, and ends with `N passed, M failed`; status 1 where a test failed
+    docs/check.py --lines    first puts the file and line of each row `| `NAME` | `PATH:LINE` |` right, where NAME has moved
+
+It tests, in each document:
+- that each link leads to a file of this repository, and to a heading of it where it has one;
+- that each path of this repository stands in it, also one relative to a crate (`src/`, `specs/`, `proofs/`, `must-fail/`);
+  NAME and `*` stand for anything, and what lies in `out/` is made by `rt`;
+- that each `PATH:LINE` is the second cell of a row of a table whose first cell is a NAME that this line declares;
+- that each heading `.. N definitions` has N rows with a definition of `specs/` below it, and each other `N definitions` is one of these
+  numbers;
+- of docs/THEOREM.md: that below each such heading the calls, types and definitions name nothing in a contract, a model or a definition
+  that isn't listed there or above, and that each definition is one that is reached;
+- that the tables and the plot of the measured figures are those of bench/figures.txt (`bench/plot.py --check`).
+"""
+import pathlib
+import re
+import subprocess
+import sys
+
+ROOT = pathlib.Path(__file__).resolve().parent.parent
+FOLDERS = r"crates|docs|bench|examples|hostile|\.ci"
+ROW = re.compile(r"^\| `([^`]+)` \| `([^`:]+):(\d+)` \|")
+HEADING = re.compile(r"^(#+) (.*)$")
+COUNT = re.compile(r"\b(\d+) definitions\b")
+SPEC = re.compile(r"^ *(?:(?:unfoldable|abbrev) +(?:pub +)?|pub +(?=data|record))(?:data +|record +)?([^\s:(){}]+)")
+CODE = re.compile(r"\b(?:fn|struct|enum|trait|type|const) +(\w+)")
+WORD = re.compile(r"[^\W\d][\w'-]*")
+
+passed = 0
+faults = []
+
+
+def test(holds, fault):
+    global passed
+    if holds:
+        passed += 1
+    else:
+        faults.append(fault)
+
+
+def documents():
+    patterns = ("*.md", "docs/*.md", "crates/*/README.md", "bench/*.md", "hostile/*.md", "examples/*.md")
+    return sorted(path for pattern in patterns for path in ROOT.glob(pattern))
+
+
+def shown(path):
+    return str(path.relative_to(ROOT))
+
+
+def lines_of(path):
+    return path.read_text(encoding="utf-8").split("\n")
+
+
+def declared(path, line):
+    """The name that this line of the file declares, if there is one."""
+    match = (SPEC.match if path.suffix == ".antt" else CODE.search)(line)
+    return match.group(1) if match else None
+
+
+# ---- links and paths
+
+def slug(heading):
+    return re.sub(r"[^\w\- ]", "", heading.strip().lower()).replace(" ", "-")
+
+
+def headings(path):
+    return {slug(match.group(2)) for match in map(HEADING.match, lines_of(path)) if match}
+
+
+def test_links(document, number, line):
+    for target in re.findall(r"\]\(([^)\s]+)\)", re.sub(r"`[^`]*`", "``", line)):
+        if re.match(r"[a-z]+:", target):
+            continue
+        name, _, anchor = target.partition("#")
+        path = (document.parent / name).resolve() if name else document
+        there = path.exists() and (not anchor or anchor in headings(path))
+        test(there, f"{shown(document)}:{number}: no {target}")
+
+
+def stands(base, name):
+    pattern = re.sub(r"\b(NAME|CRATE|FILE)\b", "*", name)
+    if "*" in pattern:
+        return any(base.glob(pattern))
+    return any((base / (pattern + suffix)).exists() for suffix in ("", ".antt", ".rt"))
+
+
+def test_paths(document, number, line):
+    line = re.sub(r"\]\([^)]*\)", "]", line)
+    for match in re.finditer(rf"(?<![\w/.$-])(?:\.\./)*((?:{FOLDERS})/[\w./*-]*)", line):
+        name = match.group(1).rstrip(".")
+        if "/out/" not in name:
+            test(stands(ROOT, name), f"{shown(document)}:{number}: no {name}")
+    for name in re.findall(r"`((?:src|specs|proofs|must-fail)/[\w./*-]+)", line):
+        in_crate = document.parent.parent.name == "crates"
+        there = stands(document.parent, name) if in_crate else stands(ROOT / "crates", "*/" + name) or any(
+            stands(crate, name) for crate in (ROOT / "crates").iterdir())
+        test(there, f"{shown(document)}:{number}: no {name}")
+
+
+# ---- names with their lines
+
+def test_lines(document, number, line):
+    row = ROW.match(line)
+    for path, at in re.findall(r"`([^`:\s]+\.\w+):(\d+)`", line):
+        if not row or (path, at) != row.group(2, 3):
+            test(False, f"{shown(document)}:{number}: {path}:{at} isn't in a row with a name")
+    if row:
+        name, path = row.group(1), ROOT / row.group(2)
+        text = lines_of(path) if path.exists() else []
+        at = int(row.group(3))
+        there = at <= len(text) and declared(path, text[at - 1]) == name.split("::")[-1]
+        test(there, f"{shown(document)}:{number}: {row.group(2)}:{at} doesn't declare {name}")
+
+
+def places(name, path):
+    """Where the file declares the name, or else where another file of the same kind does."""
+    own = [path] if path.exists() else []
+    folder = "specs" if path.suffix == ".antt" else "src"
+    for group in (own, sorted(ROOT.glob(f"crates/*/{folder}/**/*{path.suffix}"))):
+        found = [(file, at) for file in group for at, line in enumerate(lines_of(file), 1) if declared(file, line) == name.split("::")[-1]]
+        if found:
+            return found
+    return []
+
+
+def correct_lines():
+    for document in documents():
+        text = lines_of(document)
+        for number, line in enumerate(text):
+            row = ROW.match(line)
+            if row:
+                old = (ROOT / row.group(2), int(row.group(3)))
+                found = places(row.group(1), old[0])
+                if found and old not in found:
+                    near = min(found, key=lambda place: (place[0] != old[0], abs(place[1] - old[1])))
+                    text[number] = line.replace(f"`{row.group(2)}:{row.group(3)}`", f"`{shown(near[0])}:{near[1]}`", 1)
+        document.write_text("\n".join(text), encoding="utf-8")
+
+
+# ---- counts
+
+def sections(document):
+    """Each heading that counts definitions: its line, its number, and the rows below it."""
+    text = lines_of(document)
+    for number, line in enumerate(text):
+        heading = HEADING.match(line)
+        count = heading and COUNT.search(heading.group(2))
+        if count:
+            end = number + 1
+            while end < len(text) and not (re.match(r"#+ ", text[end]) and len(text[end].split(" ")[0]) <= len(heading.group(1))):
+                end += 1
+            rows = [row for row in map(ROW.match, text[number:end]) if row]
+            yield number + 1, int(count.group(1)), [(row.group(1), row.group(2), int(row.group(3))) for row in rows]
+
+
+def test_counts():
+    numbers = set()
+    for document in documents():
+        for at, number, rows in sections(document):
+            numbers.add(number)
+            specs = [row for row in rows if row[1].endswith(".antt")]
+            test(len(specs) == number, f"{shown(document)}:{at}: {number} definitions, but {len(specs)} rows")
+    for document in documents():
+        for at, line in enumerate(lines_of(document), 1):
+            if not HEADING.match(line):
+                for number in COUNT.findall(line):
+                    test(int(number) in numbers, f"{shown(document)}:{at}: no list has {number} definitions")
+
+
+# ---- what the theorem's words name
+
+def imports(text):
+    """Each imported word of this repository: the file of specs or the Rust type that it stands for, and its name there."""
+    found = {}
+    for module, names in re.findall(r"use Rattle\.(oth_[\w.]+)\.\{([^}]*)\}", text):
+        for name in names.split(","):
+            original, _, local = name.strip().partition(" as ")
+            found[(local or original).strip()] = meant(module.split("."), original.strip())
+    for module, local in re.findall(r"use Rattle\.(oth_[\w.]+) as (\w+)", text):
+        found[local] = meant(module.split("."), None)
+    return found
+
+
+def meant(parts, name):
+    crate, rest = parts[0], parts[2:]
+    if rest[:1] != ["declared"]:
+        return (f"crates/{crate}/specs/{rest[0]}.antt", name)
+    rest = rest[1:rest.index("TheVariants")] if "TheVariants" in rest else rest[1:]
+    return (f"crates/{crate}/src/{'/'.join(rest[:-1])}.rt", rest[-1])
+
+
+def own_words(path):
+    if path.suffix != ".antt":
+        return {}
+    return {name: (shown(path), name) for name in (declared(path, line) for line in lines_of(path)) if name}
+
+
+def words_named(path, text):
+    known = {**imports("\n".join(lines_of(path))), **own_words(path)}
+    kept = "\n".join(line for line in text if not line.strip().startswith(("--", "//")))
+    return {known[word] for word in WORD.findall(kept) if word in known}
+
+
+def definition(path, at):
+    """The lines of the definition that begins there."""
+    text = lines_of(path)
+    end = at
+    while end < len(text) and not declared(path, text[end]):
+        end += 1
+    while text[end - 1].strip().startswith("--") or text[end - 1].strip().startswith("module "):
+        end -= 1
+    return text[at - 1:end]
+
+
+def clauses(path, at):
+    """The contract of the function that begins there."""
+    text = lines_of(path)
+    end = at
+    while not re.match(r" *\{\}?$", text[end]):
+        end += 1
+    return text[at:end]
+
+
+def model(path, name):
+    """The ghost lines of a type: of its declaration and of its `impl Model`."""
+    found = []
+    text = lines_of(path)
+    for begin in (rf"(?:pub )?(?:struct|enum) {name}\b", rf"impl(?:<[^>]*>)? Model for {name}\b"):
+        at = next((i for i, line in enumerate(text) if re.match(begin, line)), None)
+        if at is not None:
+            end = next((i for i in range(at, len(text)) if text[i].rstrip() in ("}", ");") or text[i].endswith(";") and i == at), at)
+            found += text[at:end]
+    return found
+
+
+def named_by(name, path, at):
+    file = ROOT / path
+    if file.suffix == ".antt":
+        return words_named(file, definition(file, at))
+    if re.search(r"\bfn\b", lines_of(file)[at - 1]):
+        return words_named(file, clauses(file, at))
+    return words_named(file, model(file, name))
+
+
+def test_theorem():
+    document = ROOT / "docs/THEOREM.md"
+    if not document.exists() or faults:
+        return
+    listed, reached = set(), set()
+    for at, _, rows in sections(document):
+        fresh = [row for row in rows if (row[1], row[0].split("::")[-1]) not in listed or not row[1].endswith(".antt")]
+        listed |= {(path, name.split("::")[-1]) for name, path, _ in rows}
+        for name, path, line in rows:
+            for target in sorted(named_by(name, path, line), key=str):
+                if target[1] is None or target[1] == name.split("::")[-1]:
+                    continue
+                variant = target[0].endswith(".antt") and declared_in(target) is False
+                reached.add(target)
+                test(variant or target in listed, f"{shown(document)}:{at}: {name} names {target[1]} of {target[0]}, which isn't listed")
+        for name, path, _ in fresh:
+            if path.endswith(".antt"):
+                test((path, name) in reached, f"{shown(document)}:{at}: nothing that is listed names {name} of {path}")
+
+
+def declared_in(target):
+    """Whether the file declares the name itself; a constructor or a field comes with its type."""
+    path = ROOT / target[0]
+    return any(declared(path, line) == target[1] for line in lines_of(path))
+
+
+def main():
+    if "--lines" in sys.argv[1:]:
+        correct_lines()
+    for document in documents():
+        for number, line in enumerate(lines_of(document), 1):
+            test_links(document, number, line)
+            test_paths(document, number, line)
+            test_lines(document, number, line)
+    test_counts()
+    test_theorem()
+    plot = ROOT / "bench/plot.py"
+    if plot.exists():
+        found = subprocess.run([sys.executable, plot, "--check"], stdout=subprocess.PIPE, text=True)
+        test(found.returncode == 0, found.stdout.strip())
+    for fault in faults:
+        print(fault)
+    print(f"{passed} passed, {len(faults)} failed")
+    return 1 if faults else 0
+
+
+sys.exit(main())
