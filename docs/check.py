@@ -42,7 +42,7 @@ def test(holds, fault):
 
 
 def documents():
-    patterns = ("*.md", "docs/*.md", "crates/*/README.md", "bench/*.md", "hostile/*.md", "examples/*.md")
+    patterns = ("*.md", "docs/*.md", "docs/*.1", "crates/*/README.md", "bench/*.md", "hostile/*.md", "examples/*.md")
     return sorted(path for pattern in patterns for path in ROOT.glob(pattern))
 
 
