@@ -89,8 +89,8 @@ def stands(base, name):
 
 def test_paths(document, number, line):
     line = re.sub(r"\]\([^)]*\)", "]", line)
-    for match in re.finditer(rf"(?<![\w/.$-])(?:\.\./)*((?:{FOLDERS})/[\w./*-]*)", line):
-        name = match.group(1).rstrip(".")
+    for match in re.finditer(rf"(?<![\w/.$-])(?:\.\./)*((?:{FOLDERS})/[\w./*$-]*)", line):
+        name = re.sub(r"\$\w*", "*", match.group(1).rstrip("."))
         if "/out/" not in name:
             test(stands(ROOT, name), f"{shown(document)}:{number}: no {name}")
     for name in re.findall(r"`((?:src|specs|proofs|must-fail)/[\w./*-]+)", line):
