@@ -12,17 +12,21 @@ It tests, in each document:
 - that each heading `.. N definitions` has N rows with a definition of `specs/` below it, and each other `N definitions` is one of these
   numbers;
 - of docs/THEOREM.md: that below each such heading the calls, types and definitions name nothing in a contract, a model or a definition
-  that isn't listed there or above, and that each definition is one that is reached;
-- that the tables and the plot of the measured figures are those of bench/figures.txt (`bench/plot.py --check`).
+  that isn't listed there or above, a definition nothing that stands below it, and that each definition is one that is named;
+- that the headline is word for word the same wherever it stands, and that the README has at most 120 lines;
+- that the tables and the plot of the measured figures are those of bench/figures.txt (`bench/plot.py --check`);
+- that groff, where there is one, shows the man page without a warning.
 """
+import os
 import pathlib
 import re
+import shutil
 import subprocess
 import sys
 
 ROOT = pathlib.Path(__file__).resolve().parent.parent
 FOLDERS = r"crates|docs|bench|examples|hostile|\.ci"
-ROW = re.compile(r"^\| `([^`]+)` \| `([^`:]+):(\d+)` \|")
+ROW = re.compile(r"^\| `([^`]+)` \| \[?`([^`:]+):(\d+)`(?:\]\(([^)]*)\))? \|")
 HEADING = re.compile(r"^(#+) (.*)$")
 COUNT = re.compile(r"\b(\d+) definitions\b")
 SPEC = re.compile(r"^ *(?:(?:unfoldable|abbrev) +(?:pub +)?|pub +(?=data|record))(?:data +|record +)?([^\s:(){}]+)")
@@ -76,7 +80,7 @@ def test_links(document, number, line):
             continue
         name, _, anchor = target.partition("#")
         path = (document.parent / name).resolve() if name else document
-        there = path.exists() and (not anchor or anchor in headings(path))
+        there = path.exists() and (not anchor or re.fullmatch(r"L\d+", anchor) or anchor in headings(path))
         test(there, f"{shown(document)}:{number}: no {target}")
 
 
@@ -113,6 +117,13 @@ def test_lines(document, number, line):
         at = int(row.group(3))
         there = at <= len(text) and declared(path, text[at - 1]) == name.split("::")[-1]
         test(there, f"{shown(document)}:{number}: {row.group(2)}:{at} doesn't declare {name}")
+        link = row.group(4)
+        test(not link or link == link_to(document, path, at), f"{shown(document)}:{number}: {link} isn't {row.group(2)}:{at}")
+
+
+def link_to(document, path, line):
+    """The target by which the document leads to a line of the file."""
+    return f"{os.path.relpath(path, document.parent)}#L{line}"
 
 
 def places(name, path):
@@ -136,7 +147,9 @@ def correct_lines():
                 found = places(row.group(1), old[0])
                 if found and old not in found:
                     near = min(found, key=lambda place: (place[0] != old[0], abs(place[1] - old[1])))
-                    text[number] = line.replace(f"`{row.group(2)}:{row.group(3)}`", f"`{shown(near[0])}:{near[1]}`", 1)
+                    place = f"`{shown(near[0])}:{near[1]}`"
+                    cell = f"[{place}]({link_to(document, *near)})" if row.group(4) else place
+                    text[number] = f"| `{row.group(1)}` | {cell} |{line[row.end():]}"
         document.write_text("\n".join(text), encoding="utf-8")
 
 
@@ -247,28 +260,51 @@ def named_by(name, path, at):
 
 def test_theorem():
     document = ROOT / "docs/THEOREM.md"
-    if not document.exists() or faults:
+    if faults:
         return
     listed, reached = set(), set()
     for at, _, rows in sections(document):
-        fresh = [row for row in rows if (row[1], row[0].split("::")[-1]) not in listed or not row[1].endswith(".antt")]
-        listed |= {(path, name.split("::")[-1]) for name, path, _ in rows}
-        for name, path, line in rows:
+        fresh = [(path, name.split("::")[-1], line) for name, path, line in rows]
+        fresh = [row for row in fresh if row[:2] not in listed or not row[0].endswith(".antt")]
+        whole = listed | {row[:2] for row in fresh}
+        above = listed | {row[:2] for row in fresh if not row[0].endswith(".antt")}
+        for path, name, line in fresh:
             for target in sorted(named_by(name, path, line), key=str):
-                if target[1] is None or target[1] == name.split("::")[-1]:
+                if target[1] in (None, name) or is_part(target):
                     continue
-                variant = target[0].endswith(".antt") and declared_in(target) is False
                 reached.add(target)
-                test(variant or target in listed, f"{shown(document)}:{at}: {name} names {target[1]} of {target[0]}, which isn't listed")
-        for name, path, _ in fresh:
+                where = f"{shown(document)}:{at}: {name} names {target[1]} of {target[0]}, which "
+                test(target in whole, where + "isn't listed")
+                test(not path.endswith(".antt") or target in above or target not in whole, where + "stands below it")
+            above.add((path, name))
+        listed = whole
+        for path, name, _ in fresh:
             if path.endswith(".antt"):
                 test((path, name) in reached, f"{shown(document)}:{at}: nothing that is listed names {name} of {path}")
 
 
-def declared_in(target):
-    """Whether the file declares the name itself; a constructor or a field comes with its type."""
+def is_part(target):
+    """Whether it is a constructor or a field, which comes with the type that the file declares."""
     path = ROOT / target[0]
-    return any(declared(path, line) == target[1] for line in lines_of(path))
+    return path.suffix == ".antt" and path.exists() and all(declared(path, line) != target[1] for line in lines_of(path))
+
+
+# ---- what is said more than once, and what is made
+
+def test_headline():
+    said = {line for document in documents() for line in lines_of(document) if line.startswith("**For every board")}
+    test(len(said) == 1, f"the headline is said in {len(said)} ways")
+    length = len(lines_of(ROOT / "README.md")) - 1
+    test(length <= 120, f"README.md has {length} lines")
+
+
+def test_made():
+    found = subprocess.run([sys.executable, ROOT / "bench/plot.py", "--check"], stdout=subprocess.PIPE, text=True)
+    test(found.returncode == 0, found.stdout.strip())
+    if shutil.which("groff"):
+        page = ROOT / "docs/othsolve.1"
+        found = subprocess.run(["groff", "-man", "-Tutf8", "-ww", "-z", page], stderr=subprocess.PIPE, text=True)
+        test(found.returncode == 0 and not found.stderr, f"docs/othsolve.1: {found.stderr.strip()}")
 
 
 def main():
@@ -281,10 +317,8 @@ def main():
             test_lines(document, number, line)
     test_counts()
     test_theorem()
-    plot = ROOT / "bench/plot.py"
-    if plot.exists():
-        found = subprocess.run([sys.executable, plot, "--check"], stdout=subprocess.PIPE, text=True)
-        test(found.returncode == 0, found.stdout.strip())
+    test_headline()
+    test_made()
     for fault in faults:
         print(fault)
     print(f"{passed} passed, {len(faults)} failed")
