@@ -4,9 +4,8 @@
     bench/times.py [CRATE ..]
 
 It works on a copy of the last commit in a folder of its own, lowest crate first. Of each crate, or of those that are named, `rt check`,
-`rt test` and `rt must-fail` are run in this order, and timed in seconds by the clock. What stands below a crate is checked before, so that
-only its library is built within the crate's time; where crates are named, all of that. Leave the machine alone meanwhile. The exit
-status is 1 where a run failed.
+`rt test` and `rt must-fail` are run in this order, and timed in seconds by the clock. A library is built within the time of the first
+crate that stands on it. Leave the machine alone meanwhile. The exit status is 1 where a run failed.
 """
 import pathlib
 import subprocess
