@@ -13,6 +13,7 @@ It tests, in each document:
   numbers;
 - of docs/THEOREM.md: that below each such heading the calls, types and definitions name nothing in a contract, a model or a definition
   that isn't listed there or above, a definition nothing that stands below it, and that each definition is one that is named;
+- that each board line has 64 cells;
 - that the headline is word for word the same wherever it stands, and that the README has at most 120 lines;
 - that the tables and the plot of the measured figures are those of bench/figures.txt (`bench/plot.py --check`);
 - that groff, where there is one, shows the man page without a warning.
@@ -124,6 +125,11 @@ def test_lines(document, number, line):
 def link_to(document, path, line):
     """The target by which the document leads to a line of the file."""
     return f"{os.path.relpath(path, document.parent)}#L{line}"
+
+
+def test_boards(document, number, line):
+    for cells in re.findall(r"(?<![\w-])([-XO]{32,}) [XO]\b", line.replace("\\-", "-")):
+        test(len(cells) == 64, f"{shown(document)}:{number}: a board of {len(cells)} cells")
 
 
 def places(name, path):
@@ -315,6 +321,7 @@ def main():
             test_links(document, number, line)
             test_paths(document, number, line)
             test_lines(document, number, line)
+            test_boards(document, number, line)
     test_counts()
     test_theorem()
     test_headline()
