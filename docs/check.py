@@ -8,7 +8,7 @@ It tests, in each document:
 - that each link leads to a file of this repository, and to a heading of it where it has one;
 - that each path of this repository stands in it, also one relative to a crate (`src/`, `specs/`, `proofs/`, `must-fail/`);
   NAME and `*` stand for anything, and what lies in `out/` is made by `rt`;
-- that each `PATH:LINE` is the second cell of a row of a table whose first cell is a NAME that this line declares;
+- that each `PATH:LINE` declares a name that stands beside it, and in a row `| `NAME` | `PATH:LINE` |` of a table just NAME;
 - that each heading `.. N definitions` has N rows with a definition of `specs/` below it, and each other `N definitions` is one of these
   numbers;
 - of docs/THEOREM.md: that below each such heading the calls, types and definitions name nothing in a contract, a model or a definition
@@ -108,18 +108,19 @@ def test_paths(document, number, line):
 # ---- names with their lines
 
 def test_lines(document, number, line):
-    row = ROW.match(line)
-    for path, at in re.findall(r"`([^`:\s]+\.\w+):(\d+)`", line):
-        if not row or (path, at) != row.group(2, 3):
-            test(False, f"{shown(document)}:{number}: {path}:{at} isn't in a row with a name")
-    if row:
-        name, path = row.group(1), ROOT / row.group(2)
+    names = {name.split("::")[-1] for name in re.findall(r"`([^`\s]+)`", line)}
+    for name, at in re.findall(r"`([^`:\s]+\.\w+):(\d+)`", line):
+        path = ROOT / name
         text = lines_of(path) if path.exists() else []
-        at = int(row.group(3))
-        there = at <= len(text) and declared(path, text[at - 1]) == name.split("::")[-1]
-        test(there, f"{shown(document)}:{number}: {row.group(2)}:{at} doesn't declare {name}")
-        link = row.group(4)
-        test(not link or link == link_to(document, path, at), f"{shown(document)}:{number}: {link} isn't {row.group(2)}:{at}")
+        there = int(at) <= len(text) and declared(path, text[int(at) - 1]) in names
+        test(there, f"{shown(document)}:{number}: {name}:{at} declares nothing that this line names")
+    row = ROW.match(line)
+    if row:
+        name, path, at, link = row.groups()
+        text = lines_of(ROOT / path) if (ROOT / path).exists() else []
+        there = int(at) <= len(text) and declared(ROOT / path, text[int(at) - 1]) == name.split("::")[-1]
+        test(there, f"{shown(document)}:{number}: {path}:{at} doesn't declare {name}")
+        test(not link or link == link_to(document, ROOT / path, at), f"{shown(document)}:{number}: {link} isn't {path}:{at}")
 
 
 def link_to(document, path, line):
