@@ -3,10 +3,10 @@
 
     bench/compare.py OURS OTHER BOARDS [RUNS]
 
-OURS and OTHER are commands that read board lines and write a report line for each, as `'target/othsolve solve --cells 0'` and
-`'/path/to/oracle-v2 solve'`. They are run in turn, RUNS times each (3 if not given); the times are the least of the
-runs, since a shared machine is noisy: seconds by the clock, and in brackets seconds of all processors. The exit status is 1
-where an answer differs, with the first few lines that do.
+OURS and OTHER are commands that read board lines and write a report line for each, as
+`'crates/othsolve/out/othsolve solve --cells 0'` and `'/path/to/another/solver solve'`, which may be a copy of this program from before.
+They are run in turn, RUNS times each (3 if not given); the times are the least of the runs, since a shared machine is noisy: seconds by
+the clock, and in brackets seconds of all processors. The exit status is 1 where an answer differs, with the first few lines that do.
 """
 import resource
 import shlex

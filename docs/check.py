@@ -1,0 +1,336 @@
+#!/usr/bin/env python3
+"""Tests that what the documents name is there.
+
+    docs/check.py            tests, prints a line for each fault, and ends with `N passed, M failed`; status 1 where a test failed
+    docs/check.py --lines    first puts the file and line of each row `| `NAME` | `PATH:LINE` |` right, where NAME has moved
+
+It tests, in each document:
+- that each link leads to a file of this repository, and to a heading of it where it has one;
+- that each path of this repository stands in it, also one relative to a crate (`src/`, `specs/`, `proofs/`, `must-fail/`);
+  NAME and `*` stand for anything, and what lies in `out/` is made by `rt`;
+- that each `PATH:LINE` declares a name that stands beside it, and in a row `| `NAME` | `PATH:LINE` |` of a table just NAME;
+- that each heading `.. N definitions` has N rows with a definition of `specs/` below it, and each other `N definitions` is one of these
+  numbers;
+- of docs/THEOREM.md: that below each such heading the calls, types and definitions name nothing in a contract, a model or a definition
+  that isn't listed there or above, a definition nothing that stands below it, and that each definition is one that is named;
+- that each board line has 64 cells;
+- that the headline is word for word the same wherever it stands, and that the README has at most 120 lines;
+- that the tables and the plot of the measured figures are those of bench/figures.txt (`bench/plot.py --check`);
+- that groff, where there is one, shows the man page without a warning.
+"""
+import os
+import pathlib
+import re
+import shutil
+import subprocess
+import sys
+
+ROOT = pathlib.Path(__file__).resolve().parent.parent
+FOLDERS = r"crates|docs|bench|examples|hostile|\.ci"
+ROW = re.compile(r"^\| `([^`]+)` \| \[?`([^`:]+):(\d+)`(?:\]\(([^)]*)\))? \|")
+HEADING = re.compile(r"^(#+) (.*)$")
+COUNT = re.compile(r"\b(\d+) definitions\b")
+SPEC = re.compile(r"^ *(?:(?:unfoldable|abbrev) +(?:pub +)?|pub +(?=data|record))(?:data +|record +)?([^\s:(){}]+)")
+CODE = re.compile(r"\b(?:fn|struct|enum|trait|type|const) +(\w+)")
+WORD = re.compile(r"[^\W\d][\w'-]*")
+
+passed = 0
+faults = []
+
+
+def test(holds, fault):
+    global passed
+    if holds:
+        passed += 1
+    else:
+        faults.append(fault)
+
+
+def documents():
+    patterns = ("*.md", "docs/*.md", "docs/*.1", "crates/*/README.md", "bench/*.md", "hostile/*.md", "examples/*.md")
+    return sorted(path for pattern in patterns for path in ROOT.glob(pattern))
+
+
+def shown(path):
+    return str(path.relative_to(ROOT))
+
+
+def lines_of(path):
+    return path.read_text(encoding="utf-8").split("\n")
+
+
+def declared(path, line):
+    """The name that this line of the file declares, if there is one."""
+    match = (SPEC.match if path.suffix == ".antt" else CODE.search)(line)
+    return match.group(1) if match else None
+
+
+# ---- links and paths
+
+def slug(heading):
+    return re.sub(r"[^\w\- ]", "", heading.strip().lower()).replace(" ", "-")
+
+
+def headings(path):
+    return {slug(match.group(2)) for match in map(HEADING.match, lines_of(path)) if match}
+
+
+def test_links(document, number, line):
+    for target in re.findall(r"\]\(([^)\s]+)\)", re.sub(r"`[^`]*`", "``", line)):
+        if re.match(r"[a-z]+:", target):
+            continue
+        name, _, anchor = target.partition("#")
+        path = (document.parent / name).resolve() if name else document
+        there = path.exists() and (not anchor or re.fullmatch(r"L\d+", anchor) or anchor in headings(path))
+        test(there, f"{shown(document)}:{number}: no {target}")
+
+
+def stands(base, name):
+    pattern = re.sub(r"\b(NAME|CRATE|FILE)\b", "*", name)
+    if "*" in pattern:
+        return any(base.glob(pattern))
+    return any((base / (pattern + suffix)).exists() for suffix in ("", ".antt", ".rt"))
+
+
+def test_paths(document, number, line):
+    line = re.sub(r"\]\([^)]*\)", "]", line)
+    for match in re.finditer(rf"(?<![\w/.$-])(?:\.\./)*((?:{FOLDERS})/[\w./*$-]*)", line):
+        name = re.sub(r"\$\w*", "*", match.group(1).rstrip("."))
+        if "/out/" not in name:
+            test(stands(ROOT, name), f"{shown(document)}:{number}: no {name}")
+    for name in re.findall(r"`((?:src|specs|proofs|must-fail)/[\w./*-]+)", line):
+        in_crate = document.parent.parent.name == "crates"
+        there = stands(document.parent, name) if in_crate else stands(ROOT / "crates", "*/" + name) or any(
+            stands(crate, name) for crate in (ROOT / "crates").iterdir())
+        test(there, f"{shown(document)}:{number}: no {name}")
+
+
+# ---- names with their lines
+
+def test_lines(document, number, line):
+    names = {name.split("::")[-1] for name in re.findall(r"`([^`\s]+)`", line)}
+    for name, at in re.findall(r"`([^`:\s]+\.\w+):(\d+)`", line):
+        path = ROOT / name
+        text = lines_of(path) if path.exists() else []
+        there = int(at) <= len(text) and declared(path, text[int(at) - 1]) in names
+        test(there, f"{shown(document)}:{number}: {name}:{at} declares nothing that this line names")
+    row = ROW.match(line)
+    if row:
+        name, path, at, link = row.groups()
+        text = lines_of(ROOT / path) if (ROOT / path).exists() else []
+        there = int(at) <= len(text) and declared(ROOT / path, text[int(at) - 1]) == name.split("::")[-1]
+        test(there, f"{shown(document)}:{number}: {path}:{at} doesn't declare {name}")
+        test(not link or link == link_to(document, ROOT / path, at), f"{shown(document)}:{number}: {link} isn't {path}:{at}")
+
+
+def link_to(document, path, line):
+    """The target by which the document leads to a line of the file."""
+    return f"{os.path.relpath(path, document.parent)}#L{line}"
+
+
+def test_boards(document, number, line):
+    for cells in re.findall(r"(?<![\w-])([-XO]{32,}) [XO]\b", line.replace("\\-", "-")):
+        test(len(cells) == 64, f"{shown(document)}:{number}: a board of {len(cells)} cells")
+
+
+def places(name, path):
+    """Where the file declares the name, or else where another file of the same kind does."""
+    own = [path] if path.exists() else []
+    folder = "specs" if path.suffix == ".antt" else "src"
+    for group in (own, sorted(ROOT.glob(f"crates/*/{folder}/**/*{path.suffix}"))):
+        found = [(file, at) for file in group for at, line in enumerate(lines_of(file), 1) if declared(file, line) == name.split("::")[-1]]
+        if found:
+            return found
+    return []
+
+
+def correct_lines():
+    for document in documents():
+        text = lines_of(document)
+        for number, line in enumerate(text):
+            row = ROW.match(line)
+            if row:
+                old = (ROOT / row.group(2), int(row.group(3)))
+                found = places(row.group(1), old[0])
+                if found and old not in found:
+                    near = min(found, key=lambda place: (place[0] != old[0], abs(place[1] - old[1])))
+                    place = f"`{shown(near[0])}:{near[1]}`"
+                    cell = f"[{place}]({link_to(document, *near)})" if row.group(4) else place
+                    text[number] = f"| `{row.group(1)}` | {cell} |{line[row.end():]}"
+        document.write_text("\n".join(text), encoding="utf-8")
+
+
+# ---- counts
+
+def sections(document):
+    """Each heading that counts definitions: its line, its number, and the rows below it."""
+    text = lines_of(document)
+    for number, line in enumerate(text):
+        heading = HEADING.match(line)
+        count = heading and COUNT.search(heading.group(2))
+        if count:
+            end = number + 1
+            while end < len(text) and not (re.match(r"#+ ", text[end]) and len(text[end].split(" ")[0]) <= len(heading.group(1))):
+                end += 1
+            rows = [row for row in map(ROW.match, text[number:end]) if row]
+            yield number + 1, int(count.group(1)), [(row.group(1), row.group(2), int(row.group(3))) for row in rows]
+
+
+def test_counts():
+    numbers = set()
+    for document in documents():
+        for at, number, rows in sections(document):
+            numbers.add(number)
+            specs = [row for row in rows if row[1].endswith(".antt")]
+            test(len(specs) == number, f"{shown(document)}:{at}: {number} definitions, but {len(specs)} rows")
+    for document in documents():
+        for at, line in enumerate(lines_of(document), 1):
+            if not HEADING.match(line):
+                for number in COUNT.findall(line):
+                    test(int(number) in numbers, f"{shown(document)}:{at}: no list has {number} definitions")
+
+
+# ---- what the theorem's words name
+
+def imports(text):
+    """Each imported word of this repository: the file of specs or the Rust type that it stands for, and its name there."""
+    found = {}
+    for module, names in re.findall(r"use Rattle\.(oth_[\w.]+)\.\{([^}]*)\}", text):
+        for name in names.split(","):
+            original, _, local = name.strip().partition(" as ")
+            found[(local or original).strip()] = meant(module.split("."), original.strip())
+    for module, local in re.findall(r"use Rattle\.(oth_[\w.]+) as (\w+)", text):
+        found[local] = meant(module.split("."), None)
+    return found
+
+
+def meant(parts, name):
+    crate, rest = parts[0], parts[2:]
+    if rest[:1] != ["declared"]:
+        return (f"crates/{crate}/specs/{rest[0]}.antt", name)
+    rest = rest[1:rest.index("TheVariants")] if "TheVariants" in rest else rest[1:]
+    return (f"crates/{crate}/src/{'/'.join(rest[:-1])}.rt", rest[-1])
+
+
+def own_words(path):
+    if path.suffix != ".antt":
+        return {}
+    return {name: (shown(path), name) for name in (declared(path, line) for line in lines_of(path)) if name}
+
+
+def words_named(path, text):
+    known = {**imports("\n".join(lines_of(path))), **own_words(path)}
+    kept = "\n".join(line for line in text if not line.strip().startswith(("--", "//")))
+    return {known[word] for word in WORD.findall(kept) if word in known}
+
+
+def definition(path, at):
+    """The lines of the definition that begins there."""
+    text = lines_of(path)
+    end = at
+    while end < len(text) and not declared(path, text[end]):
+        end += 1
+    while text[end - 1].strip().startswith("--") or text[end - 1].strip().startswith("module "):
+        end -= 1
+    return text[at - 1:end]
+
+
+def clauses(path, at):
+    """The contract of the function that begins there."""
+    text = lines_of(path)
+    end = at
+    while not re.match(r" *\{\}?$", text[end]):
+        end += 1
+    return text[at:end]
+
+
+def model(path, name):
+    """The ghost lines of a type: of its declaration and of its `impl Model`."""
+    found = []
+    text = lines_of(path)
+    for begin in (rf"(?:pub )?(?:struct|enum) {name}\b", rf"impl(?:<[^>]*>)? Model for {name}\b"):
+        at = next((i for i, line in enumerate(text) if re.match(begin, line)), None)
+        if at is not None:
+            end = next((i for i in range(at, len(text)) if text[i].rstrip() in ("}", ");") or text[i].endswith(";") and i == at), at)
+            found += text[at:end]
+    return found
+
+
+def named_by(name, path, at):
+    file = ROOT / path
+    if file.suffix == ".antt":
+        return words_named(file, definition(file, at))
+    if re.search(r"\bfn\b", lines_of(file)[at - 1]):
+        return words_named(file, clauses(file, at))
+    return words_named(file, model(file, name))
+
+
+def test_theorem():
+    document = ROOT / "docs/THEOREM.md"
+    if faults:
+        return
+    listed, reached = set(), set()
+    for at, _, rows in sections(document):
+        fresh = [(path, name.split("::")[-1], line) for name, path, line in rows]
+        fresh = [row for row in fresh if row[:2] not in listed or not row[0].endswith(".antt")]
+        whole = listed | {row[:2] for row in fresh}
+        above = listed | {row[:2] for row in fresh if not row[0].endswith(".antt")}
+        for path, name, line in fresh:
+            for target in sorted(named_by(name, path, line), key=str):
+                if target[1] in (None, name) or is_part(target):
+                    continue
+                reached.add(target)
+                where = f"{shown(document)}:{at}: {name} names {target[1]} of {target[0]}, which "
+                test(target in whole, where + "isn't listed")
+                test(not path.endswith(".antt") or target in above or target not in whole, where + "stands below it")
+            above.add((path, name))
+        listed = whole
+        for path, name, _ in fresh:
+            if path.endswith(".antt"):
+                test((path, name) in reached, f"{shown(document)}:{at}: nothing that is listed names {name} of {path}")
+
+
+def is_part(target):
+    """Whether it is a constructor or a field, which comes with the type that the file declares."""
+    path = ROOT / target[0]
+    return path.suffix == ".antt" and path.exists() and all(declared(path, line) != target[1] for line in lines_of(path))
+
+
+# ---- what is said more than once, and what is made
+
+def test_headline():
+    said = {line for document in documents() for line in lines_of(document) if line.startswith("**For every board")}
+    test(len(said) == 1, f"the headline is said in {len(said)} ways")
+    length = len(lines_of(ROOT / "README.md")) - 1
+    test(length <= 120, f"README.md has {length} lines")
+
+
+def test_made():
+    found = subprocess.run([sys.executable, ROOT / "bench/plot.py", "--check"], stdout=subprocess.PIPE, text=True)
+    test(found.returncode == 0, found.stdout.strip())
+    if shutil.which("groff"):
+        page = ROOT / "docs/othsolve.1"
+        found = subprocess.run(["groff", "-man", "-Tutf8", "-ww", "-z", page], stderr=subprocess.PIPE, text=True)
+        test(found.returncode == 0 and not found.stderr, f"docs/othsolve.1: {found.stderr.strip()}")
+
+
+def main():
+    if "--lines" in sys.argv[1:]:
+        correct_lines()
+    for document in documents():
+        for number, line in enumerate(lines_of(document), 1):
+            test_links(document, number, line)
+            test_paths(document, number, line)
+            test_lines(document, number, line)
+            test_boards(document, number, line)
+    test_counts()
+    test_theorem()
+    test_headline()
+    test_made()
+    for fault in faults:
+        print(fault)
+    print(f"{passed} passed, {len(faults)} failed")
+    return 1 if faults else 0
+
+
+sys.exit(main())
