@@ -8,6 +8,7 @@ ghost use Rattle.oth_main.specs.Reply.{reply};
 ghost use Rattle.oth_main.specs.Report.{last_report, with_end};
 ghost use Rattle.oth_main.specs.Run.{AreLawful, FailsBy};
 
+use crate::ahead::Ahead;
 use crate::fault::RunFault;
 use crate::line::Line;
 use crate::solver::Solver;
@@ -15,26 +16,29 @@ use crate::waiting::Waiting;
 use oth_pool::Gate;
 use oth_text::{Failed, Sink, Source};
 use oth_words::{Command, Settings};
+use std::alloc::Global;
 use std::sync::Wait;
 use std::thread::Threads;
 
 const BUFFER_LEN: usize = 16_384;
 
-/// The line that has begun, and the bytes of the report that wait to be written.
+/// The line that has begun, answers of the next lines, and the bytes of the report that wait to be written.
 #[derive(Drop)]
 pub struct Engine {
     line: Line,
+    ahead: Ahead,
     waiting: Waiting,
 }
 
 impl Engine {
     /// Nothing was read yet.
-    pub fn new(command: Command) -> Self
+    pub fn new(alloc: Global, command: Command) -> Self
         ensures line { Holds command result.line [] }
         ensures waiting { result.waiting.bytes.items ≡ [] }
     {
         Engine {
             line: Line::new(command),
+            ahead: Ahead::nothing(alloc),
             waiting: Waiting::new(),
         }
     }
@@ -56,7 +60,7 @@ impl Engine {
         ensures works { OnOk result (W.failed writer.new ≡ W.failed writer.old) }
         ensures fails { OnErr result (W.failed writer.new ≡ true) }
     {
-        let answer = self.line.reply(solver, settings);
+        let answer = self.line.reply(solver, &self.ahead, settings);
         self.waiting.push_text(writer, answer.as_slice())?;
         self.waiting.push_text(writer, b"\n")?;
         self.line.clear();
@@ -105,6 +109,7 @@ impl Engine {
     {
         let mut rest = bytes;
         while let Some((line, others)) = split_line(rest) {
+            self.ahead.pass(solver, settings, rest);
             self.take_line(solver, settings, writer, line)?;
             rest = others;
         }
@@ -213,7 +218,7 @@ impl Engine {
 }
 
 // The first line, without the byte 10 that ends it, and what follows it.
-fn split_line(bytes: &[u8]) -> Option<(&[u8], &[u8])>
+pub fn split_line(bytes: &[u8]) -> Option<(&[u8], &[u8])>
     ensures joined { IfSome result (λ r. bytes.now ≡ (r.0.now ++ 10 ∷ []) ++ r.1.now) }
     ensures line { IfSome result (λ r. All (λ b. b ≢ 10) r.0.now) }
     ensures none { IfNone result (All (λ b. b ≢ 10) bytes.now) }

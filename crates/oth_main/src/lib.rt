@@ -1,6 +1,7 @@
 //! The engine over bytes: it reads lines, and writes a report of each; and the commands of the book.
 #![tactic(auto)]
 
+mod ahead;
 mod book_commands;
 mod book_file;
 mod checking;

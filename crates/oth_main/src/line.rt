@@ -8,6 +8,7 @@ ghost use Rattle.oth_main.specs.Line.{Holds};
 ghost use Rattle.oth_main.specs.Reply.{moves_reply, reply, solve_reply, transcript_reply};
 ghost use Rattle.oth_main.specs.Run.{AreLawful};
 
+use crate::ahead::Ahead;
 use crate::solver::Solver;
 use arrayvec::ArrayVec;
 use oth_pool::Gate;
@@ -79,6 +80,7 @@ impl Line {
     pub fn reply<T: Threads + Sync, G: Gate>(
         &self,
         solver: &Solver<'_, T, G>,
+        ahead: &Ahead,
         settings: &Settings,
     ) -> ArrayVec<u8, REPLY_LEN>
         requires { AreLawful settings.now }
@@ -86,7 +88,7 @@ impl Line {
             → result.items ≡ reply settings.now line }
     {
         match self {
-            Line::Solve(reader) => solve_reply(reader, solver, settings),
+            Line::Solve(reader) => solve_reply(reader, solver, ahead, settings),
             Line::Moves(reader) => moves_reply(reader),
             Line::Transcript(reader) => transcript_reply(reader),
         }
@@ -97,6 +99,7 @@ impl Line {
 fn solve_reply<T: Threads + Sync, G: Gate>(
     reader: &BoardReader,
     solver: &Solver<'_, T, G>,
+    ahead: &Ahead,
     settings: &Settings,
 ) -> ArrayVec<u8, REPLY_LEN>
     requires { AreLawful settings.now }
@@ -107,7 +110,7 @@ fn solve_reply<T: Threads + Sync, G: Gate>(
         Ok(position) => position,
         Err(fault) => return copied(fault_line(&fault).as_slice()),
     };
-    match solver.answer_of(&position.board, settings) {
+    match ahead.answer_of(solver, &position.board, settings) {
         Ok(answer) => report_line(&answer),
         Err(many) => copied(fault_line(&LineFault::Empties(many.empties)).as_slice()),
     }

@@ -101,7 +101,7 @@ fn run_lines<T: Wait + Threads + Sync, R: Source, W: Sink, G: Gate>(
     ensures devices { FailsBy result (R.failed reader.new) (W.failed writer.new) }
     ensures past_tests { IsPastTests result }
 {
-    let mut engine = Engine::new(settings.command);
+    let mut engine = Engine::new(solver.alloc, settings.command);
     engine.run_ended(solver, reader, writer, settings)?;
     match engine.finish(solver, settings, writer) {
         Ok(()) => Ok(()),

@@ -4,6 +4,7 @@ ghost use Rattle.std.specs.Prelude.{◌≡◌, ◌<◌, ◌↔◌, IsErr, IfOk, 
 ghost use Rattle.oth_rules.specs.Position.{empty_count};
 ghost use Rattle.oth_main.specs.Run.{AreLawful};
 
+use oth_batch::Batch;
 use oth_book::Book;
 use oth_pool::{Gate, SolveError, solve};
 use oth_rules::Board;
@@ -47,6 +48,25 @@ impl<'s, T: Threads + Sync, G: Gate> Solver<'s, T, G> {
             Ok(answer) => Ok(answer),
             Err(SolveError::TooManyEmpties(empties)) => Err(TooManyEmpties { empties }),
             Err(SolveError::Workers | SolveError::Cells) => unreachable!(),
+        }
+    }
+
+    /// What boards are solved with side by side.
+    pub fn batch(&self, settings: &Settings) -> Batch<'s, T, G> {
+        let Settings {
+            workers,
+            cells,
+            scoring,
+            ..
+        } = *settings;
+        Batch {
+            rt: self.rt,
+            alloc: self.alloc,
+            gate: self.gate,
+            book: self.book,
+            workers,
+            cells,
+            scoring,
         }
     }
 }

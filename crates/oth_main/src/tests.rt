@@ -1,6 +1,7 @@
 //! Runs over rows and over devices that fail, and the commands of the book. The expected lines are those that the rules and the
 //! formats give.
 
+mod batches;
 mod books;
 mod devices;
 mod refused;

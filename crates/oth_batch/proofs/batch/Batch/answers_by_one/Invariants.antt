@@ -1,0 +1,5 @@
+use Rattle.std.proofs.Common.{◌≡◌, All}
+use Rattle.oth_batch.proofs.batch.Batch.answers_by_one.Given as goal
+
+abbrev pub invariant-loop : goal.invariant-loop
+invariant-loop g l = All (λ a. a.scoring ≡ l.fn.self.scoring) l.answers.items

@@ -1,0 +1,45 @@
+//! Boards that wait to be solved together.
+
+use crate::effort::{MOST_EMPTIES_FOR_ONE, effort};
+use arrayvec::ArrayVec;
+use oth_rules::Board;
+
+/// The most boards of a batch.
+const MOST_BOARDS: usize = 256;
+
+/// No more boards are taken from so much work on: some ten seconds of one worker, so that answers don't wait long for each other.
+const MOST_EFFORT: u64 = 1 << 28;
+
+/// Boards that wait to be solved together: at most 256, and no more when they are some seconds of work.
+#[derive(Drop)]
+pub struct Boards {
+    list: ArrayVec<Board, MOST_BOARDS>,
+    effort: u64,
+}
+
+impl Boards {
+    /// No board waits.
+    pub fn new() -> Self {
+        Boards {
+            list: ArrayVec::new(),
+            effort: 0,
+        }
+    }
+
+    /// Whether no further board is to wait.
+    pub fn is_full(&self) -> bool {
+        self.list.is_full() || self.effort >= MOST_EFFORT
+    }
+
+    /// Lets the board wait too, if there is room and one worker is enough for it.
+    pub fn push(&mut self, board: Board) {
+        if board.empties() <= MOST_EMPTIES_FOR_ONE && self.list.try_push(board).is_ok() {
+            self.effort = self.effort.saturating_add(effort(&board));
+        }
+    }
+
+    /// The boards that wait.
+    pub fn as_slice(&self) -> &[Board] {
+        self.list.as_slice()
+    }
+}

@@ -1,0 +1,114 @@
+//! Boards of lines that wait together, solved side by side before their lines are answered.
+
+ghost use Rattle.std.specs.Prelude.{◌≡◌, ◌<◌, ◌↔◌, IsErr, IfOk, IfErr, IfSome};
+ghost use Rattle.oth_rules.specs.Position.{empty_count};
+ghost use Rattle.oth_main.specs.Run.{AreLawful};
+
+use crate::engine::split_line;
+use crate::solver::Solver;
+use oth_batch::Boards;
+use oth_pool::Gate;
+use oth_rules::{Board, Scoring};
+use oth_search::{Answer, TooManyEmpties};
+use oth_text::read_solvable;
+use oth_words::{Command, Settings};
+use std::alloc::Global;
+use std::thread::Threads;
+
+/// The most empty squares of a board that is solved.
+const MOST_EMPTIES: u8 = 30;
+
+/// The most lines that are looked at together.
+const MOST_LINES: usize = 256;
+
+/// Answers of boards of the next lines. A board whose answer isn't there is solved when its line's turn comes.
+#[derive(Drop)]
+pub struct Ahead {
+    answers: Vec<Answer>,
+    /// So many of the next lines were looked at.
+    lines: usize,
+}
+
+impl Ahead {
+    /// No line was looked at.
+    pub fn nothing(alloc: Global) -> Self {
+        Ahead {
+            answers: Vec::new(alloc),
+            lines: 0,
+        }
+    }
+
+    /// The value and all best moves of a board, found before or now.
+    pub fn answer_of<T: Threads + Sync, G: Gate>(
+        &self,
+        solver: &Solver<'_, T, G>,
+        board: &Board,
+        settings: &Settings,
+    ) -> Result<Answer, TooManyEmpties>
+        requires { AreLawful settings.now }
+        ensures refused { IsErr result ↔ (30 < empty_count board.now) }
+        ensures counted { IfErr result (λ e. e.empties ≡ empty_count board.now) }
+        ensures board { IfOk result (λ a. a.board ≡ board.now) }
+        ensures scoring { IfOk result (λ a. a.scoring ≡ settings.now.scoring) }
+    {
+        let empties = board.empties();
+        if empties > MOST_EMPTIES {
+            return Err(TooManyEmpties { empties });
+        }
+        match self.found(board, settings.scoring) {
+            Some(answer) => Ok(answer),
+            None => solver.answer_of(board, settings),
+        }
+    }
+
+    /// The answer of the board by the scoring, if it was found before.
+    fn found(&self, board: &Board, scoring: Scoring) -> Option<Answer>
+        ensures board { IfSome result (λ a. a.board ≡ board.now) }
+        ensures scoring { IfSome result (λ a. a.scoring ≡ scoring) }
+    {
+        for answer in self.answers.iter() {
+            if answer.board == *board && answer.scoring == scoring {
+                return Some(*answer);
+            }
+        }
+        None
+    }
+
+    /// Passes the first of the lines in these bytes, which begin with a line. Where it wasn't looked at, the boards of as many of
+    /// the lines as make a batch are solved side by side.
+    pub fn pass<T: Threads + Sync, G: Gate>(
+        &mut self,
+        solver: &Solver<'_, T, G>,
+        settings: &Settings,
+        bytes: &[u8],
+    ) {
+        if settings.command != Command::Solve || settings.workers < 2 {
+            return;
+        }
+        if self.lines == 0 {
+            let (boards, lines) = boards_of(bytes);
+            self.answers = solver.batch(settings).answers(&boards);
+            self.lines = lines;
+        }
+        self.lines = self.lines.saturating_sub(1);
+    }
+}
+
+/// The boards of the whole lines in these bytes, up to a batch, and the number of lines.
+fn boards_of(bytes: &[u8]) -> (Boards, usize) {
+    let mut boards = Boards::new();
+    let mut rest = bytes;
+    for lines in 0..MOST_LINES {
+        if boards.is_full() {
+            return (boards, lines);
+        }
+        let Some((line, others)) = split_line(rest) else {
+            return (boards, lines);
+        };
+        if let Ok(position) = read_solvable(line) {
+            boards.push(position.board);
+        }
+        rest = others;
+    }
+    (boards, MOST_LINES)
+}
