@@ -18,6 +18,97 @@ use std::alloc::{AllocError, Global};
 // The words of `--scoring`.
 const SCORINGS: [&str; 2] = ["winner", "discs"];
 
+// What stands behind the help of each command.
+
+const PROGRAM_NOTES: &str = "\
+Lines come from standard input, answers go to standard output, one for each line:
+
+    $ echo '-OXXXXO-XXXXXXXXXXXXXXXXXXXXXXXXXXXXXXXXXXXXXXXXXXXXXXXXXXXXXXXX X' | othsolve solve
+    +64 a1 h1
+
+A board line has the 64 cells row by row from a1 (X a black disc, O a white disc, - an empty
+square), a space, and the side to move. A line that can't be read is answered by its fault.
+
+Statuses, and what is then on standard error:
+    0  done; faults of lines don't change it
+    1  run error 1: a read failed, of FILE too; run error 2: a write failed
+    2  the words can't be obeyed; run error 3: the workers aren't 1 to 16; run error 4: the cells are
+       neither 0 nor a power of two up to 262144
+    3  book error N, book wrong N: FILE is no book, or no true one (see book-verify --help);
+       line I: book error N: an answer can't be added (see book-add --help)";
+
+const SOLVE_NOTES: &str = "\
+A board line, and its answer, the score for the side to move and all best moves:
+
+    --OXOOO-OOOOOOOOOOOOOOOOOOOOOOOOOOOOOOOOOOOOOOOOOOOOOOOOOOOOOOOO X
+    -50 h1
+
+'pass' stands in place of the moves where the side to move has none and the other side has one,
+'end' where the game is over.
+
+Faults of a board line:
+    error 1       the length is not 66 (a byte 13 before the end counts)
+    error 2 at P  byte P, from 1 to 64, is not X, O or -
+    error 3       byte 65 is not a space
+    error 4       byte 66 is neither X nor O
+    error 5 N     N squares are empty, more than 30";
+
+const MOVES_NOTES: &str = "\
+A board line, and its answer, all legal moves:
+
+    ---------------------------OX------XO--------------------------- X
+    d3 c4 f5 e6
+
+'pass' stands in place of the moves where the side to move has none and the other side has one,
+'end' where the game is over. The number of empty squares is not limited. A line that can't be read
+is answered by 'error 1' to 'error 4', as in solve --help.";
+
+const TRANSCRIPT_NOTES: &str = "\
+A transcript is the names of the moves from the start of a game with nothing between them. Forced
+passes are not written; they are put in. An empty line is the start. A transcript, and its answer:
+
+    f5d6c3d3c4
+    ------------------XO------XXX------OXX-----O-------------------- O
+
+Faults of a transcript, whose pairs of bytes are counted from 1:
+    error 1       the number of bytes is odd
+    error 2 at K  pair K is no letter from a to h and digit from 1 to 8
+    error 4 at K  the game is over before pair K
+    error 3 at K  the move of pair K is illegal";
+
+const VERIFY_NOTES: &str = "\
+Each entry is solved anew, by one thread. Prints 'book ok N' with the number of entries and ends
+with status 0, or ends with status 3 and one of these on standard error:
+    book error 1       the header
+    book error 2 at K  line K behind the header is no entry and no end line
+    book error 3 at K  the board of line K isn't above the one before
+    book error 4       the count
+    book error 5       cut short
+    book error 6       bytes behind the end
+    book error 7       no memory
+    book wrong 1 at K  the bounds of entry K don't enclose the value
+    book wrong 2 at K  its best moves are wrong
+    book wrong 3 at K  it has more than 30 empty squares
+    book wrong 4       no memory";
+
+const ADD_NOTES: &str = "\
+The board lines of standard input are solved by the scoring of the book. The new book goes to
+standard output at the end of input, and FILE itself stays as it is. Never write onto FILE: in
+'othsolve book-add my.book > my.book' the shell empties it before it is read. Do this:
+
+    othsolve book-add my.book < boards.txt > new.book && mv new.book my.book
+
+A book begins as the book of no boards, W for winner or D for discs:
+
+    printf 'OBOOK2 W\\nEND 000000\\n' > my.book
+
+On standard error:
+    line I: error N       line I of the input, from 1, has this fault (see solve --help) and is
+                          left out
+    line I: book error N  the answer of line I is refused: 1 no memory, 2 the book is full. No book
+                          is written, and the status is 3
+    book error N, book wrong N: FILE is no book, or no true one (see book-verify --help)";
+
 fn workers_option<'a>(alloc: Global) -> Arg<'a>
     ensures rule { rule_of result ≡ workers_rule }
     ensures local { result.global ≡ false }
@@ -27,7 +118,7 @@ fn workers_option<'a>(alloc: Global) -> Arg<'a>
         .action(ArgAction::Set)
         .value_parser(value_parser!(u8).range(1..=16))
         .default_value("1")
-        .help("The threads that search one board together, 1 to 16")
+        .help("Threads that search one board together, 1 to 16")
 }
 
 fn cells_option<'a>(alloc: Global) -> Arg<'a>
@@ -39,7 +130,7 @@ fn cells_option<'a>(alloc: Global) -> Arg<'a>
         .action(ArgAction::Set)
         .value_parser(value_parser!(u32).range(0..=262_144))
         .default_value("65536")
-        .help("The cells of the table that they share: 0, or a power of two up to 262144")
+        .help("Cells of 32 bytes of the table that they share: 0, or a power of two up to 262144")
 }
 
 fn scoring_option<'a>(alloc: Global, scorings: &'a [&'a str]) -> Arg<'a>
@@ -52,7 +143,7 @@ fn scoring_option<'a>(alloc: Global, scorings: &'a [&'a str]) -> Arg<'a>
         .value_parser(scorings)
         .default_value("winner")
         .help(
-            "How a finished game is counted: with the empty squares for the winner, or by the discs alone",
+            "What a finished game is worth: the discs with the empty squares for the winner, or the discs alone",
         )
 }
 
@@ -63,7 +154,9 @@ fn book_option<'a>(alloc: Global) -> Arg<'a>
     Arg::new(alloc, "book")
         .long("book")
         .action(ArgAction::Set)
-        .help("A book of solved positions, which is asked first")
+        .help(
+            "The file of a book that is asked first; each of its entries is solved anew before the first line",
+        )
 }
 
 fn file_argument<'a>(alloc: Global) -> Arg<'a>
@@ -73,7 +166,7 @@ fn file_argument<'a>(alloc: Global) -> Arg<'a>
     Arg::new(alloc, "file")
         .action(ArgAction::Set)
         .required(true)
-        .help("A book of solved positions")
+        .help("The file of a book of solved positions")
 }
 
 fn solve_command<'a>(alloc: Global, scorings: &'a [&'a str]) -> Result<App<'a>, AllocError>
@@ -81,7 +174,8 @@ fn solve_command<'a>(alloc: Global, scorings: &'a [&'a str]) -> Result<App<'a>, 
     ensures local { IfOk result (λ c. (out-Command c).has_globals ≡ false) }
 {
     App::new(alloc, "solve")
-        .about("Writes the score and all best moves of each board line")
+        .about("Writes the score and all best moves of each board line of standard input")
+        .after_help(SOLVE_NOTES)
         .arg(workers_option(alloc))?
         .arg(cells_option(alloc))?
         .arg(scoring_option(alloc, scorings))?
@@ -92,14 +186,18 @@ fn moves_command<'a>(alloc: Global) -> App<'a>
     ensures app { app_of result ≡ new_app (codes "moves") }
     ensures local { (out-Command result).has_globals ≡ false }
 {
-    App::new(alloc, "moves").about("Writes all legal moves of each board line")
+    App::new(alloc, "moves")
+        .about("Writes all legal moves of each board line of standard input")
+        .after_help(MOVES_NOTES)
 }
 
 fn transcript_command<'a>(alloc: Global) -> App<'a>
     ensures app { app_of result ≡ new_app (codes "transcript") }
     ensures local { (out-Command result).has_globals ≡ false }
 {
-    App::new(alloc, "transcript").about("Writes the board line that each transcript leads to")
+    App::new(alloc, "transcript")
+        .about("Writes the board line that each transcript of standard input leads to")
+        .after_help(TRANSCRIPT_NOTES)
 }
 
 fn verify_command<'a>(alloc: Global) -> Result<App<'a>, AllocError>
@@ -107,7 +205,8 @@ fn verify_command<'a>(alloc: Global) -> Result<App<'a>, AllocError>
     ensures local { IfOk result (λ c. (out-Command c).has_globals ≡ false) }
 {
     App::new(alloc, "book-verify")
-        .about("Verifies every entry of a book")
+        .about("Verifies every entry of the book of FILE")
+        .after_help(VERIFY_NOTES)
         .arg(file_argument(alloc))
 }
 
@@ -116,7 +215,10 @@ fn add_command<'a>(alloc: Global) -> Result<App<'a>, AllocError>
     ensures local { IfOk result (λ c. (out-Command c).has_globals ≡ false) }
 {
     App::new(alloc, "book-add")
-        .about("Solves each board line and writes the book with the answers added")
+        .about(
+            "Writes the book of FILE with the answers to the board lines of standard input added",
+        )
+        .after_help(ADD_NOTES)
         .arg(workers_option(alloc))?
         .arg(cells_option(alloc))?
         .arg(file_argument(alloc))
@@ -126,6 +228,8 @@ fn command<'a>(alloc: Global, scorings: &'a [&'a str]) -> Result<App<'a>, AllocE
     ensures { IfOk result (λ c. app_of c ≡ othsolve scorings.entry) }
 {
     App::new(alloc, "othsolve")
+        .about("Exact scores and best moves of Othello boards of at most 30 empty squares")
+        .after_help(PROGRAM_NOTES)
         .subcommand_required(true)
         .subcommand(solve_command(alloc, scorings)?)?
         .subcommand(moves_command(alloc))?
