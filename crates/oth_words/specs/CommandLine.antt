@@ -23,9 +23,9 @@ use Rattle.oth_words.specs.declared.settings.Words.TheVariants.{Run, Verify, Add
 
 -- ---- the command
 
--- an option with one value
+-- an option with one value, which has a name in help
 abbrev pub option_rule : Text → Rule
-option_rule name = record (new_rule name) { long = Some name; action = Some Set }
+option_rule name = record (new_rule name) { long = Some name; action = Some Set; value_names = 1 }
 
 -- an option with a number, which has a default
 abbrev pub number_option : Text → ℕ → ℕ → Text → Rule
@@ -57,7 +57,7 @@ abbrev pub book_rule : Rule
 book_rule = option_rule (codes "book")
 
 abbrev pub file_rule : Rule
-file_rule = record (new_rule (codes "file")) { action = Some Set; required = true }
+file_rule = record (new_rule (codes "file")) { action = Some Set; required = true; value_names = 1 }
 
 abbrev pub solve_app : ScoringWords → App
 solve_app scorings = with_rule (with_rule (with_rule (with_rule (new_app (codes "solve")) workers_rule) cells_rule) (scoring_rule scorings)) book_rule

@@ -115,6 +115,7 @@ fn workers_option<'a>(alloc: Global) -> Arg<'a>
 {
     Arg::new(alloc, "workers")
         .long("workers")
+        .value_name("N")
         .action(ArgAction::Set)
         .value_parser(value_parser!(u8).range(1..=16))
         .default_value("1")
@@ -127,6 +128,7 @@ fn cells_option<'a>(alloc: Global) -> Arg<'a>
 {
     Arg::new(alloc, "cells")
         .long("cells")
+        .value_name("N")
         .action(ArgAction::Set)
         .value_parser(value_parser!(u32).range(0..=262_144))
         .default_value("65536")
@@ -139,6 +141,7 @@ fn scoring_option<'a>(alloc: Global, scorings: &'a [&'a str]) -> Arg<'a>
 {
     Arg::new(alloc, "scoring")
         .long("scoring")
+        .value_name("SCORING")
         .action(ArgAction::Set)
         .value_parser(scorings)
         .default_value("winner")
@@ -153,6 +156,7 @@ fn book_option<'a>(alloc: Global) -> Arg<'a>
 {
     Arg::new(alloc, "book")
         .long("book")
+        .value_name("FILE")
         .action(ArgAction::Set)
         .help(
             "The file of a book that is asked first; each of its entries is solved anew before the first line",
@@ -164,6 +168,7 @@ fn file_argument<'a>(alloc: Global) -> Arg<'a>
     ensures local { result.global ≡ false }
 {
     Arg::new(alloc, "file")
+        .value_name("FILE")
         .action(ArgAction::Set)
         .required(true)
         .help("The file of a book of solved positions")
