@@ -12,6 +12,7 @@ use std::alloc::Global;
 pub struct Kept {
     pub text: Vec<u8>,
     pub failed: bool,
+    pub flushed: bool,
 }
 
 impl Sink for Kept {
@@ -19,15 +20,19 @@ impl Sink for Kept {
 
     ghost failed = { λ s. s.failed };
 
+    ghost flushed = { λ s. s.flushed };
+
     fn write(&mut self, buffer: &[u8]) -> Result<usize, Failed> {
         if self.text.extend_from_slice(buffer).is_err() {
             self.failed = true;
             return Err(Failed);
         }
+        self.flushed = false;
         Ok(buffer.len())
     }
 
     fn flush(&mut self) -> Result<(), Failed> {
+        self.flushed = true;
         Ok(())
     }
 
@@ -43,6 +48,7 @@ pub fn kept_report(alloc: Global, answer: &Answer) -> Result<Vec<u8>, Failed>
     let mut kept = Kept {
         text: Vec::new(alloc),
         failed: false,
+        flushed: true,
     };
     write_all(&mut kept, report_line(answer).as_slice())?;
     Ok(kept.text)
