@@ -8,6 +8,8 @@ SEED = 20261123
 BOARDS = 2000
 BOOKED = 500
 MOST_EMPTIES = 7
+WAITING = 1000
+MOST_EMPTIES_WAITING = 12
 WORKERS = (1, 2, 16)
 CELLS = (0, 1, 65536)
 SCORINGS = ("winner", "discs")
@@ -28,6 +30,18 @@ def steps(program):
                 )
         name = f"a book of {BOOKED} boards, added to, verified and asked: {scoring}"
         yield name, by_book(program, scoring, lines, [line[at] for line in wanted])
+    yield from side_by_side(program)
+
+
+def side_by_side(program):
+    """Boards that are solved side by side by several workers have the answers that one worker gives."""
+    boards = minimax.boards(SEED + 1, WAITING, MOST_EMPTIES_WAITING)
+    lines = [minimax.board_line(*board) for board in boards]
+    text = "".join(f"{line}\n" for line in lines)
+    alone = subprocess.run([program, "solve"], input=text, stdout=subprocess.PIPE, text=True, timeout=120, check=False).stdout.splitlines()
+    for workers in ("2", "4", "16"):
+        name = f"{WAITING} boards of 0 to {MOST_EMPTIES_WAITING} empty squares side by side by {workers} workers as by one"
+        yield name, difference([program, "solve", "--workers", workers], lines, alone)
 
 
 def by_book(program, scoring, lines, wanted):
@@ -52,7 +66,7 @@ def difference(words, lines, wanted):
     answers = ran.stdout.splitlines()
     for line, answer, want in zip(lines, answers, wanted):
         if answer != want:
-            return f"{line}: {answer}, where minimax gives {want}"
+            return f"{line}: {answer}, and not {want}"
     if len(answers) != len(lines) or ran.returncode != 0:
         return f"{len(answers)} answers to {len(lines)} lines, status {ran.returncode}"
     return None
