@@ -174,13 +174,21 @@ fn file_argument<'a>(alloc: Global) -> Arg<'a>
         .help("The file of a book of solved positions")
 }
 
-fn solve_command<'a>(alloc: Global, scorings: &'a [&'a str]) -> Result<App<'a>, AllocError>
-    ensures app { IfOk result (λ c. app_of c ≡ solve_app scorings.entry) }
-    ensures local { IfOk result (λ c. (out-Command c).has_globals ≡ false) }
+// The subcommand `solve` and its help, without options.
+fn titled_solve<'a>(alloc: Global) -> App<'a>
+    ensures app { app_of result ≡ new_app (codes "solve") }
+    ensures local { (out-Command result).has_globals ≡ false }
 {
     App::new(alloc, "solve")
         .about("Writes the score and all best moves of each board line of standard input")
         .after_help(SOLVE_NOTES)
+}
+
+fn solve_command<'a>(alloc: Global, scorings: &'a [&'a str]) -> Result<App<'a>, AllocError>
+    ensures app { IfOk result (λ c. app_of c ≡ solve_app scorings.entry) }
+    ensures local { IfOk result (λ c. (out-Command c).has_globals ≡ false) }
+{
+    titled_solve(alloc)
         .arg(workers_option(alloc))?
         .arg(cells_option(alloc))?
         .arg(scoring_option(alloc, scorings))?
@@ -229,12 +237,20 @@ fn add_command<'a>(alloc: Global) -> Result<App<'a>, AllocError>
         .arg(file_argument(alloc))
 }
 
-fn command<'a>(alloc: Global, scorings: &'a [&'a str]) -> Result<App<'a>, AllocError>
-    ensures { IfOk result (λ c. app_of c ≡ othsolve scorings.entry) }
+// The program and its help, without subcommands.
+fn titled_program<'a>(alloc: Global) -> App<'a>
+    ensures app { app_of result ≡ new_app (codes "othsolve") }
+    ensures local { (out-Command result).has_globals ≡ false }
 {
     App::new(alloc, "othsolve")
         .about("Exact scores and best moves of Othello boards of at most 30 empty squares")
         .after_help(PROGRAM_NOTES)
+}
+
+fn command<'a>(alloc: Global, scorings: &'a [&'a str]) -> Result<App<'a>, AllocError>
+    ensures { IfOk result (λ c. app_of c ≡ othsolve scorings.entry) }
+{
+    titled_program(alloc)
         .subcommand_required(true)
         .subcommand(solve_command(alloc, scorings)?)?
         .subcommand(moves_command(alloc))?

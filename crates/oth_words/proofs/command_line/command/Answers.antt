@@ -10,7 +10,7 @@ unfolding othsolve
 returns c =
     let top = λ (a : App). a.top in
     let program_is : app_of c.subcommand_required.result ≡ program =
-    ap app_of_fields c.subcommand_required.ensures ∙ ap (λ (a : App). record a { top = record a.top { subcommand_required = true } }) c.new.ensures.app in
+    ap app_of_fields c.subcommand_required.ensures ∙ ap (λ (a : App). record a { top = record a.top { subcommand_required = true } }) c.titled_program.ensures.app in
     let first = c.in_ok-subcommand.ensures.shape c.in_ok-solve_command.ensures.local ∙ ap₂ with_subcommand program_is (ap top c.in_ok-solve_command.ensures.app) in
     let second = c.in_ok-subcommand-2.ensures.shape c.moves_command.ensures.local ∙ ap₂ with_subcommand first (ap top c.moves_command.ensures.app) in
     let third = c.in_ok-subcommand-3.ensures.shape c.transcript_command.ensures.local ∙ ap₂ with_subcommand second (ap top c.transcript_command.ensures.app) in
