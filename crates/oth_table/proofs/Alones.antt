@@ -1,10 +1,17 @@
 -- Whoever has seen only its own events meets no other seat's claim.
-use Rattle.std.proofs.Common.{◌≡◌, ℕ, List, [], ◌∷◌, ◌++◌, sym, refl, ap, ◌∙◌, subst, arith}
+use Rattle.std.proofs.Common.{◌≡◌, ◌≢◌, inl, inr, ℕ, List, [], ◌∷◌, ◌++◌, sym, refl, ap, ◌∙◌, subst, arith}
 use Rattle.std.specs.Prelude.{Some, None, if◌then◌else◌}
 use Rattle.oth_table.specs.declared.history.Terms.{Terms}
 use Rattle.oth_table.specs.History.{Name, author, owner, claims, IsSeat, IsLegal, HasNone, Ends, GoesAway}
 use Rattle.oth_table.specs.Cells.{held}
-use Rattle.oth_table.specs.Alone.{IsOwn, IsAlone, LooksAlone, PutsAlone, CountsAlone}
+use Rattle.oth_table.specs.Alone.{IsOwn, IsAlone, IsUsedAlone, LooksAlone, PutsAlone, CountsAlone, SearchesAlone, StoresAlone}
+use Rattle.oth_rules.specs.Position.{Position}
+use Rattle.oth_table.specs.Calls.{Looks, Puts}
+use Rattle.oth_table.specs.Choices.{picked_of, place_of, second_of}
+use Rattle.oth_table.specs.Pairs.{LooksBoth}
+use Rattle.oth_table.specs.Parts.{Use}
+use Rattle.oth_table.specs.declared.table.Look.{Look as Found}
+use Rattle.std.proofs.lemmas.Bool.{cases_eq}
 use Rattle.oth_table.specs.declared.history.Why.{Why}
 use Rattle.oth_table.specs.declared.history.Why.TheVariants as why
 use Rattle.oth_table.specs.declared.history.Event.{Event}
@@ -58,3 +65,30 @@ counts_alone terms earlier later alone legal since =
 
 pub begins_alone : IsAlone []
 begins_alone = (tt, λ c. refl)
+
+-- ---- both cells of a board
+
+both_alone : (u : Use) (later : List Event) (p : Position) (first other : Found) → IsUsedAlone u → LooksBoth u later p first other
+    → IsAlone later × (first ≢ Busy) × (other ≢ Busy)
+both_alone u later p first other used looks =
+    elim (cases_eq u.table.cells 1) [
+      | inl one ↦
+          let once = looks.0 one in
+          let a = looks_alone u.seat.terms (place_of p 1) u.seat.seen later first used.alone (subst (λ s. Looks u.seat.terms s u.seat.seen later (place_of p 1) first) used.first once.0) in
+          (a.0, a.1, λ busy. a.1 (sym once.1 ∙ busy))
+      | inr more ↦
+          let twice = looks.1 more in
+          let a = looks_alone u.seat.terms (place_of p u.table.cells) u.seat.seen twice.0 first used.alone (subst (λ s. Looks u.seat.terms s u.seat.seen twice.0 (place_of p u.table.cells) first) used.first twice.1) in
+          let b = looks_alone u.seat.terms (second_of p u.table.cells) twice.0 later other a.0 (subst (λ s. Looks u.seat.terms s twice.0 later (second_of p u.table.cells) other) used.first twice.2) in
+          (b.0, a.1, b.1)
+    ]
+
+pub searches_alone : SearchesAlone
+searches_alone u v p answer used looks = both_alone u v.seat.seen p looks.first looks.other used looks.looks
+
+pub stores_alone : StoresAlone
+stores_alone u v given used puts =
+    let a = both_alone u puts.between given.board puts.first puts.other used puts.looks in
+    let cell = picked_of u.table.cells puts.first puts.other given.board in
+    let b = puts_alone u.seat.terms cell puts.between v.seat.seen given puts.did a.0 (subst (λ s. Puts u.seat.terms s puts.between v.seat.seen cell given puts.did) used.first puts.put) in
+    (b.0, a.1, a.2, b.1)

@@ -1,10 +1,14 @@
 -- A seat that never made another. It is the first, and whatever it has seen is its own.
 --     IsAlone h         the history h has no event but those of the first seat, which made no other and has no claim
 --     LooksAlone, PutsAlone, CountsAlone      no call of that seat meets another, and it stays alone
-use Rattle.std.specs.Prelude.{◌≡◌, ◌≢◌, ℕ, List, [], ◌∷◌, None}
+--     SearchesAlone, StoresAlone      neither does a search that uses the table by that seat
+use Rattle.std.specs.Prelude.{◌≡◌, ◌≢◌, ℕ, List, [], ◌∷◌, Option, None}
+use Rattle.oth_rules.specs.Position.{Position}
 use Rattle.oth_table.specs.declared.history.Terms.{Terms}
 use Rattle.oth_table.specs.History.{owner, author, IsLegal, Since}
 use Rattle.oth_table.specs.Calls.{Looks, Puts}
+use Rattle.oth_table.specs.Pairs.{LooksFor, PutsFor}
+use Rattle.oth_table.specs.Parts.{Use}
 use Rattle.oth_search.specs.Entries.{Bounded}
 use Rattle.oth_table.specs.declared.history.Event.{Event}
 use Rattle.oth_table.specs.declared.history.Event.TheVariants.{Made}
@@ -36,3 +40,18 @@ PutsAlone = (terms : Terms) (c : ℕ) (earlier later : List Event) (given : Boun
 abbrev pub CountsAlone : Type 0
 CountsAlone = (terms : Terms) (earlier later : List Event)
     → IsAlone earlier → IsLegal terms later → Since [] earlier later → IsAlone later
+
+-- the cells of a search, used by the first seat, which is alone
+pub record IsUsedAlone (u : Use) : Type 0 where
+  pub first : u.seat.name ≡ []
+  pub alone : IsAlone u.seat.seen
+
+-- a search that looks for a board finds neither cell busy
+abbrev pub SearchesAlone : Type 0
+SearchesAlone = (u v : Use) (p : Position) (answer : Option Bounded)
+    → IsUsedAlone u → (looks : LooksFor u v p answer) → IsAlone v.seat.seen × (looks.first ≢ Busy) × (looks.other ≢ Busy)
+
+-- nor does one that stores, and its put isn't skipped
+abbrev pub StoresAlone : Type 0
+StoresAlone = (u v : Use) (given : Bounded)
+    → IsUsedAlone u → (puts : PutsFor u v given) → IsAlone v.seat.seen × (puts.first ≢ Busy) × (puts.other ≢ Busy) × (puts.did ≢ Skipped)
