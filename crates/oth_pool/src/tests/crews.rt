@@ -97,6 +97,7 @@ fn check_settled<R: AllocGlobal + Abort>(rt: &R, words: [u64; 2]) {
         dealt: 64,
         shares: false,
         guesses: true,
+        remembers: false,
     };
     let scene = Scene {
         frontier: &frontier,
