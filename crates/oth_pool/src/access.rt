@@ -4,6 +4,7 @@ ghost use Rattle.oth_rules.specs.Symmetry.{IsCanonical};
 ghost use Rattle.oth_table.specs.Calls.{IsSeatOf};
 ghost use Rattle.oth_pool.specs.Lending.{LendsSeat, LendsTable};
 
+use crate::scene::Plan;
 use oth_rules::{Board, Scoring};
 use oth_search::{Cells, Entry, Memo, Solved};
 use oth_table::{SharedTable, TableCells, TableSeat};
@@ -58,7 +59,8 @@ impl<'t> TableAccess<'t> {
     }
 }
 
-/// What one worker keeps entries in: cells of the table where there is one, and a memory of its own for boards with few empty squares.
+/// What one worker keeps entries in: cells of the table where there is one, and a memory of its own for boards with few empty squares where
+/// that pays.
 #[derive(Drop)]
 pub struct WorkerCells<'t> {
     cells: Option<TableCells<'t>>,
@@ -67,10 +69,14 @@ pub struct WorkerCells<'t> {
 
 impl<'t> WorkerCells<'t> {
     /// Cells of the table, where there is one and a seat of it can be had.
-    pub(crate) fn of(alloc: Global, access: &mut Option<TableAccess<'t>>) -> WorkerCells<'t>
+    pub(crate) fn of(
+        alloc: Global,
+        plan: Plan,
+        access: &mut Option<TableAccess<'t>>,
+    ) -> WorkerCells<'t>
         ensures lends { LendsTable access.old access.new }
     {
-        let memo = Box::new(alloc, Memo::new()).ok();
+        let memo = if plan.remembers { memo(alloc) } else { None };
         match access {
             Some(access) => WorkerCells {
                 cells: access.cells(alloc),
@@ -79,6 +85,11 @@ impl<'t> WorkerCells<'t> {
             None => WorkerCells { cells: None, memo },
         }
     }
+}
+
+// A memory that is empty; none where there is no room for it.
+fn memo(alloc: Global) -> Option<Box<Memo>> {
+    Box::new(alloc, Memo::new()).ok()
 }
 
 impl<'t> Cells for WorkerCells<'t> {

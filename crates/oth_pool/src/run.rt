@@ -37,9 +37,10 @@ pub(crate) struct Means<'m, R, G> {
     pub workers: u8,
 }
 
-// What the workers share besides the table.
+// How the search is made, and what the workers share besides the table.
 #[derive(Clone, Copy)]
 struct Shared<'s> {
+    plan: Plan,
     floor: &'s Floor,
     hints: &'s Option<Hints>,
 }
@@ -96,6 +97,7 @@ pub(crate) fn run<'t, R: Threads + Sync, G: Gate>(
 {
     let hints = hints_for(means, scene);
     let shared = Shared {
+        plan: scene.plan,
         floor,
         hints: &hints,
     };
@@ -123,7 +125,7 @@ fn run_sharing<'w, 't, R: Threads + Sync, G: Gate>(
         return nothing(alloc, scene);
     };
     let count = hands.len();
-    let Some(walks) = walks_of(alloc, scene.plan, count, shared, seat, table) else {
+    let Some(walks) = walks_of(alloc, count, shared, seat, table) else {
         return without_jobs(alloc, scene, tasks, hands);
     };
     let (Ok(jobs), Ok(room), Ok(replies)) = (
@@ -183,7 +185,6 @@ fn without_jobs(
 // What so many workers search with.
 fn walks_of<'w, 't>(
     alloc: Global,
-    plan: Plan,
     count: usize,
     shared: Shared<'w>,
     seat: &mut FloorSeat,
@@ -203,8 +204,8 @@ fn walks_of<'w, 't>(
         };
         let height = Height::shared(shared.floor, own);
         let hints = seat_of(shared.hints);
-        let cells = WorkerCells::of(alloc, table);
-        walks.push_reserved(Walk::of(alloc, plan, cells, height, hints));
+        let cells = WorkerCells::of(alloc, shared.plan, table);
+        walks.push_reserved(Walk::of(alloc, shared.plan, cells, height, hints));
     }
     Some(walks)
 }

@@ -7,6 +7,9 @@ use oth_rules::{Board, Scoring, Square};
 // From so many empty squares on a guess that workers make pays.
 const FEWEST_EMPTIES_GUESSED: u8 = 16;
 
+// From so many empty squares on a memory for boards with few empty squares pays: it takes time to make.
+const FEWEST_EMPTIES_REMEMBERED: u8 = 10;
+
 /// The board that is solved, its frontier, its moves in the order in which they are searched, and how the search is made.
 #[derive(Clone, Copy)]
 pub(crate) struct Scene<'s> {
@@ -31,6 +34,8 @@ pub(crate) struct Plan {
     pub alone: bool,
     /// Whether they make a guess together of where the search for the root's value starts.
     pub guesses: bool,
+    /// Whether each worker remembers boards with few empty squares.
+    pub remembers: bool,
 }
 
 impl Plan {
@@ -39,14 +44,14 @@ impl Plan {
         ensures { result.scoring ≡ scoring }
     {
         if workers == 1 {
-            Plan::alone(scoring)
+            Plan::alone(scoring, empties)
         } else {
             Plan::together(scoring, empties, has_table)
         }
     }
 
     /// The plan of one worker.
-    pub fn alone(scoring: Scoring) -> Plan
+    pub fn alone(scoring: Scoring, empties: u8) -> Plan
         ensures { result.scoring ≡ scoring }
     {
         Plan {
@@ -56,6 +61,7 @@ impl Plan {
             shares: false,
             alone: true,
             guesses: false,
+            remembers: empties >= FEWEST_EMPTIES_REMEMBERED,
         }
     }
 
@@ -74,6 +80,7 @@ impl Plan {
             shares,
             alone: false,
             guesses: shares && empties >= FEWEST_EMPTIES_GUESSED,
+            remembers: empties >= FEWEST_EMPTIES_REMEMBERED,
         }
     }
 }

@@ -1,5 +1,5 @@
 //! The whole search of a board.
-ghost use Rattle.std.specs.Prelude.{◌≡◌, ◌↔◌, ◌<◌, ◌≤◌, true, IsTrue, IfOk, IfErr, length};
+ghost use Rattle.std.specs.Prelude.{◌≡◌, ◌↔◌, ◌<◌, ◌≤◌, ◌≤ℤ◌, true, IsTrue, IfOk, IfErr, length};
 ghost use Rattle.oth_rules.specs.Position.{empty_count};
 ghost use Rattle.oth_rules.specs.Move.{can_move};
 ghost use Rattle.oth_pool.specs.Solving.{IsPower, IsSolvable, Refuses, Accepts};
@@ -210,8 +210,8 @@ fn searched<'t, R: Threads + Sync, G: Gate>(
     for reply in gathered.replies.as_slice() {
         let _ = collector.take(*reply);
     }
-    let cells = WorkerCells::of(alloc, access);
-    let plan = Plan::alone(told.scoring);
+    let cells = WorkerCells::of(alloc, scene.plan, access);
+    let plan = Plan::alone(told.scoring, told.board.empties());
     let mut walk = Walk::of(alloc, plan, cells, Height::shared(&floor, seat), None);
     walk.found = found;
     for number in gathered.drawn.left.as_slice() {
@@ -228,8 +228,8 @@ fn searched_alone<'t, R: Threads + Sync, G: Gate>(
     told: &Solved,
     access: &mut Option<TableAccess<'t>>,
 ) -> (Vec<Solved>, WorkerCells<'t>) {
-    let cells = WorkerCells::of(means.alloc, access);
-    let plan = Plan::alone(told.scoring);
+    let cells = WorkerCells::of(means.alloc, scene.plan, access);
+    let plan = Plan::alone(told.scoring, told.board.empties());
     let mut walk = Walk::of(means.alloc, plan, cells, Height::Own(*told), None);
     let mut collector = Collector::new(scene.frontier, told.scoring);
     for number in 0..scene.frontier.len() {
@@ -296,6 +296,7 @@ fn closest_of(board: Board, found: &[Solved], scoring: Scoring) -> Solved
 fn root_by(told: &Solved, known: &[Solved]) -> Solved
     ensures board { result.board ≡ told.now.board }
     ensures scoring { result.scoring ≡ told.now.scoring }
+    ensures lower { told.now.interval.lower ≤ℤ result.interval.lower }
 {
     let mut best = *told;
     for number in 0..64 {
@@ -318,6 +319,7 @@ fn higher(best: Solved, root: &Board, square: Square, child: Solved) -> Solved
     requires scoring { best.scoring ≡ child.scoring }
     ensures board { result.board ≡ root.now }
     ensures scoring { result.scoring ≡ best.scoring }
+    ensures lower { best.interval.lower ≤ℤ result.interval.lower }
 {
     match Solved::lift(root, square, &child) {
         Ok(bound) if bound.interval.lower > best.interval.lower => bound,

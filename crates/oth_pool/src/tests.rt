@@ -11,6 +11,7 @@ mod rows;
 ghost use Rattle.std.specs.Prelude.{◌≤◌, IfSome};
 ghost use Rattle.oth_rules.specs.Position.{empty_count};
 
+use crate::scene::Plan;
 use crate::{Floor, Frontier, Open, TableAccess, WorkerCells, run_workers, solve};
 use oth_rules::{Board, Scoring, Square};
 use oth_search::{Cells, Kind};
@@ -82,7 +83,7 @@ fn workers_search_over_the_table(rt: HostRuntime) -> Result<(), Fail> {
         &Open,
     );
     assert!(rt; found.drawn.left.is_empty() && found.replies.len() == 2);
-    let mut cells = WorkerCells::of(rt.alloc(), &mut access);
+    let mut cells = WorkerCells::of(rt.alloc(), Plan::alone(Scoring::Winner, 0), &mut access);
     let mut whole = false;
     for number in [1, 7] {
         if let Some(child) = a.play(Square::numbered(number)) {

@@ -1,5 +1,7 @@
 //! What a book tells of a board before it is searched.
 ghost use Rattle.std.specs.Prelude.{◌≡◌, IfSome};
+ghost use Rattle.oth_rules.specs.Symmetry.{canonical};
+ghost use Rattle.oth_book.specs.Book.{Has, HasBoard};
 
 use oth_book::Book;
 use oth_rules::{Board, Scoring};
@@ -21,6 +23,7 @@ pub(crate) fn answer_in(book: Option<&Book>, board: &Board, scoring: Scoring) ->
 pub(crate) fn bounds_in(book: Option<&Book>, board: &Board, scoring: Scoring) -> Solved
     ensures board { result.board ≡ board.now }
     ensures scoring { result.scoring ≡ scoring }
+    ensures told { IfSome book.entry (λ b. b.now.scoring ≡ scoring → HasBoard b.now.entries (canonical board.now) → Has b.now.entries (canonical board.now) result.interval.lower result.interval.upper) }
 {
     let Some(book) = book else {
         return Solved::unknown(*board, scoring);

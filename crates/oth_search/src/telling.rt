@@ -29,6 +29,8 @@ impl Solved {
         requires some { can_move (pass self.now.board) ≡ true }
         ensures board { result.board ≡ pass self.now.board }
         ensures scoring { result.scoring ≡ self.now.scoring }
+        ensures lower { result.interval.lower ≡ neg_ℤ self.now.interval.upper }
+        ensures upper { result.interval.upper ≡ neg_ℤ self.now.interval.lower }
     {
         Solved {
             board: self.board.pass(),

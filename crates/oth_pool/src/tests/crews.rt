@@ -103,6 +103,7 @@ fn check_settled_by<R: AllocGlobal + Abort>(rt: &R, words: [u64; 2], alone: bool
         shares: false,
         guesses: false,
         alone,
+        remembers: false,
     };
     let scene = Scene {
         frontier: &frontier,

@@ -2,6 +2,7 @@
 
 use super::crews::{BOARDS, check_board};
 use super::{A, B, C, board, has_entry};
+use crate::scene::Plan;
 use crate::{Floor, Frontier, Gate, Open, TableAccess, WorkerCells, run_workers, solve};
 use oth_rules::{Board, Scoring, Square};
 use oth_search::solve_alone;
@@ -148,7 +149,11 @@ fn nothing_is_searched_before_the_first_item_is_announced(rt: HostRuntime) -> Re
     };
     let mut access = Some(TableAccess::of(&table, own));
     let gate = Watching {
-        cells: Mutex::new(WorkerCells::of(rt.alloc(), &mut access)),
+        cells: Mutex::new(WorkerCells::of(
+            rt.alloc(),
+            Plan::alone(Scoring::Winner, 0),
+            &mut access,
+        )),
         root,
         calls: AtomicU64::new(0),
         first: AtomicU64::new(64),
