@@ -29,13 +29,19 @@ def steps(crates):
     """A step for each build and run: its name, and what is wrong with it, if anything."""
     with tempfile.TemporaryDirectory() as folder, tempfile.TemporaryDirectory() as tests:
         program = os.path.abspath(f"{crates}/othsolve/out/othsolve")
-        yield "the C library is made", ran_wrong([f"{TOP}/examples/c/library.sh", folder, crates])
+        unmade = ran_wrong([f"{TOP}/examples/c/library.sh", folder, crates])
+        yield "the C library is made", unmade
+        if unmade:
+            return
         yield from example(folder)
         shutil.copy(f"{TOP}/hostile/c_calls.c", tests)
         for name in ("othsolve.h", "libothsolve.a"):
             shutil.copy(f"{folder}/{name}", tests)
         flags = ["-std=gnu11", *FLAGS[1:], "-I.", "-Wl,--wrap=malloc"]
-        yield "the C calls are built", ran_wrong(["cc", *flags, "c_calls.c", "libothsolve.a", "-pthread", "-o", "c_calls"], cwd=tests)
+        unbuilt = ran_wrong(["cc", *flags, "c_calls.c", "libothsolve.a", "-pthread", "-o", "c_calls"], cwd=tests)
+        yield "the C calls are built", unbuilt
+        if unbuilt:
+            return
         calls = f"{tests}/c_calls"
         yield "each refusal of a C call", ran_wrong([calls, "refusals"])
         lines = board_lines()

@@ -98,8 +98,9 @@ uint32_t oth_play(oth_board board, uint8_t square, oth_board *next);
 
 /* The score, all best moves and the kind of a board of at most 30 empty squares, by the caller's thread alone. The call
  * makes a table of `cells` cells of 32 bytes, and frees it: 0 for none, or 1, 2, 4 .. 262144. Where there is no memory it
- * does without: neither the table nor want of memory changes the answer. A table pays from some 14 empty squares on. The
- * time grows with the empty squares: about a millisecond at 10, tenths of a second at 16, seconds at 20.
+ * does without: neither the table nor want of memory changes the answer. A table pays from some 16 empty squares on. The
+ * time grows with the empty squares: on boards of games a millisecond at 12, some hundredths of a second at 16, some
+ * tenths at 18.
  * Refusals, the first that holds: OTH_OVERLAP, OTH_SCORING, OTH_EMPTIES, OTH_CELLS. */
 uint32_t oth_solve_alone(oth_board board, uint8_t scoring, uint32_t cells, oth_answer *answer);
 

@@ -1,7 +1,7 @@
 -- Boards as C has them.
 --     position b      the position of a board's words
 --     overlaps b      a square is in both words
-use Rattle.std.specs.Prelude.{ℕ, Bool, nat_lt, bit_and}
+use Rattle.std.specs.Prelude.{Bool, nat_lt, bit_and}
 use Rattle.oth_rules.specs.Position.{Position}
 use Rattle.oth_c.specs.declared.board.OthBoard.{OthBoard}
 

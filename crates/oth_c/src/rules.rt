@@ -1,6 +1,6 @@
 //! Moves, flips and play.
 
-ghost use Rattle.std.specs.Prelude.{◌≡◌, ◌≢◌, IfOk, IfErr};
+ghost use Rattle.std.specs.Prelude.{◌≡◌, ◌≢◌, ◌↔◌, false, IfOk, IfErr};
 ghost use Rattle.oth_rules.specs.Square.{word_of};
 ghost use Rattle.oth_rules.specs.Move.{after, is_flipped, is_legal};
 ghost use Rattle.oth_c.specs.Boards.{position};
@@ -27,11 +27,12 @@ pub extern "C" fn oth_moves(board: OthBoard, moves: &mut u64) -> u32
     }
 }
 
-/// Writes the discs that a move to the square flips: none where the move is illegal. Refusals 1 and 2, tested in this order.
+/// Writes the discs that a move to the square flips: none exactly where the move is illegal. Refusals 1 and 2, tested in this order.
 #[unsafe(no_mangle)]
 pub extern "C" fn oth_flips(board: OthBoard, square: u8, flips: &mut u64) -> u32
     ensures code { result ≡ square_code board square }
     ensures flips { result ≡ DONE → flips.new ≡ word_of (is_flipped (position board) square) }
+    ensures none { result ≡ DONE → (flips.new ≡ 0) ↔ (is_legal (position board) square ≡ false) }
     ensures kept { result ≢ DONE → flips.new ≡ flips.old }
 {
     match flipped(board, square) {
@@ -44,7 +45,9 @@ pub extern "C" fn oth_flips(board: OthBoard, square: u8, flips: &mut u64) -> u32
 }
 
 fn flipped(board: OthBoard, square: u8) -> Result<u64, Refusal>
-    ensures ok { IfOk result (λ w. (square_code board square ≡ DONE) × (w ≡ word_of (is_flipped (position board) square))) }
+    ensures ok { IfOk result (λ w. (square_code board square ≡ DONE)
+        × (w ≡ word_of (is_flipped (position board) square))
+        × ((w ≡ 0) ↔ (is_legal (position board) square ≡ false))) }
     ensures err { IfErr result (λ r. square_code board square ≡ code_of r) }
 {
     let board = board.board()?;

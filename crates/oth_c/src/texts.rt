@@ -27,20 +27,39 @@ pub extern "C" fn oth_read_board(text: &[u8], position: &mut OthPosition, place:
     ensures shown { (p : PositionShown) → reading text.now ≡ Ok p → position.new ≡ words_of p }
     ensures kept { (f : FaultOfLine) → reading text.now ≡ Err f → position.new ≡ position.old }
 {
-    *place = 0;
     match read_board(text) {
         Ok(read) => {
             *position = OthPosition::of(&read);
+            *place = 0;
             DONE
         }
-        Err(LineFault::Length) => 11,
-        Err(LineFault::BadCell(at)) => {
-            *place = at;
-            12
+        Err(fault) => {
+            *place = line_place(fault);
+            line_code(fault)
         }
-        Err(LineFault::Space) => 13,
-        Err(LineFault::Mover) => 14,
-        Err(LineFault::Empties(_)) => Refusal::Empties.code(),
+    }
+}
+
+// The number by which C knows a fault of a board line.
+fn line_code(fault: LineFault) -> u32
+    ensures { result ≡ line_code (Err fault) }
+{
+    match fault {
+        LineFault::Length => 11,
+        LineFault::BadCell(_) => 12,
+        LineFault::Space => 13,
+        LineFault::Mover => 14,
+        LineFault::Empties(_) => Refusal::Empties.code(),
+    }
+}
+
+// The place of a bad cell, and else 0.
+fn line_place(fault: LineFault) -> u8
+    ensures { result ≡ line_place (Err fault) }
+{
+    match fault {
+        LineFault::BadCell(place) => place,
+        _ => 0,
     }
 }
 
@@ -57,18 +76,41 @@ pub extern "C" fn oth_read_transcript(
     ensures shown { (p : PositionShown) → transcript_reading text.now ≡ Ok p → position.new ≡ words_of p }
     ensures kept { (f : FaultOfTranscript) → transcript_reading text.now ≡ Err f → position.new ≡ position.old }
 {
-    let (code, at) = match read_transcript(text) {
+    match read_transcript(text) {
         Ok(read) => {
             *position = OthPosition::of(&read);
-            (DONE, 0)
+            *place = 0;
+            DONE
         }
-        Err(TranscriptFault::OddLength) => (21, 0),
-        Err(TranscriptFault::BadPair(at)) => (22, at),
-        Err(TranscriptFault::Illegal(at)) => (23, at),
-        Err(TranscriptFault::Over(at)) => (24, at),
-    };
-    *place = at;
-    code
+        Err(fault) => {
+            *place = transcript_place(fault);
+            transcript_code(fault)
+        }
+    }
+}
+
+// The number by which C knows a fault of a transcript.
+fn transcript_code(fault: TranscriptFault) -> u32
+    ensures { result ≡ transcript_code (Err fault) }
+{
+    match fault {
+        TranscriptFault::OddLength => 21,
+        TranscriptFault::BadPair(_) => 22,
+        TranscriptFault::Illegal(_) => 23,
+        TranscriptFault::Over(_) => 24,
+    }
+}
+
+// The number of the faulty pair, and else 0.
+fn transcript_place(fault: TranscriptFault) -> u8
+    ensures { result ≡ transcript_place (Err fault) }
+{
+    match fault {
+        TranscriptFault::OddLength => 0,
+        TranscriptFault::BadPair(pair) => pair,
+        TranscriptFault::Illegal(pair) => pair,
+        TranscriptFault::Over(pair) => pair,
+    }
 }
 
 /// Prints the board line of a position, 66 bytes, into the front of a buffer. Refusals 1, 8 and 7, tested in this order.

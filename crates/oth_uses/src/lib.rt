@@ -2,6 +2,7 @@
 #![tactic(auto)]
 
 mod book_and_workers;
+mod engine_cells;
 mod game;
 mod own_sink;
 mod shared_table;
@@ -10,6 +11,7 @@ mod solved_board;
 mod tests;
 
 pub use book_and_workers::{NoAnswer, solve_by_book};
+pub use engine_cells::bounds_about;
 pub use game::board_after;
 pub use own_sink::{Kept, kept_report};
 pub use shared_table::solve_both;

@@ -1,7 +1,10 @@
 //! Each caller once, on boards whose answers are known.
 
-use crate::{Unsolved, best_moves, board_after, kept_report, solve_both, solve_by_book};
-use oth_rules::Board;
+use crate::{
+    Unsolved, best_moves, board_after, bounds_about, kept_report, solve_both, solve_by_book,
+};
+use oth_rules::{Board, Scoring};
+use oth_table::{SharedTable, TableCells};
 use std::test::Fail;
 
 // Row 1 `--OXOOO-`, all other cells O: the mover X has d1.
@@ -40,6 +43,21 @@ fn two_threads_solve_over_one_table(rt: HostRuntime) -> Result<(), Fail> {
     };
     assert!(rt; first.score == -50 && second.score == 50);
     Ok(())
+}
+
+#[test]
+fn an_engine_asks_a_table(rt: HostRuntime) {
+    let Ok(board) = Board::of(A[0], A[1]) else {
+        panic!(rt; "no board")
+    };
+    let Ok((table, seat)) = SharedTable::new(rt.alloc(), 64, Scoring::Winner) else {
+        panic!(rt; "no table")
+    };
+    let mut cells = TableCells::of(&table, seat);
+    for alpha in [-52, -50, -52] {
+        let found = bounds_about(&mut cells, &board, alpha, Scoring::Winner);
+        assert!(rt; (found.interval.lower > alpha) == (alpha < -50));
+    }
 }
 
 #[test]

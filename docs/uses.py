@@ -1,0 +1,67 @@
+#!/usr/bin/env python3
+"""Compares the code that docs/LIBRARY.md shows with the files that it is taken from.
+
+    docs/uses.py [--write]
+
+In front of each block stands a line with the file's name alone, as `crates/oth_uses/src/game.rt`, in backquotes and with a colon. A block has to be
+that file word for word, and each caller of crates/oth_uses, the C example and the header's build line have to be shown. Each problem is a line; the last
+line is `N passed, M failed`, and the exit status is 1 where something failed. With `--write` the blocks are first filled from the files.
+"""
+import glob
+import os
+import re
+import sys
+
+TOP = os.path.dirname(os.path.dirname(os.path.abspath(__file__)))
+PAGE = "docs/LIBRARY.md"
+BLOCK = re.compile(r"^`([^`\n]+)`:\n\n```(\w+)\n(.*?)^```$", re.MULTILINE | re.DOTALL)
+NOT_SHOWN = ("lib.rt", "tests.rt")
+BUILD = re.compile(r"cc -O2 -I\. worked\.c libothsolve\.a -o worked")
+
+
+def read(name):
+    with open(f"{TOP}/{name}", encoding="utf-8") as file:
+        return file.read()
+
+
+def write_blocks():
+    filled = BLOCK.sub(lambda block: f"`{block[1]}`:\n\n```{block[2]}\n{read(block[1])}```", read(PAGE))
+    with open(f"{TOP}/{PAGE}", "w", encoding="utf-8") as file:
+        file.write(filled)
+
+
+def wanted():
+    """The files that the page has to show."""
+    callers = (os.path.relpath(file, TOP) for file in sorted(glob.glob(f"{TOP}/crates/oth_uses/src/*.rt")))
+    return [*(file for file in callers if os.path.basename(file) not in NOT_SHOWN), "examples/c/worked.c"]
+
+
+def problems():
+    """For each thing that is compared its problem, or None."""
+    page = read(PAGE)
+    shown = {block[1]: block[3] for block in BLOCK.finditer(page)}
+    for name in wanted():
+        yield None if name in shown else f"{PAGE} doesn't show {name}"
+    for name, text in shown.items():
+        if not os.path.isfile(f"{TOP}/{name}"):
+            yield f"{PAGE}: there is no {name}"
+        else:
+            yield None if text == read(name) else f"{PAGE}: the block of {name} is not that file"
+    for name in ("include/othsolve.h", "examples/c/worked.c", "examples/c/library.sh", PAGE):
+        yield None if BUILD.search(read(name)) else f"{name}: another build line"
+
+
+def main():
+    if "--write" in sys.argv[1:]:
+        write_blocks()
+    found = list(problems())
+    for problem in found:
+        if problem:
+            print(problem)
+    failed = sum(problem is not None for problem in found)
+    print(f"{len(found) - failed} passed, {failed} failed")
+    return 1 if failed else 0
+
+
+if __name__ == "__main__":
+    sys.exit(main())
