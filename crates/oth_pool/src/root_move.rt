@@ -47,7 +47,7 @@ impl RootMove {
         walk.keep(self.square, found);
     }
 
-    // What is found of the board after the move, until it is settled by this worker or another.
+    // What is found of the board after the move, until it is settled by this worker or another. The others learn it by the cells.
     fn pursue<C: Cells>(&self, walk: &mut Walk<C>) -> Solved {
         let mut found = walk.told(&self.child);
         let mut pace = Pace::new();
@@ -61,6 +61,7 @@ impl RootMove {
             let before = found.interval;
             let window = self.window(before, least, pace, walk);
             found = found.joined(&narrow(self.child, window, MOST_PLIES, walk));
+            walk.put(&found);
             walk.raise_by(&self.root, self.square, &found);
             pace = pace.after(before, found.interval);
             if found.interval == before && walk.floor() == least {

@@ -32,17 +32,6 @@ impl Window {
         }
     }
 
-    /// The window of all values below this score.
-    pub fn below(score: i8) -> Window
-        requires low { negsuc 63 ≤ℤ score }
-        requires high { score ≤ℤ pos 64 }
-    {
-        Window {
-            alpha: -65,
-            beta: score,
-        }
-    }
-
     /// The same window as the opponent sees it.
     pub fn turned(self) -> Window {
         Window {
@@ -98,10 +87,9 @@ const OFF: i8 = 4;
 // The widest step.
 const WIDEST: i8 = 63;
 
-/// How far a search for a value has come: how often its upper bound fell, and how far beyond a bound is asked next.
+/// How far beyond a bound a search for a value asks next.
 #[derive(Clone, Copy)]
 pub(crate) struct Pace {
-    falls: u8,
     step: i8,
     ghost range: { (pos 1 ≤ℤ step) × (step ≤ℤ pos 63) },
 }
@@ -109,24 +97,17 @@ pub(crate) struct Pace {
 impl Pace {
     /// Nothing has been asked.
     pub fn new() -> Pace {
-        Pace { falls: 0, step: 1 }
+        Pace { step: 1 }
     }
 
     /// After a search by which these bounds became those. Steps widen as long as they lead on.
     pub fn after(self, before: Interval, now: Interval) -> Pace {
-        let fell = now.upper < before.upper;
-        let falls = if fell {
-            self.falls.saturating_add(1)
-        } else {
-            self.falls
-        };
-        if fell || now.upper == 64 {
+        if now.upper < before.upper || now.upper == 64 {
             return Pace {
-                falls,
                 step: wider(self.step),
             };
         }
-        Pace { falls, step: 1 }
+        Pace { step: 1 }
     }
 
     /// The null window that is asked next of a value between these bounds: a step below the upper one, or above the lower one where
