@@ -4,7 +4,7 @@
     hostile/run.py [CRATES] [WORD ..]
 
 CRATES is the folder of the crates, `crates` if not given. Each step is a line, `ok` or `FAILED` and its name, and after a failure what is
-wrong. With words only the steps are run whose part (`statuses`, `differential`, `refusals`, `c_library`) is one of them. The last line is
+wrong. With words only the steps are run whose part (`statuses`, `differential`, `recipes`, `refusals`, `c_library`) is one of them. The last line is
 `N passed, M failed`; the exit status is 1 where a step failed.
 """
 import os
@@ -12,6 +12,7 @@ import sys
 
 import c_library
 import differential
+import recipes
 import refusals
 import statuses
 
@@ -22,6 +23,7 @@ def steps(crates, parts):
     every = {
         "statuses": lambda: statuses.steps(program),
         "differential": lambda: differential.steps(program),
+        "recipes": lambda: recipes.steps(program),
         "refusals": lambda: refusals.steps(crates),
         "c_library": lambda: c_library.steps(crates),
     }

@@ -1,0 +1,126 @@
+"""Runs each recipe of docs/RECIPES.md as it stands there, and wants the output that the page shows.
+
+A recipe is a section of the page. Each of its blocks marked `bash` is run, in their order by one shell, and has to end with status 0 and to write
+the block marked `text` that comes right behind it, word for word, or nothing where there is none. A recipe begins in an empty folder with a copy
+of examples, and with `othsolve` on the PATH. One whose tool isn't installed is passed over. What is written to standard error isn't compared.
+"""
+import os
+import re
+import shutil
+import subprocess
+import tempfile
+
+TOP = os.path.dirname(os.path.dirname(os.path.abspath(__file__)))
+PAGE = f"{TOP}/docs/RECIPES.md"
+SECTION = re.compile(r"^## (.*)$", re.MULTILINE)
+BLOCK = re.compile(r"^```bash\n(.*?)^```\n(?:\n```text\n(.*?)^```\n)?", re.MULTILINE | re.DOTALL)
+BEGIN = "Begin here"
+SEVERAL = "A collection on several machines"
+TOOLS = ("pv", "parallel", "ssh")
+LEAST = 9
+PATIENCE = 20
+
+# In place of ssh: every machine is this one, but some are lost.
+STAND_IN = """#!/usr/bin/env bash
+while [[ $1 == -* ]]; do shift; done
+machine=$1
+shift
+[[ $1 == -- ]] && shift
+case $machine in
+refuses) exit 255 ;;
+dies_early) head -c 100 > /dev/null; echo +0 a1; exit 255 ;;
+dies_late) bash -c "$*" | head -n 1; exit 255 ;;
+esac
+exec bash -c "$*"
+"""
+HERE = "machines=1/:\n"
+LOST = ("refuses", "dies_early", "dies_late")
+
+
+def recipes():
+    """The sections of the page that have blocks: title, and the blocks, each with what it writes."""
+    with open(PAGE, encoding="utf-8") as file:
+        parts = SECTION.split(file.read())
+    sections = zip(parts[1::2], parts[2::2])
+    return {title: blocks for title, text in sections if (blocks := BLOCK.findall(text))}
+
+
+def steps(program):
+    """A step for each recipe: its name, and what is wrong with it, if anything."""
+    page = recipes()
+    yield f"recipes: at least {LEAST} stand on the page", None if len(page) >= LEAST else f"found {list(page)}"
+    for title, blocks in page.items():
+        missing = missing_tools(blocks)
+        if missing:
+            yield f"recipe passed over, since {' and '.join(missing)} isn't installed: {title}", None
+        elif title == BEGIN:
+            yield f"recipe: {title}", begin(blocks)
+        else:
+            yield f"recipe: {title}", cooked(program, blocks)
+    if SEVERAL not in page:
+        yield SEVERAL, "isn't on the page"
+    elif shutil.which("parallel"):
+        yield from lost_machines(program, page[SEVERAL])
+
+
+def missing_tools(blocks):
+    """The tools that the blocks name and that aren't installed."""
+    return [tool for tool in TOOLS if not shutil.which(tool) and any(re.search(rf"\b{tool}\b", code) for code, _ in blocks)]
+
+
+def begin(blocks):
+    """What is wrong with the first lines of the page, if anything: from the top of the repository they lead to a copy of examples."""
+    with tempfile.TemporaryDirectory() as folder:
+        return wrong(blocks + [("ls\n", "examples\n")], TOP, {"TMPDIR": folder})
+
+
+def cooked(program, blocks, stand_in=None):
+    """What is wrong with a recipe, if anything."""
+    with tempfile.TemporaryDirectory() as folder, tempfile.TemporaryDirectory() as tools:
+        shutil.copytree(f"{TOP}/examples", f"{folder}/examples")
+        os.symlink(program, f"{tools}/othsolve")
+        if stand_in:
+            with open(f"{tools}/ssh", "w", encoding="ascii") as file:
+                file.write(stand_in)
+            os.chmod(f"{tools}/ssh", 0o755)
+        return wrong(blocks, folder, {"HOME": tools, "PATH": f"{tools}:{os.environ['PATH']}"})
+
+
+def wrong(blocks, folder, environment):
+    """What is wrong with what a shell makes of the blocks in the folder, if anything."""
+    script = "".join(f"{code}printf '\\nstatus %s\\0' $?\n" for code, _ in blocks)
+    wanted = [f"{text}\nstatus 0" for _, text in blocks]
+    environment = {**os.environ, "SHELL": "/bin/bash", **environment}
+    try:
+        ran = subprocess.run(
+            ["bash", "-c", script],
+            cwd=folder,
+            env=environment,
+            stdin=subprocess.DEVNULL,
+            stdout=subprocess.PIPE,
+            stderr=subprocess.PIPE,
+            text=True,
+            timeout=PATIENCE,
+            check=False,
+        )
+    except subprocess.TimeoutExpired as error:
+        return str(error)
+    found = ran.stdout.split("\0")[:-1]
+    for at, (got, want) in enumerate(zip(found, wanted), 1):
+        if got != want:
+            return f"block {at} wrote {got!r} in place of {want!r}, and {ran.stderr[:300]!r}"
+    return None if len(found) == len(wanted) else f"{len(found)} blocks of {len(wanted)} were run, {ran.stderr[:300]!r}"
+
+
+def lost_machines(program, blocks):
+    """Where one of two machines is lost, the answers are the same; where the only one is, they are missing and the status counts them."""
+    for machine in LOST:
+        yield f"several machines, and one {machine}", cooked(program, among(blocks, f"1/:,1/{machine}"), STAND_IN)
+    yield "several machines by ssh", cooked(program, among(blocks, "1/one,2/two"), STAND_IN)
+    code, _ = among(blocks, "1/refuses")[0]
+    yield "the only machine refuses", cooked(program, [(f"{code}(( $? == 2 ))\n", "")], STAND_IN)
+
+
+def among(blocks, machines):
+    """The blocks with other machines."""
+    return [(code.replace(HERE, f"machines={machines}\n"), text) for code, text in blocks]
