@@ -14,6 +14,9 @@ It tests, in each document:
 - of docs/THEOREM.md: that below each such heading the calls, types and definitions name nothing in a contract, a model or a definition
   that isn't listed there or above, a definition nothing that stands below it, and that each definition is one that is named;
 - that each board line has 64 cells;
+- of docs/TESTED.md: that each test stands in the crate and the module that are named with it;
+- of docs/WRONG_BODIES.md: that each `CRATE/NAME` is an edit of that crate's must-fail/, each name that follows it one too or a test of that
+  crate, and each other name with an underscore an edit, a function or a part of a crate;
 - that the headline is word for word the same wherever it stands, and that the README has at most 120 lines;
 - that the tables and the plot of the measured figures are those of bench/figures.txt (`bench/plot.py --check`);
 - that groff, where there is one, shows the man page without a warning.
@@ -296,6 +299,86 @@ def is_part(target):
     return path.suffix == ".antt" and path.exists() and all(declared(path, line) != target[1] for line in lines_of(path))
 
 
+# ---- tests and edits that are named
+
+SNAKE = re.compile(r"[a-z]\w*_\w*")
+TEST = re.compile(r"#\[test\]\s*(?:#\[[^\]]*\]\s*)*fn (\w+)")
+
+
+class Crate:
+    """The edits of a crate, its functions, its tests by their module, and its files."""
+
+    def __init__(self, path):
+        self.edits = {edit.stem for edit in path.glob("must-fail/*.edit")}
+        self.functions, self.modules, self.files = set(), {}, {path.name}
+        for file in path.glob("src/**/*.rt"):
+            text = file.read_text(encoding="utf-8")
+            module = "::".join(file.relative_to(path / "src").with_suffix("").parts)
+            self.files.add(file.stem)
+            self.functions.update(re.findall(r"\bfn (\w+)", text))
+            self.modules[module] = set(TEST.findall(text))
+        self.tests = set().union(*self.modules.values())
+
+
+def crates():
+    return {path.name: Crate(path) for path in sorted((ROOT / "crates").iterdir()) if path.is_dir()}
+
+
+def last_cells(document, heading):
+    """The last cell of each row of the tables whose last column has this heading, with its line."""
+    inside = False
+    for number, line in enumerate(lines_of(document), 1):
+        if not line.startswith("|"):
+            inside = False
+        elif line.rstrip(" |").endswith(f"| {heading}"):
+            inside = True
+        elif inside and not line.startswith("|---"):
+            yield number, line.rstrip(" |").split(" | ")[-1]
+
+
+def test_tested(known):
+    document = ROOT / "docs/TESTED.md"
+    for number, cell in last_cells(document, "Test"):
+        crate, module = None, None
+        for name in re.findall(r"`([^`]+)`", cell):
+            if name in known:
+                crate, module = known[name], None
+            elif crate and name in crate.modules:
+                module = name
+            elif re.fullmatch(r"[\w:]+", name):
+                there = crate and name in crate.modules.get(module, ())
+                test(there, f"{shown(document)}:{number}: no test {name} in the crate and module that are named before it")
+
+
+def test_wrong_bodies(known):
+    document = ROOT / "docs/WRONG_BODIES.md"
+    refused = dict(last_cells(document, "Refused by"))
+    every = set().union(*(crate.edits | crate.functions | crate.files for crate in known.values()))
+    for number, line in enumerate(lines_of(document), 1):
+        crate = None
+        for name in re.findall(r"`([^`]+)`", refused.get(number, "")):
+            owner, _, edit = name.rpartition("/")
+            if name in known:
+                crate = known[name]
+            elif owner in known:
+                crate = known[owner]
+                test(edit in crate.edits, f"{shown(document)}:{number}: no edit {edit} in {owner}")
+            elif crate and SNAKE.fullmatch(name):
+                test(name in crate.edits | crate.tests, f"{shown(document)}:{number}: no edit or test {name} in the crate named before it")
+        for name in re.findall(r"`([^`/]+)`", line):
+            if SNAKE.fullmatch(name):
+                test(name in every, f"{shown(document)}:{number}: no edit, function or part of a crate {name}")
+        if "test" in line:
+            for name, owner in re.findall(r"`([a-z]\w*_\w*)` of `(\w+)`", line):
+                test(owner in known and name in known[owner].tests, f"{shown(document)}:{number}: no test {name} in {owner}")
+
+
+def test_names():
+    known = crates()
+    test_tested(known)
+    test_wrong_bodies(known)
+
+
 # ---- what is said more than once, and what is made
 
 def test_headline():
@@ -324,6 +407,7 @@ def main():
             test_lines(document, number, line)
             test_boards(document, number, line)
     test_counts()
+    test_names()
     test_theorem()
     test_headline()
     test_made()
