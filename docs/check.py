@@ -14,6 +14,7 @@ It tests, in each document:
 - of docs/THEOREM.md: that below each such heading the calls, types and definitions name nothing in a contract, a model or a definition
   that isn't listed there or above, a definition nothing that stands below it, and that each definition is one that is named;
 - that each board line has 64 cells;
+- that in each row `| `CONSTANT` | `PATH` | `VALUE` |` of a table the file gives the constant that value;
 - of docs/TESTED.md: that each test stands in the crate and the module that are named with it;
 - of docs/WRONG_BODIES.md: that each `CRATE/NAME` is an edit of that crate's must-fail/, each name that follows it one too or a test of that
   crate, and each other name with an underscore an edit, a function or a part of a crate;
@@ -31,6 +32,7 @@ import sys
 ROOT = pathlib.Path(__file__).resolve().parent.parent
 FOLDERS = r"crates|docs|bench|examples|hostile|\.ci"
 ROW = re.compile(r"^\| `([^`]+)` \| \[?`([^`:]+):(\d+)`(?:\]\(([^)]*)\))? \|")
+VALUE = re.compile(r"^\| `([A-Z_]+)` \| `([^`]+)` \| `([^`]+)` \|")
 HEADING = re.compile(r"^(#+) (.*)$")
 COUNT = re.compile(r"\b(\d+) definitions\b")
 SPEC = re.compile(r"^ *(?:(?:unfoldable|abbrev) +(?:pub +)?|pub +(?=data|record))(?:data +|record +)?([^\s:(){}]+)")
@@ -129,6 +131,15 @@ def test_lines(document, number, line):
 def link_to(document, path, line):
     """The target by which the document leads to a line of the file."""
     return f"{os.path.relpath(path, document.parent)}#L{line}"
+
+
+def test_values(document, number, line):
+    row = VALUE.match(line)
+    if row:
+        name, path, value = row.groups()
+        text = (ROOT / path).read_text(encoding="utf-8") if (ROOT / path).exists() else ""
+        found = re.findall(rf"\bconst {name}: \w+ = (.*);", text)
+        test(found == [value], f"{shown(document)}:{number}: {name} of {path} isn't {value}")
 
 
 def test_boards(document, number, line):
@@ -406,6 +417,7 @@ def main():
             test_paths(document, number, line)
             test_lines(document, number, line)
             test_boards(document, number, line)
+            test_values(document, number, line)
     test_counts()
     test_names()
     test_theorem()
