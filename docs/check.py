@@ -15,6 +15,7 @@ It tests, in each document:
   that isn't listed there or above, a definition nothing that stands below it, and that each definition is one that is named;
 - that each board line has 64 cells;
 - that in each row `| `CONSTANT` | `PATH` | `VALUE` |` of a table the file gives the constant that value;
+- of docs/DECISIONS.md: that its entries are numbered one after the other, from 1;
 - of docs/TESTED.md: that each test stands in the crate and the module that are named with it;
 - of docs/WRONG_BODIES.md: that each `CRATE/NAME` is an edit of that crate's must-fail/, each name that follows it one too or a test of that
   crate, and each other name with an underscore an edit, a function or a part of a crate;
@@ -384,6 +385,11 @@ def test_wrong_bodies(known):
                 test(owner in known and name in known[owner].tests, f"{shown(document)}:{number}: no test {name} in {owner}")
 
 
+def test_decisions():
+    found = [int(match) for match in re.findall(r"(?m)^### (\d+)\. ", (ROOT / "docs/DECISIONS.md").read_text(encoding="utf-8"))]
+    test(found == list(range(1, len(found) + 1)), "docs/DECISIONS.md: its entries aren't numbered one after the other")
+
+
 def test_names():
     known = crates()
     test_tested(known)
@@ -420,6 +426,7 @@ def main():
             test_values(document, number, line)
     test_counts()
     test_names()
+    test_decisions()
     test_theorem()
     test_headline()
     test_made()
