@@ -8,7 +8,7 @@ top=$(cd "$(dirname "$0")/../.." && pwd)
 folder=$(cd "$1" && pwd)
 crates=$(cd "${2:-$top/crates}" && pwd)
 heap=$(dirname "$(rt doc)")/c/liblibc_c.a
-[ -f "$crates/oth_c/out/liboth_c.a" ] || (cd "$crates/oth_c" && rt lib)
+[ -f "$crates/oth_c/out/liboth_c.a" ] || (cd "$crates/oth_c" && rt lib) >&2
 ar -M <<SCRIPT
 CREATE $folder/libothsolve.a
 ADDLIB $crates/oth_c/out/liboth_c.a

@@ -1,4 +1,4 @@
-//! Want of memory. Each of these tests holds whichever one of its requests for memory is refused; `bench/refusals.py` runs each of
+//! Want of memory. Each of these tests holds whichever one of its requests for memory is refused; `hostile/refusals.py` runs each of
 //! them once for each request, thread starts among them.
 
 use super::crews::BOARDS;
@@ -44,7 +44,7 @@ fn check_a<R: Threads + Sync + AllocGlobal + Abort>(rt: &R, cells: u32) {
     assert!(rt; found.is_some_and(|(score, best, _)| score == -50 && best == 0x80));
 }
 
-// `bench/refusals.py` compares how many requests this test and the next two make.
+// `hostile/refusals.py` compares how many requests this test and the next two make.
 #[test]
 fn a_without_cells(rt: HostRuntime) {
     check_a(&rt, 0);
