@@ -5,12 +5,12 @@ use arrayvec::ArrayVec;
 use oth_rules::Board;
 
 /// The most boards of a batch.
-const MOST_BOARDS: usize = 256;
+const MOST_BOARDS: usize = 1_024;
 
 /// No more boards are taken from so much work on: some ten seconds of one worker, so that answers don't wait long for each other.
 const MOST_EFFORT: u64 = 1 << 28;
 
-/// Boards that wait to be solved together: at most 256, and no more when they are some seconds of work.
+/// Boards that wait to be solved together: at most 1,024, and no more when they are some seconds of work.
 #[derive(Drop)]
 pub struct Boards {
     list: ArrayVec<Board, MOST_BOARDS>,

@@ -19,7 +19,7 @@ use std::thread::Threads;
 const MOST_EMPTIES: u8 = 30;
 
 /// The most lines that are looked at together.
-const MOST_LINES: usize = 256;
+const MOST_LINES: usize = 1_024;
 
 /// Answers of boards of the next lines. A board whose answer isn't there is solved when its line's turn comes.
 #[derive(Drop)]

@@ -20,7 +20,7 @@ use std::alloc::Global;
 use std::sync::Wait;
 use std::thread::Threads;
 
-const BUFFER_LEN: usize = 16_384;
+const BUFFER_LEN: usize = 65_536;
 
 /// The line that has begun, answers of the next lines, and the bytes of the report that wait to be written.
 #[derive(Drop)]
