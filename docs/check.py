@@ -4,7 +4,7 @@
     docs/check.py            tests, prints a line for each fault, and ends with `N passed, M failed`; status 1 where a test failed
     docs/check.py --lines    first puts the file and line of each row `| `NAME` | `PATH:LINE` |` right, where NAME has moved
 
-It tests, in each document:
+It tests, in each document and, where it says so, in the code:
 - that each link leads to a file of this repository, and to a heading of it where it has one;
 - that each path of this repository stands in it, also one relative to a crate (`src/`, `specs/`, `proofs/`, `must-fail/`);
   NAME and `*` stand for anything, and what lies in `out/` is made by `rt`;
@@ -15,12 +15,15 @@ It tests, in each document:
   that isn't listed there or above, a definition nothing that stands below it, and that each definition is one that is named;
 - that each board line has 64 cells;
 - that in each row `| `CONSTANT` | `PATH` | `VALUE` |` of a table the file gives the constant that value;
+- of docs/ARCHITECTURE.md: that the lemmas which it lists for a crate are those that proofs of other crates import;
 - of docs/DECISIONS.md: that its entries are numbered one after the other, from 1;
 - of docs/TESTED.md: that each test stands in the crate and the module that are named with it;
 - of docs/WRONG_BODIES.md: that each `CRATE/NAME` is an edit of that crate's must-fail/, each name that follows it one too or a test of that
   crate, and each other name with an underscore an edit, a function or a part of a crate;
 - that the headline is word for word the same wherever it stands, and that the README has at most 120 lines;
+- of each file of code: that its first line is a head (`//!`), and that no line is longer than 120 characters;
 - that the tables and the plot of the measured figures are those of bench/figures.txt (`bench/plot.py --check`);
+- that the version is the same in the code, docs/FORMATS.md, the man page and hostile/statuses.py;
 - that groff, where there is one, shows the man page without a warning.
 """
 import os
@@ -31,6 +34,7 @@ import subprocess
 import sys
 
 ROOT = pathlib.Path(__file__).resolve().parent.parent
+WIDTH = 120
 FOLDERS = r"crates|docs|bench|examples|hostile|\.ci"
 ROW = re.compile(r"^\| `([^`]+)` \| \[?`([^`:]+):(\d+)`(?:\]\(([^)]*)\))? \|")
 VALUE = re.compile(r"^\| `([A-Z_]+)` \| `([^`]+)` \| `([^`]+)` \|")
@@ -53,7 +57,7 @@ def test(holds, fault):
 
 
 def documents():
-    patterns = ("*.md", "docs/*.md", "docs/*.1", "crates/*/README.md", "bench/*.md", "hostile/*.md", "examples/*.md")
+    patterns = ("*.md", "docs/*.md", "docs/*.1", "crates/*/*.md", "bench/*.md", "hostile/*.md", "examples/*.md")
     return sorted(path for pattern in patterns for path in ROOT.glob(pattern))
 
 
@@ -390,10 +394,40 @@ def test_decisions():
     test(found == list(range(1, len(found) + 1)), "docs/DECISIONS.md: its entries aren't numbered one after the other")
 
 
+IMPORT = re.compile(r"\bRattle\.(oth_\w+)\.proofs\.([A-Z]\w*)")
+
+
+def test_lemmas():
+    used = {}
+    for file in ROOT.glob("crates/*/*/**/*.antt"):
+        crate, folder = file.relative_to(ROOT / "crates").parts[:2]
+        if folder in ("proofs", "specs"):
+            for owner, lemmas in IMPORT.findall(file.read_text(encoding="utf-8")):
+                if owner != crate:
+                    used.setdefault(owner, set()).add(lemmas)
+    listed = {}
+    for number, cell in last_cells(ROOT / "docs/ARCHITECTURE.md", "Lemmas"):
+        owner = re.match(r"\| `(\w+)`", lines_of(ROOT / "docs/ARCHITECTURE.md")[number - 1]).group(1)
+        listed[owner] = set(re.findall(r"`(\w+)`", cell))
+    for owner in used.keys() | listed.keys():
+        differ = sorted(used.get(owner, set()) ^ listed.get(owner, set()))
+        test(not differ, f"docs/ARCHITECTURE.md: the lemmas of {owner} that are used above it: {', '.join(differ)}")
+
+
 def test_names():
     known = crates()
     test_tested(known)
     test_wrong_bodies(known)
+
+
+# ---- the code
+
+def test_code():
+    for path in sorted(ROOT.glob("crates/*/src/**/*.rt")):
+        text = lines_of(path)
+        test(text[0].startswith("//! "), f"{shown(path)}:1: no head")
+        long = [str(number) for number, line in enumerate(text, 1) if len(line) > WIDTH]
+        test(not long, f"{shown(path)}: more than {WIDTH} characters in line {', '.join(long)}")
 
 
 # ---- what is said more than once, and what is made
@@ -403,6 +437,13 @@ def test_headline():
     test(len(said) == 1, f"the headline is said in {len(said)} ways")
     length = len(lines_of(ROOT / "README.md")) - 1
     test(length <= 120, f"README.md has {length} lines")
+
+
+def test_version():
+    code = (ROOT / "crates/oth_words/src/command_line.rt").read_text(encoding="utf-8")
+    version = re.search(r'const VERSION: &str = "(.*)";', code).group(1)
+    for name, text in (("docs/FORMATS.md", "`othsolve {}`"), ("docs/othsolve.1", '"Pahkrin {}"'), ("hostile/statuses.py", 'b"othsolve {}\\n"')):
+        test(text.format(version) in (ROOT / name).read_text(encoding="utf-8"), f"{name}: the version isn't {version}")
 
 
 def test_made():
@@ -426,9 +467,12 @@ def main():
             test_values(document, number, line)
     test_counts()
     test_names()
+    test_lemmas()
     test_decisions()
     test_theorem()
+    test_code()
     test_headline()
+    test_version()
     test_made()
     for fault in faults:
         print(fault)

@@ -31,6 +31,7 @@ def steps(program):
         name = f"a book of {BOOKED} boards, added to, verified and asked: {scoring}"
         yield name, by_book(program, scoring, lines, [line[at] for line in wanted])
     yield from side_by_side(program)
+    yield from book_side_by_side(program)
 
 
 def side_by_side(program):
@@ -42,6 +43,40 @@ def side_by_side(program):
     for workers in ("2", "4", "16"):
         name = f"{WAITING} boards of 0 to {MOST_EMPTIES_WAITING} empty squares side by side by {workers} workers as by one"
         yield name, difference([program, "solve", "--workers", workers], lines, alone)
+
+
+def book_side_by_side(program):
+    """A book that several workers add to and verify is that of one worker, and so is the wrong entry that they name."""
+    boards = minimax.boards(SEED + 1, WAITING, MOST_EMPTIES_WAITING)
+    text = "".join(f"{minimax.board_line(*board)}\n" for board in boards).encode()
+    with tempfile.NamedTemporaryFile() as empty, tempfile.NamedTemporaryFile() as wrong:
+        empty.write(b"OBOOK2 W\nEND 000000\n")
+        empty.flush()
+        books = {workers: output([program, "book-add", "--workers", workers, empty.name], text) for workers in ("1", "2", "4", "16")}
+        lines = books["1"][1].splitlines(True)
+        for workers in ("2", "4", "16"):
+            name = f"a book of {len(lines) - 2} boards, solved side by side by {workers} workers as by one"
+            yield name, None if len(lines) > WAITING // 2 and books[workers] == books["1"] else f"another text, or {books[workers][::2]}"
+        at = len(lines) * 2 // 3
+        wrong.write(b"".join([*lines[:at], with_another_score(lines[at]), *lines[at + 1 :]]))
+        wrong.flush()
+        for workers in ("1", "2", "4", "16"):
+            told = output([program, "solve", "--workers", workers, "--book", wrong.name], b"")
+            name = f"a book with entry {at} wrong, verified by {workers}"
+            yield name, None if told == (3, b"", f"book wrong 1 at {at}\n".encode()) else f"{told}"
+
+
+def output(words, text):
+    """The status, and what was written on standard output and on standard error."""
+    ran = subprocess.run(words, input=text, stdout=subprocess.PIPE, stderr=subprocess.PIPE, timeout=120, check=False)
+    return ran.returncode, ran.stdout, ran.stderr
+
+
+def with_another_score(entry):
+    """The line of an exact entry, with bounds that are another number."""
+    score = int(entry[65:68])
+    other = f"{score - 2 if score > 0 else score + 2:+03d}".encode()
+    return entry[:65] + other + b" " + other + entry[72:]
 
 
 def by_book(program, scoring, lines, wanted):

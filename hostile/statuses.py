@@ -9,6 +9,7 @@ START = "---------------------------OX------XO--------------------------- X"
 FULL_BOARD = "X" * 64 + " X"
 CORNERS = "X" * 60 + "OOO- X"
 EMPTY_BOOK = "OBOOK2 W\nEND 000000\n"
+VERSION = b"othsolve 0.1.0\n"
 MEGABYTE = 1 << 20
 LITTLE = 64
 PATIENCE = 20
@@ -45,6 +46,8 @@ def done(folder):
     yield Case("transcript", ["transcript"], b"\n", wrote=f"{START}\n".encode(), said=b"")
     yield Case("a last line without byte 10", ["solve"], FULL_BOARD.encode(), wrote=b"+64 end\n", said=b"")
     yield Case("help", ["--help"], said=b"")
+    yield Case("version", ["--version"], wrote=VERSION, said=b"")
+    yield Case("version in short", ["-V"], wrote=VERSION, said=b"")
     for command in ("solve", "moves", "transcript", "book-verify", "book-add"):
         yield Case(f"help of {command}", [command, "--help"], said=b"")
     yield Case("book-verify", ["book-verify", f"{folder}/empty.book"], wrote=b"book ok 0\n", said=b"")
@@ -87,6 +90,7 @@ def command_line(folder):
         ["solve", "--book"],
         ["solve", "board"],
         ["moves", "--workers", "1"],
+        ["solve", "--version"],
         ["nothing"],
         ["book-verify"],
         ["book-verify", book, book],
@@ -108,8 +112,8 @@ def devices(folder):
         yield Case(f"{name}: no such file", [*words, f"{folder}/nowhere"], status=1, wrote=b"", said=read)
         yield Case(f"{name}: a directory", [*words, folder], status=1, wrote=b"", said=read)
     yield Case("standard input is a directory", ["solve"], status=1, wrote=b"", said=read, stdin=os.open(folder, os.O_RDONLY))
-    for words in (["solve"], ["moves"], ["book-verify", f"{folder}/empty.book"], ["book-add", f"{folder}/empty.book"], ["--help"]):
-        said = b"" if words == ["--help"] else write
+    for words in (["solve"], ["moves"], ["book-verify", f"{folder}/empty.book"], ["book-add", f"{folder}/empty.book"], ["--help"], ["--version"]):
+        said = b"" if words[0].startswith("--") else write
         yield Case(f"{words[0]}: a full device", words, line, status=1, said=said, stdout=os.open("/dev/full", os.O_WRONLY))
         yield Case(f"{words[0]}: a broken pipe", words, line, status=1, said=said, stdout=broken_pipe())
         yield Case(f"{words[0]}: no standard output", words, line, status=1, said=said, preexec_fn=close_output)

@@ -2,13 +2,15 @@
 # Writes libothsolve.a: the static library of crates/oth_c, once it is proved, and the allocator's three functions of the toolchain in one file.
 #     examples/c/library.sh FOLDER [CRATES]
 # FOLDER gets libothsolve.a, othsolve.h and worked.c. Then, there: cc -O2 -I. worked.c libothsolve.a -o worked
-# CRATES is the folder of the crates, the repository's own if not given.
+# CRATES is the folder of crates whose library is taken as it is, if it is there; if not given, the repository's own are built first.
 set -e
 top=$(cd "$(dirname "$0")/../.." && pwd)
 folder=$(cd "$1" && pwd)
 crates=$(cd "${2:-$top/crates}" && pwd)
 heap=$(dirname "$(rt doc)")/c/liblibc_c.a
-[ -f "$crates/oth_c/out/liboth_c.a" ] || (cd "$crates/oth_c" && rt lib) >&2
+if [ -z "$2" ] || [ ! -f "$crates/oth_c/out/liboth_c.a" ]; then
+    (cd "$crates/oth_c" && rt lib) >&2
+fi
 ar -M <<SCRIPT
 CREATE $folder/libothsolve.a
 ADDLIB $crates/oth_c/out/liboth_c.a

@@ -1,6 +1,6 @@
 //! The boards of a batch, and the workers that take them from one queue.
 
-ghost use Rattle.std.specs.Prelude.{◌≡◌, All, IfSome};
+ghost use Rattle.std.specs.Prelude.{◌≡◌, All, Contains, IfSome};
 
 use crate::boards::Boards;
 use crate::effort::{MOST_EMPTIES_FOR_ONE, Split};
@@ -13,7 +13,7 @@ use std::alloc::Global;
 use std::thread;
 use std::thread::Threads;
 
-/// How often a steal that must be tried again is tried.
+// How often a steal that must be tried again is tried.
 const TRIES: u32 = 1_000;
 
 /// What the boards of a batch are solved with. No answer depends on any of it but the scoring.
@@ -36,10 +36,12 @@ pub struct Batch<'b, R, G> {
 }
 
 impl<'b, R: Threads + Sync, G: Gate> Batch<'b, R, G> {
-    /// Answers of boards that wait, solved side by side, each by one worker. It waits for its workers. Not each board has an answer:
-    /// left out are boards that are worth all workers, all boards where two workers don't pay, and those for which memory is wanting.
+    /// Answers of boards that wait, solved side by side, each by one worker. It waits for its workers. Not each board
+    /// has an answer: left out are boards that are worth all workers, all boards where two workers don't pay, and those
+    /// for which memory is wanting.
     pub fn answers(&self, boards: &Boards) -> Vec<Answer>
-        ensures { All (λ a. a.scoring ≡ self.now.scoring) result.items }
+        ensures boards { All (λ a. Contains boards.now a.board) result.items }
+        ensures scoring { All (λ a. a.scoring ≡ self.now.scoring) result.items }
     {
         let boards = boards.as_slice();
         let split = Split::of(boards, self.workers);
@@ -52,7 +54,7 @@ impl<'b, R: Threads + Sync, G: Gate> Batch<'b, R, G> {
         }
     }
 
-    /// The numbers of the boards that one worker solves, those that take long first.
+    // The numbers of the boards that one worker solves, those that take long first.
     fn queue_of(&self, boards: &[Board], split: Split) -> Option<Worker<usize>> {
         let Ok(mut queue) = Worker::new_fifo(self.alloc, boards.len()) else {
             return None;
@@ -71,9 +73,10 @@ impl<'b, R: Threads + Sync, G: Gate> Batch<'b, R, G> {
         Some(queue)
     }
 
-    /// What so many workers find of the boards in the queue.
+    // What so many workers find of the boards in the queue.
     fn answers_of_queue(&self, boards: &[Board], crew: usize, queue: &Worker<usize>) -> Vec<Answer>
-        ensures { All (λ a. a.scoring ≡ self.now.scoring) result.items }
+        ensures boards { All (λ a. Contains boards.now a.board) result.items }
+        ensures scoring { All (λ a. a.scoring ≡ self.now.scoring) result.items }
     {
         let Ok(stealer) = queue.stealer() else {
             return Vec::new(self.alloc);
@@ -83,18 +86,20 @@ impl<'b, R: Threads + Sync, G: Gate> Batch<'b, R, G> {
             self.alloc,
             crew,
             &|_: usize| -> Vec<Answer>
-                ensures { All (λ a. a.scoring ≡ self.entry.now.scoring) result.items }
+                ensures boards { All (λ a. Contains boards.entry.now a.board) result.items }
+                ensures scoring { All (λ a. a.scoring ≡ self.entry.now.scoring) result.items }
             { self.answers_by_one(boards, &stealer) },
         );
         match found {
-            Ok(lists) => self.joined(lists),
+            Ok(lists) => self.joined(boards, lists),
             Err(_) => Vec::new(self.alloc),
         }
     }
 
-    /// What one worker finds of the boards that it takes from the queue.
+    // What one worker finds of the boards that it takes from the queue.
     fn answers_by_one(&self, boards: &[Board], queue: &Stealer<usize>) -> Vec<Answer>
-        ensures { All (λ a. a.scoring ≡ self.now.scoring) result.items }
+        ensures boards { All (λ a. Contains boards.now a.board) result.items }
+        ensures scoring { All (λ a. a.scoring ≡ self.now.scoring) result.items }
     {
         let mut answers = Vec::new(self.alloc);
         for _ in 0..boards.len() {
@@ -111,9 +116,10 @@ impl<'b, R: Threads + Sync, G: Gate> Batch<'b, R, G> {
         answers
     }
 
-    /// The answer of the board of this number.
+    // The answer of the board of this number.
     fn answer_of(&self, boards: &[Board], number: usize) -> Option<Answer>
-        ensures { IfSome result (λ a. a.scoring ≡ self.now.scoring) }
+        ensures board { IfSome result (λ a. Contains boards.now a.board) }
+        ensures scoring { IfSome result (λ a. a.scoring ≡ self.now.scoring) }
     {
         let board = boards.get(number)?;
         let solved = solve(
@@ -129,12 +135,16 @@ impl<'b, R: Threads + Sync, G: Gate> Batch<'b, R, G> {
         solved.ok()
     }
 
-    /// All of the lists in one.
-    fn joined(&self, lists: Vec<Vec<Answer>>) -> Vec<Answer>
-        requires { All (λ list. All (λ a. a.scoring ≡ self.now.scoring) list.items) lists.items }
-        ensures { All (λ a. a.scoring ≡ self.now.scoring) result.items }
+    // All of the lists in one, which has room for an answer of each board.
+    fn joined(&self, boards: &[Board], lists: Vec<Vec<Answer>>) -> Vec<Answer>
+        requires boards { All (λ list. All (λ a. Contains boards.now a.board) list.items) lists.items }
+        requires scoring { All (λ list. All (λ a. a.scoring ≡ self.now.scoring) list.items) lists.items }
+        ensures boards { All (λ a. Contains boards.now a.board) result.items }
+        ensures scoring { All (λ a. a.scoring ≡ self.now.scoring) result.items }
     {
-        let mut all = Vec::new(self.alloc);
+        let Ok(mut all) = Vec::with_capacity(self.alloc, boards.len()) else {
+            return Vec::new(self.alloc);
+        };
         for list in lists.iter() {
             for answer in list.iter() {
                 if all.push(*answer).is_err() {
@@ -146,7 +156,7 @@ impl<'b, R: Threads + Sync, G: Gate> Batch<'b, R, G> {
     }
 }
 
-/// The first number of the queue.
+// The first number of the queue.
 fn next_of(queue: &Stealer<usize>) -> Option<usize> {
     for _ in 0..TRIES {
         match queue.steal() {

@@ -1,13 +1,17 @@
 //! Boards that wait to be solved together.
 
+ghost use Rattle.std.specs.Prelude.{◌≡◌, ◌⊎◌, ◌++◌, ◌∷◌, []};
+
 use crate::effort::{MOST_EMPTIES_FOR_ONE, effort};
 use arrayvec::ArrayVec;
 use oth_rules::Board;
+use std::marker::Model;
 
-/// The most boards of a batch.
+// The most boards of a batch.
 const MOST_BOARDS: usize = 1_024;
 
-/// No more boards are taken from so much work on: some ten seconds of one worker, so that answers don't wait long for each other.
+// No more boards are taken from so much work on: some ten seconds of one worker, so that answers don't wait long for
+// each other.
 const MOST_EFFORT: u64 = 1 << 28;
 
 /// Boards that wait to be solved together: at most 1,024, and no more when they are some seconds of work.
@@ -17,9 +21,20 @@ pub struct Boards {
     effort: u64,
 }
 
+impl Model for Boards {
+    ghost use Rattle.std.specs.Prelude.{List};
+    ghost use Rattle.oth_rules.specs.Position.{Position};
+
+    ghost Value = { List Position };
+
+    ghost view = { λ b. b.list.items };
+}
+
 impl Boards {
     /// No board waits.
-    pub fn new() -> Self {
+    pub fn new() -> Self
+        ensures { result ≡ [] }
+    {
         Boards {
             list: ArrayVec::new(),
             effort: 0,
@@ -32,14 +47,18 @@ impl Boards {
     }
 
     /// Lets the board wait too, if there is room and one worker is enough for it.
-    pub fn push(&mut self, board: Board) {
+    pub fn push(&mut self, board: Board)
+        ensures { (self.new ≡ self.old) ⊎ (self.new ≡ self.old ++ board ∷ []) }
+    {
         if board.empties() <= MOST_EMPTIES_FOR_ONE && self.list.try_push(board).is_ok() {
             self.effort = self.effort.saturating_add(effort(&board));
         }
     }
 
     /// The boards that wait.
-    pub fn as_slice(&self) -> &[Board] {
+    pub fn as_slice(&self) -> &[Board]
+        ensures { result.now ≡ self.now }
+    {
         self.list.as_slice()
     }
 }

@@ -4,13 +4,14 @@ ghost use Rattle.std.specs.Prelude.{◌≤◌};
 
 use oth_rules::Board;
 
-/// What starting a thread is worth, and a little more: some 0.3 milliseconds.
+// What starting a thread is worth, and a little more: some 0.3 milliseconds.
 const EFFORT_OF_A_THREAD: u64 = 1 << 13;
 
 /// Boards of more empty squares are left to all workers together, so that answers don't wait long for each other.
 pub const MOST_EMPTIES_FOR_ONE: u8 = 18;
 
-/// How long a board takes to solve, in units of some 40 nanoseconds: with two more empty squares five to six times as long.
+/// How long a board takes to solve, in units of some 40 nanoseconds: with two more empty squares five to six times as
+/// long.
 pub fn effort(board: &Board) -> u64 {
     1 << (board.empties() as u32 * 5 / 4).min(40)
 }
@@ -39,7 +40,8 @@ impl Split {
         }
     }
 
-    /// Whether one worker solves this board. One that takes longer than a worker's share of the batch is left to all of them.
+    /// Whether one worker solves this board. One that takes longer than a worker's share of the batch is left to all of
+    /// them.
     pub fn is_for_one(&self, board: &Board) -> bool {
         effort(board) <= self.most
     }

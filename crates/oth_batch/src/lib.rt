@@ -1,11 +1,15 @@
-//! Boards that wait together, solved side by side: each by one worker.
+//! Boards that wait together, solved side by side: each by one worker; and claims of a book that are tested so.
 #![tactic(auto)]
 
 mod batch;
 mod boards;
 mod effort;
+mod found;
 #[cfg(test)]
 mod tests;
+mod verifying;
 
 pub use batch::Batch;
 pub use boards::Boards;
+pub use found::answer_among;
+pub use verifying::verify_by;

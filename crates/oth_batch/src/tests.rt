@@ -1,30 +1,15 @@
 //! Boards that wait together are answered as one worker alone answers them.
 
 mod refused;
+mod verifying;
 
 use crate::{Batch, Boards};
 use oth_pool::Open;
-use oth_rules::{Board, Scoring, Square, Sym};
+use oth_rules::samples::after_least_moves;
+use oth_rules::{Board, Scoring, Sym};
 use oth_search::{Answer, solve_alone};
 use std::test::Fail;
 use std::thread::Threads;
-
-/// The start of a game, and from there the least-numbered legal moves, until so few squares are empty.
-fn after_least_moves(most_empties: u8) -> Option<Board> {
-    let mut board = Board::of(0x0000_0008_1000_0000, 0x0000_0010_0800_0000).ok()?;
-    for _ in 0..120 {
-        if board.empties() <= most_empties || board.is_over() {
-            break;
-        }
-        let moves = board.moves();
-        board = if moves == 0 {
-            board.pass()
-        } else {
-            board.play(Square::first_of(moves))?
-        };
-    }
-    Some(board)
-}
 
 /// The eight images of each of two boards of a game, with so many empty squares and one less.
 fn images(empties: u8) -> Option<Boards> {

@@ -9,7 +9,7 @@ use Rattle.oth_book.specs.declared.shape.Shape.TheVariants as shapes
 use Rattle.oth_book.specs.declared.shape.Fit.TheVariants.{Whole}
 use Rattle.oth_book.specs.Shape.{is_cell, fit_of}
 use Rattle.oth_book.specs.Text.{end_line}
-use Rattle.oth_book.specs.Fault.{Stand, CutLine, BadByte, EntryLine, EndLine, OneTooMany, fitted, begins, stand, IsNext, IsEntryAt, IsLineFault}
+use Rattle.oth_book.specs.Fault.{last_of, Stand, CutLine, BadByte, EntryLine, EndLine, OneTooMany, fitted, begins, stand, IsNext, IsEntryAt, IsLineFault}
 use Rattle.oth_book.proofs.EntryLemmas.{entry_line-injective}
 use Rattle.oth_book.proofs.ReadLemmas.{entry_begins}
 use Rattle.oth_book.proofs.LawLemmas.{end_is_no_entry}
@@ -31,7 +31,7 @@ stand_entry v n rest c room at =
     rw (no_end rest (entry_begins v rest c at), not_full n (begins is_cell rest) room) (ap (λ f. fitted f EntryLine) fits)
 
 -- an entry that comes next is no fault but want of memory
-pub next_no_fault : (v : Version) (before : List Claim) (rest : List ℕ) (c : Claim) (f : BookFault) → IsNext v before rest c → IsLineFault v before rest f → f ≢ Memory → ⊥
+pub next_no_fault : (v : Version) (before : List Claim) (rest : List ℕ) (c : Claim) (f : BookFault) → IsNext v (length before) (last_of before) rest c → IsLineFault v (length before) (last_of before) rest f → f ≢ Memory → ⊥
 next_no_fault v before rest c Header next fault other = fault
 next_no_fault v before rest c (Line k) next fault other =
     let is = stand_entry v (length before) rest c next.room next.entry in
@@ -66,7 +66,7 @@ at_end : (v : Version) (before : List Claim) (rest : List ℕ) → rest ≡ end_
 at_end v before rest e = ap (stand v (length before)) (e ∙ sym (append-nil (end_line (length before)))) ∙ stand_end v (length before) (length before) []
 
 -- the end of a text is no fault
-pub end_no_fault : (v : Version) (before : List Claim) (rest : List ℕ) (f : BookFault) → rest ≡ end_line (length before) → IsLineFault v before rest f → f ≢ Memory → ⊥
+pub end_no_fault : (v : Version) (before : List Claim) (rest : List ℕ) (f : BookFault) → rest ≡ end_line (length before) → IsLineFault v (length before) (last_of before) rest f → f ≢ Memory → ⊥
 end_no_fault v before rest Header e fault other = fault
 end_no_fault v before rest (Line k) e fault other =
     let is = at_end v before rest e in
@@ -107,7 +107,7 @@ Fits Memory n = Unit {0}
 abbrev here : Version → List Claim → List ℕ → ℕ
 here v before rest = stand_code (stand v (length before) rest)
 
-fits_here : (v : Version) (before : List Claim) (rest : List ℕ) (f : BookFault) → IsLineFault v before rest f → Fits f (here v before rest)
+fits_here : (v : Version) (before : List Claim) (rest : List ℕ) (f : BookFault) → IsLineFault v (length before) (last_of before) rest f → Fits f (here v before rest)
 fits_here v before rest Header fault = fault
 fits_here v before rest (Line k) fault = elim (fault.1) [ inl bad ↦ let n = ap stand_code bad in omega (arith, n) | inr none ↦ let n = ap stand_code none.0 in omega (arith, n) ]
 fits_here v before rest (Order k) fault = ap stand_code fault.1
@@ -120,14 +120,14 @@ fits_here v before rest Trailing fault = ap stand_code (ap (stand v (length befo
 fits_here v before rest Memory fault = tt
 
 -- a bad line is no entry's
-line_order : (v : Version) (before : List Claim) (rest : List ℕ) (k j : ℕ) → IsLineFault v before rest (Line k) → IsLineFault v before rest (Order j) → ⊥
+line_order : (v : Version) (before : List Claim) (rest : List ℕ) (k j : ℕ) → IsLineFault v (length before) (last_of before) rest (Line k) → IsLineFault v (length before) (last_of before) rest (Order j) → ⊥
 line_order v before rest k j line order = elim (line.1) [
   | inl bad ↦ let n : 0 ≡ 1 = ap stand_code (sym bad ∙ order.1) in absurd (omega (arith, n))
   | inr none ↦ none.1 order.2 order.3
 ]
 
 -- another count is no end with bytes after it
-count_trailing : (v : Version) (before : List Claim) (rest : List ℕ) → IsLineFault v before rest Count → IsLineFault v before rest Trailing → ⊥
+count_trailing : (v : Version) (before : List Claim) (rest : List ℕ) → IsLineFault v (length before) (last_of before) rest Count → IsLineFault v (length before) (last_of before) rest Trailing → ⊥
 count_trailing v before rest count trailing =
     let end = fits_here v before rest Trailing trailing in
     elim count [
@@ -135,7 +135,7 @@ count_trailing v before rest count trailing =
       | inr other ↦ other.1 trailing.0 trailing.1
     ]
 
-pub line_once : (v : Version) (before : List Claim) (rest : List ℕ) (f g : BookFault) → IsLineFault v before rest f → IsLineFault v before rest g → f ≢ Memory → g ≢ Memory → f ≡ g
+pub line_once : (v : Version) (before : List Claim) (rest : List ℕ) (f g : BookFault) → IsLineFault v (length before) (last_of before) rest f → IsLineFault v (length before) (last_of before) rest g → f ≢ Memory → g ≢ Memory → f ≡ g
 line_once v before rest Header g a b p q = absurd a
 line_once v before rest Memory g a b p q = absurd (p refl)
 line_once v before rest (Line k) Header a b p q = absurd b

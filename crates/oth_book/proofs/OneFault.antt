@@ -12,7 +12,7 @@ use Rattle.oth_book.specs.declared.shape.Shape.TheVariants as shapes
 use Rattle.oth_book.specs.declared.shape.Fit.TheVariants.{Whole, Cut, Misplaced}
 use Rattle.oth_book.specs.Shape.{header, fit_of}
 use Rattle.oth_book.specs.Text.{entry_line, end_line, lines, IsClaim, AreClaims, IsBookText}
-use Rattle.oth_book.specs.Fault.{IsNext, IsLineFault, IsHeaderFault, IsBookFault, Begins}
+use Rattle.oth_book.specs.Fault.{last_of, IsNext, IsLineFault, IsHeaderFault, IsBookFault, Begins}
 use Rattle.oth_book.proofs.EntryLemmas.{entry_line-injective}
 use Rattle.oth_book.proofs.LawLemmas.{end_is_no_entry, lines_cons, header_apart}
 use Rattle.oth_book.proofs.FaultLemmas.{next_no_fault, end_no_fault, line_once}
@@ -34,7 +34,7 @@ split v (c ∷ a) (d ∷ b) x y ha hb e =
       | inr s ↦ inr (s.0, s.1, ap (λ zs. c ∷ zs) s.2 ∙ ap (λ z. z ∷ (b ++ s.0 ∷ s.1)) same.0, s.3)
     ]
 
-next_from : (v : Version) (a : List Claim) (c : Claim) (mid : List Claim) (x y : List ℕ) → AreClaims v (a ++ c ∷ mid) → x ≡ entry_line v c ++ y → IsNext v a x c
+next_from : (v : Version) (a : List Claim) (c : Claim) (mid : List Claim) (x y : List ℕ) → AreClaims v (a ++ c ∷ mid) → x ≡ entry_line v c ++ y → IsNext v (length a) (last_of a) x c
 next_from v a c mid x y claims e =
     let len = length-append a (c ∷ mid) in
     let count = claims.count in
@@ -81,12 +81,12 @@ header_once bytes Trailing g a b = absurd a
 header_once bytes Memory g a b = absurd a
 
 goes_on : (v : Version) (claims before mid : List Claim) (rest : List ℕ) (f : BookFault) → AreClaims v claims → claims ≡ before ++ mid → rest ≡ lines v mid ++ end_line (length claims)
-    → IsLineFault v before rest f → f ≢ Memory → ⊥
+    → IsLineFault v (length before) (last_of before) rest f → f ≢ Memory → ⊥
 goes_on v claims before [] rest f are e x h other = end_no_fault v before rest f (x ∙ ap end_line (ap length (e ∙ append-nil before))) h other
 goes_on v claims before (c ∷ mid) rest f are e x h other =
     next_no_fault v before rest c f (next_from v before c mid rest (lines v mid ++ end_line (length claims)) (rw e at are) (x ∙ lines_cons v c mid (end_line (length claims)))) h other
 
-no_line_fault : (v : Version) (claims before : List Claim) (rest bytes : List ℕ) (f : BookFault) → IsBookText v claims bytes → Begins v before rest bytes → IsLineFault v before rest f → f ≢ Memory → ⊥
+no_line_fault : (v : Version) (claims before : List Claim) (rest bytes : List ℕ) (f : BookFault) → IsBookText v claims bytes → Begins v before rest bytes → IsLineFault v (length before) (last_of before) rest f → f ≢ Memory → ⊥
 no_line_fault v claims before rest bytes f text begin fault other =
     let body : lines v before ++ rest ≡ lines v claims ++ end_line (length claims) = append_cancel_left (header v) _ _ (sym begin.front ∙ text.text) in
     elim (split v before claims rest (end_line (length claims)) begin.entries.each text.entries.each body) [
@@ -107,10 +107,10 @@ no_fault v claims bytes f text fault other =
     ]
 
 -- of two faulty readings neither goes on where the other stops
-stops : (v : Version) (a b mid : List Claim) (c : Claim) (x y : List ℕ) (f : BookFault) → AreClaims v b → b ≡ a ++ c ∷ mid → x ≡ lines v (c ∷ mid) ++ y → IsLineFault v a x f → f ≢ Memory → ⊥
+stops : (v : Version) (a b mid : List Claim) (c : Claim) (x y : List ℕ) (f : BookFault) → AreClaims v b → b ≡ a ++ c ∷ mid → x ≡ lines v (c ∷ mid) ++ y → IsLineFault v (length a) (last_of a) x f → f ≢ Memory → ⊥
 stops v a b mid c x y f are e front fault other = next_no_fault v a x c f (next_from v a c mid x (lines v mid ++ y) (rw e at are) (front ∙ lines_cons v c mid y)) fault other
 
-line_faults : (v : Version) (a b : List Claim) (x y bytes : List ℕ) (f g : BookFault) → Begins v a x bytes → Begins v b y bytes → IsLineFault v a x f → IsLineFault v b y g → f ≢ Memory → g ≢ Memory → f ≡ g
+line_faults : (v : Version) (a b : List Claim) (x y bytes : List ℕ) (f g : BookFault) → Begins v a x bytes → Begins v b y bytes → IsLineFault v (length a) (last_of a) x f → IsLineFault v (length b) (last_of b) y g → f ≢ Memory → g ≢ Memory → f ≡ g
 line_faults v a b x y bytes f g ha hb fa fb p q =
     let body : lines v a ++ x ≡ lines v b ++ y = append_cancel_left (header v) _ _ (sym ha.front ∙ hb.front) in
     elim (split v a b x y ha.entries.each hb.entries.each body) [
@@ -121,7 +121,7 @@ line_faults v a b x y bytes f g ha hb fa fb p q =
     same_or_further : (mid : List Claim) → b ≡ a ++ mid → x ≡ lines v mid ++ y → f ≡ g
     same_or_further [] e front =
         let same : b ≡ a = e ∙ append-nil a in
-        let fault : IsLineFault v a x g = rw (← same, front) fb in
+        let fault : IsLineFault v (length a) (last_of a) x g = rw (← same, front) fb in
         line_once v a x f g fa fault p q
     same_or_further (c ∷ mid) e front = absurd (stops v a b mid c x y f hb.entries e front fa p)
 

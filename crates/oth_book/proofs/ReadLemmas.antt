@@ -1,5 +1,5 @@
 -- A book's text from the left: one more entry, and what follows the last.
-use Rattle.std.proofs.Common.{◌≡◌, ℕ, zero, suc, ◌+◌, ◌-◌, ◌<◌, ◌≤◌, inl, inr, List, [], ◌∷◌, ◌++◌, length, drop, get_or, slice_get, Some, arith, sym, ap, ◌∙◌, refl, append_assoc, append-nil, length-append, lit<, lit≤, true, ◌^◌, eqb-true}
+use Rattle.std.proofs.Common.{◌≡◌, ℕ, zero, suc, ◌+◌, ◌-◌, ◌<◌, ◌≤◌, inl, inr, List, [], ◌∷◌, ◌++◌, length, drop, get_or, slice_get, Option, Some, arith, sym, ap, subst, ◌∙◌, refl, append_assoc, append-nil, length-append, lit<, lit≤, true, ◌^◌, eqb-true}
 use Rattle.std.proofs.Math.Seq.{drop-append_seam}
 use Rattle.std.proofs.lemmas.List.Quantifiers.{all_pairs_push}
 use Rattle.std.proofs.lemmas.List.Elements.{All-push}
@@ -19,7 +19,8 @@ use Rattle.oth_book.specs.Order.{cells, mark, board_cmp, IsBelow}
 use Rattle.oth_book.specs.Numeral.{numeral}
 use Rattle.oth_book.specs.Shape.{header, header_len, bounds_len, is_cell, fit_of, IsWhole}
 use Rattle.oth_book.specs.Text.{entry_line, bounds_text, end_line, lines, IsClaim, AreClaims}
-use Rattle.oth_book.specs.Fault.{Begins, begins, IsNext, IsAboveLast, IsEntryAt}
+use Rattle.oth_book.specs.Fault.{last_of, Begins, begins, IsNext, IsAboveLast, IsEntryAt, IsLineFault}
+use Rattle.oth_book.specs.declared.fault.BookFault.{BookFault}
 use Rattle.oth_book.proofs.CellLemmas.{length-cells}
 use Rattle.oth_book.proofs.NumeralLemmas.{length-numeral}
 use Rattle.oth_book.proofs.LineLemmas.{drop-byte, end_line-append, joined}
@@ -109,7 +110,7 @@ slice_get_at [] k d h = absurd (omega arith)
 slice_get_at (x ∷ xs) zero d h = refl
 slice_get_at (x ∷ xs) (suc k) d h = slice_get_at xs k d (omega arith)
 
-above_all : (v : Version) (before : List Claim) (c : Claim) → AreClaims v before → IsAboveLast before c → (k : ℕ) (d : Claim) → k < length before → IsBelow (get_or before k d).board c.board
+above_all : (v : Version) (before : List Claim) (c : Claim) → AreClaims v before → IsAboveLast (last_of before) c → (k : ℕ) (d : Claim) → k < length before → IsBelow (get_or before k d).board c.board
 above_all v before c claims above k d h =
     let last = above (get_or before (length before - 1) d) (slice_get_at before (length before - 1) d (omega arith)) in
     elim (cases_eq k (length before - 1)) [
@@ -117,7 +118,7 @@ above_all v before c claims above k d h =
       | inr ne ↦ below_trans _ _ _ (claims.rising k (length before - 1) d (omega arith) (omega arith)) last
     ]
 
-pub claims_push : (v : Version) (before : List Claim) (rest : List ℕ) (c : Claim) → AreClaims v before → IsNext v before rest c → AreClaims v (before ++ c ∷ [])
+pub claims_push : (v : Version) (before : List Claim) (rest : List ℕ) (c : Claim) → AreClaims v before → IsNext v (length before) (last_of before) rest c → AreClaims v (before ++ c ∷ [])
 claims_push v before rest c claims next = record {
   count = let e = length-append before (c ∷ []) in let h = next.room in omega (arith, e, h);
   each = All-push (IsClaim v) before c claims.each next.entry.claim;
@@ -141,7 +142,7 @@ lines_push v before c rest =
     sym (append_assoc (lines v before) (entry_line v c) rest)
     ∙ ap (λ xs. xs ++ rest) (ap (λ xs. lines v before ++ xs) (sym (append-nil (entry_line v c))) ∙ sym (flat_map-append (entry_line v) before (c ∷ [])))
 
-pub begins_push : (v : Version) (before : List Claim) (rest bytes : List ℕ) (c : Claim) → Begins v before rest bytes → IsNext v before rest c
+pub begins_push : (v : Version) (before : List Claim) (rest bytes : List ℕ) (c : Claim) → Begins v before rest bytes → IsNext v (length before) (last_of before) rest c
     → Begins v (before ++ c ∷ []) (drop (83 + bounds_len v) rest) bytes
 begins_push v before rest bytes c begin next = record {
   entries = claims_push v before rest c begin.entries next;
@@ -156,3 +157,31 @@ none_before v bytes fits = record {
 
 pub header_long : (v : Version) (bytes : List ℕ) → fit_of (Header v) bytes ≡ Whole → header_len v ≤ length bytes
 header_long v bytes fits = (is_whole (Header v) bytes fits).len
+
+-- ---- a place: so many entries, and the last of them
+
+slice_get_end : (xs : List Claim) (c : Claim) → slice_get (xs ++ c ∷ []) (length xs) ≡ Some c
+slice_get_end [] c = refl
+slice_get_end (x ∷ xs) c = slice_get_end xs c
+
+pub length_push : (before : List Claim) (c : Claim) (count : ℕ) → count ≡ length before → count + 1 ≡ length (before ++ c ∷ [])
+length_push before c count e = let n = length-append before (c ∷ []) in omega (arith, n, e)
+
+pub last_push : (before : List Claim) (c : Claim) → Some c ≡ last_of (before ++ c ∷ [])
+last_push before c =
+    let n = length-append before (c ∷ []) in
+    let e : length (before ++ c ∷ []) - 1 ≡ length before = omega (arith, n) in
+    sym (ap (slice_get (before ++ c ∷ [])) e ∙ slice_get_end before c)
+
+pub next_here : (v : Version) (before : List Claim) (count : ℕ) (last : Option Claim) (rest : List ℕ) (c : Claim) → count ≡ length before → last ≡ last_of before → IsNext v count last rest c
+    → IsNext v (length before) (last_of before) rest c
+next_here v before count last rest c e l next = record {
+  room = let h = next.room in omega (arith, e, h);
+  entry = next.entry;
+  above = λ d is. next.above d (l ∙ is);
+}
+
+pub fault_here : (v : Version) (before : List Claim) (count : ℕ) (last : Option Claim) (rest : List ℕ) (f : BookFault) → count ≡ length before → last ≡ last_of before → IsLineFault v count last rest f
+    → IsLineFault v (length before) (last_of before) rest f
+fault_here v before count last rest f e l fault =
+    subst (λ d. IsLineFault v (length before) d rest f) l (subst (λ n. IsLineFault v n last rest f) e fault)

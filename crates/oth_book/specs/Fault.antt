@@ -1,9 +1,10 @@
 -- The one fault of bytes that are no book's text, found from the left.
 --     stand v count rest      what the rest begins with, as the line after this many entries
---     IsLineFault v before rest fault      the fault of the line after these entries
+--     IsLineFault v count last rest fault      the fault of the line after so many entries, the last of them this
+--     last_of before      the last entry
 --     IsHeaderFault bytes fault      the fault of the header
 --     IsBookFault bytes fault      the fault of the bytes
-use Rattle.std.specs.Prelude.{◌≡◌, ◌≢◌, ℕ, ◌<◌, ◌+◌, ◌-◌, ◌==◌, ◌&&◌, ◌⊎◌, Bool, false, if◌then◌else◌, List, [], ◌∷◌, ◌++◌, length, slice_get, Some}
+use Rattle.std.specs.Prelude.{◌≡◌, ◌≢◌, ℕ, ◌<◌, ◌+◌, ◌-◌, ◌==◌, ◌&&◌, ◌⊎◌, Bool, false, if◌then◌else◌, List, [], ◌∷◌, ◌++◌, length, slice_get, Option, Some}
 use Rattle.oth_book.specs.declared.version.Version.{Version}
 use Rattle.oth_book.specs.declared.claim.Claim.{Claim}
 use Rattle.oth_book.specs.declared.fault.BookFault.{BookFault}
@@ -49,31 +50,34 @@ pub record IsEntryAt (v : Version) (rest : List ℕ) (c : Claim) : Type 0 where
   pub claim : IsClaim v c
   pub line : (after : List ℕ) × (rest ≡ entry_line v c ++ after)
 
--- the entry's board is above that of the last one before
-abbrev pub IsAboveLast : List Claim → Claim → Type 0
-IsAboveLast before c = (d : Claim) → slice_get before (length before - 1) ≡ Some d → IsBelow d.board c.board
+abbrev pub last_of : List Claim → Option Claim
+last_of before = slice_get before (length before - 1)
 
--- the entry comes next
-pub record IsNext (v : Version) (before : List Claim) (rest : List ℕ) (c : Claim) : Type 0 where
-  pub room : length before < 100000
+-- the entry's board is above that of the last one before, if there is one
+abbrev pub IsAboveLast : Option Claim → Claim → Type 0
+IsAboveLast last c = (d : Claim) → last ≡ Some d → IsBelow d.board c.board
+
+-- the entry comes next, after so many
+pub record IsNext (v : Version) (count : ℕ) (last : Option Claim) (rest : List ℕ) (c : Claim) : Type 0 where
+  pub room : count < 100000
   pub entry : IsEntryAt v rest c
-  pub above : IsAboveLast before c
+  pub above : IsAboveLast last c
 
-abbrev pub IsLineFault : Version → List Claim → List ℕ → BookFault → Type 0
-IsLineFault v before rest Header = ⊥
-IsLineFault v before rest (Line k) =
-    (k ≡ length before + 1)
-    × ((stand v (length before) rest ≡ BadByte) ⊎ ((stand v (length before) rest ≡ EntryLine) × ((c : Claim) → IsEntryAt v rest c → ⊥)))
-IsLineFault v before rest (Order k) =
-    (k ≡ length before + 1)
-    × (stand v (length before) rest ≡ EntryLine)
-    × (c : Claim) × IsEntryAt v rest c × (IsAboveLast before c → ⊥)
-IsLineFault v before rest Count =
-    (stand v (length before) rest ≡ OneTooMany)
-    ⊎ ((stand v (length before) rest ≡ EndLine) × ((after : List ℕ) → rest ≢ end_line (length before) ++ after))
-IsLineFault v before rest CutShort = stand v (length before) rest ≡ CutLine
-IsLineFault v before rest Trailing = (after : List ℕ) × (rest ≡ end_line (length before) ++ after) × (after ≢ [])
-IsLineFault v before rest Memory = (c : Claim) × IsNext v before rest c
+abbrev pub IsLineFault : Version → ℕ → Option Claim → List ℕ → BookFault → Type 0
+IsLineFault v count last rest Header = ⊥
+IsLineFault v count last rest (Line k) =
+    (k ≡ count + 1)
+    × ((stand v count rest ≡ BadByte) ⊎ ((stand v count rest ≡ EntryLine) × ((c : Claim) → IsEntryAt v rest c → ⊥)))
+IsLineFault v count last rest (Order k) =
+    (k ≡ count + 1)
+    × (stand v count rest ≡ EntryLine)
+    × (c : Claim) × IsEntryAt v rest c × (IsAboveLast last c → ⊥)
+IsLineFault v count last rest Count =
+    (stand v count rest ≡ OneTooMany)
+    ⊎ ((stand v count rest ≡ EndLine) × ((after : List ℕ) → rest ≢ end_line count ++ after))
+IsLineFault v count last rest CutShort = stand v count rest ≡ CutLine
+IsLineFault v count last rest Trailing = (after : List ℕ) × (rest ≡ end_line count ++ after) × (after ≢ [])
+IsLineFault v count last rest Memory = (c : Claim) × IsNext v count last rest c
 
 -- the bytes begin with the header and the lines of these entries
 pub record Begins (v : Version) (before : List Claim) (rest bytes : List ℕ) : Type 0 where
@@ -88,4 +92,4 @@ IsHeaderFault bytes _ = ⊥
 
 abbrev pub IsBookFault : List ℕ → BookFault → Type 0
 IsBookFault bytes fault =
-    IsHeaderFault bytes fault ⊎ ((v : Version) × (before : List Claim) × (rest : List ℕ) × Begins v before rest bytes × IsLineFault v before rest fault)
+    IsHeaderFault bytes fault ⊎ ((v : Version) × (before : List Claim) × (rest : List ℕ) × Begins v before rest bytes × IsLineFault v (length before) (last_of before) rest fault)

@@ -55,7 +55,8 @@ impl AddError {
 pub fn put_in(entries: &mut Vec<Claim>, place: usize, entry: Claim) -> Result<Added, AddError>
     requires within { place ≤ length entries.old.items }
     requires few { length entries.old.items ≤ 100000 }
-    ensures new { IfOk result (λ done. (done ≡ Added.New) × (entries.new.items ≡ insert entries.old.items place entry)) }
+    ensures new { IfOk result (λ done. (done ≡ Added.New)
+        × (entries.new.items ≡ insert entries.old.items place entry)) }
     ensures full { IfErr result (λ why. HasNoRoom entries.old.items why) }
     ensures room { OnOk result (length entries.old.items < 100000) }
     ensures unchanged { OnErr result (entries.new.items ≡ entries.old.items) }
@@ -69,12 +70,14 @@ pub fn put_in(entries: &mut Vec<Claim>, place: usize, entry: Claim) -> Result<Ad
     Ok(Added::New)
 }
 
+/// The greater of two bounds.
 pub fn greater(a: i8, b: i8) -> i8
     ensures { result ≡ int_max a b }
 {
     if a < b { b } else { a }
 }
 
+/// The lesser of two bounds.
 pub fn lesser(a: i8, b: i8) -> i8
     ensures { result ≡ int_min a b }
 {

@@ -1,29 +1,28 @@
 //! The verified book.
 
-ghost use Rattle.std.specs.Prelude.{◌≡◌, ◌≢◌, ◌≤◌, ◌<◌, ◌↔◌, ◌++◌, ◌∷◌, [], ℕ, length, Contains, IsTrue, IsSome, IfSome, IfOk, IfErr, OnErr, OnOk};
+ghost use Rattle.std.specs.Prelude.{◌≡◌, ◌≢◌, ◌≤◌, ◌<◌, ◌↔◌, ◌++◌, ◌∷◌, [], ℕ, length, Contains, IsTrue, IsSome};
+ghost use Rattle.std.specs.Prelude.{IfSome, IfOk, IfErr, OnErr, OnOk};
 ghost use Rattle.oth_rules.specs.Position.{IsBoard, empty_count};
 ghost use Rattle.oth_rules.specs.Symmetry.{canonical, image};
-ghost use Rattle.oth_search.specs.Answers.{kind_of};
 ghost use Rattle.oth_book.specs.Order.{board_cmp};
 ghost use Rattle.oth_book.specs.Contents.{Contents};
 ghost use Rattle.oth_book.specs.True.{IsExact};
 ghost use Rattle.oth_book.specs.Book.{IsTrueBook, IsBookEntry, IsEntryOf, IsGap, Has, HasExact, HasBoard};
-ghost use Rattle.oth_book.specs.Add.{IsAdded, IsRefused, AreAdded, AreRefused, IsAskable, Keeps, SameBounds, answer_entry, bounds_entry, closer};
+ghost use Rattle.oth_book.specs.Add.{IsAdded, IsRefused, AreAdded, AreRefused, IsAskable, Keeps, SameBounds};
+ghost use Rattle.oth_book.specs.Add.{answer_entry, bounds_entry, closer};
 
 use crate::add::{AddError, Added, greater, lesser, put_in};
 use crate::claim::Claim;
 use crate::order::compare;
 use oth_rules::{Board, Scoring, Sym, map, unmap};
-use oth_search::{Answer, Interval, Kind, Solved};
+use oth_search::{Answer, Interval, Kind, MOST_EMPTIES, Solved};
 use std::alloc::Global;
 use std::cmp::Ordering;
 use std::marker::Model;
 
-/// The most empty squares of a book's board.
-pub const MOST_EMPTIES: u8 = 30;
-
-/// Solved boards by one scoring, each canonical and of at most 30 empty squares, in the order of their cells. Each has true bounds of
-/// its value, and all best moves where the bounds are one number. There is no untrue book: whatever makes one is proved to keep this.
+/// Solved boards by one scoring, each canonical and of at most 30 empty squares, in the order of their cells. Each has
+/// true bounds of its value, and all best moves where the bounds are one number. There is no untrue book: whatever
+/// makes one is proved to keep this.
 #[derive(Drop)]
 pub struct Book {
     scoring: Scoring,
@@ -114,7 +113,8 @@ impl Book {
         ensures found { IsSome result ↔ HasBoard self.now.entries (canonical board.now) }
         ensures board { IfSome result (λ s. s.board ≡ board.now) }
         ensures scoring { IfSome result (λ s. s.scoring ≡ self.now.scoring) }
-        ensures bounds { IfSome result (λ s. Has self.now.entries (canonical board.now) s.interval.lower s.interval.upper) }
+        ensures bounds { IfSome result
+            (λ s. Has self.now.entries (canonical board.now) s.interval.lower s.interval.upper) }
     {
         let (image, _) = board.canonical();
         match position(self.entries.as_slice(), self.scoring, &image) {
@@ -192,6 +192,7 @@ impl Book {
     }
 }
 
+// Whether both scorings are one.
 fn agree(a: Scoring, b: Scoring) -> bool
     ensures { IsTrue result ↔ (a ≡ b) }
 {
@@ -205,6 +206,7 @@ pub fn is_exact(claim: &Claim) -> bool
     claim.lower == claim.upper
 }
 
+// Whether both have the same bounds.
 fn same_bounds(a: &Claim, b: &Claim) -> bool
     ensures { IsTrue result ↔ SameBounds a.now b.now }
 {
@@ -218,7 +220,7 @@ pub fn has_few_empties(board: &Board) -> bool
     board.empties() <= MOST_EMPTIES
 }
 
-/// The entry of the canonical board with these bounds.
+// The entry of the canonical board with these bounds.
 fn bounds_of(solved: &Solved) -> Claim
     ensures { result ≡ bounds_entry solved.now }
 {
@@ -231,7 +233,7 @@ fn bounds_of(solved: &Solved) -> Claim
     }
 }
 
-/// The entry of an answer's canonical board.
+// The entry of an answer's canonical board.
 fn entry_of(answer: &Answer) -> Claim
     requires { empty_count answer.now.board ≤ 30 }
     ensures entry { result ≡ answer_entry answer.now }
@@ -246,7 +248,7 @@ fn entry_of(answer: &Answer) -> Claim
     }
 }
 
-/// An entry with the closer ones of its own bounds and the given ones.
+// An entry with the closer ones of its own bounds and the given ones.
 fn closer_of(kept: &Claim, solved: &Solved) -> Claim
     ensures { result ≡ closer kept.now solved.now }
 {
@@ -258,7 +260,7 @@ fn closer_of(kept: &Claim, solved: &Solved) -> Claim
     }
 }
 
-/// The answer of a board, by the exact entry of its image along the symmetry.
+// The answer of a board, by the exact entry of its image along the symmetry.
 fn answer_of(board: &Board, entry: &Claim, symmetry: Sym, scoring: Scoring) -> Answer
     requires holds { IsBookEntry scoring entry.now }
     requires exact { IsExact entry.now }
@@ -272,11 +274,11 @@ fn answer_of(board: &Board, entry: &Claim, symmetry: Sym, scoring: Scoring) -> A
         scoring,
         score: entry.lower,
         best: unmap(entry.best, symmetry),
-        kind: kind(board),
+        kind: Kind::of(board),
     }
 }
 
-/// The bounds of a board, by the entry of its canonical board.
+// The bounds of a board, by the entry of its canonical board.
 fn solved_of(board: &Board, entry: &Claim, scoring: Scoring) -> Solved
     requires holds { IsBookEntry scoring entry.now }
     requires board { entry.now.board ≡ canonical board.now }
@@ -294,20 +296,7 @@ fn solved_of(board: &Board, entry: &Claim, scoring: Scoring) -> Solved
     }
 }
 
-/// What the mover does.
-fn kind(board: &Board) -> Kind
-    ensures { result ≡ kind_of board.now }
-{
-    if board.moves() != 0 {
-        Kind::Move
-    } else if board.pass().moves() != 0 {
-        Kind::Pass
-    } else {
-        Kind::End
-    }
-}
-
-/// The place of the entry of a canonical board, or the place where it would go.
+// The place of the entry of a canonical board, or the place where it would go.
 fn position(entries: &[Claim], scoring: Scoring, board: &Board) -> Result<usize, usize>
     requires book { IsTrueBook (record { scoring = scoring; entries = entries.now }) }
     requires board { IsBoard board.now }

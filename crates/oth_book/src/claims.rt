@@ -1,12 +1,13 @@
 //! What the text of a book says.
 
-ghost use Rattle.std.specs.Prelude.{◌≡◌, IfOk, IfErr, length};
-ghost use Rattle.oth_book.specs.Contents.{IsText, scoring_of};
+ghost use Rattle.std.specs.Prelude.{◌≡◌, ◌≢◌, IfOk, IfErr, OnOk, length};
+ghost use Rattle.oth_book.specs.Contents.{Contents as Said, IsText, scoring_of};
 ghost use Rattle.oth_book.specs.Fault.{IsBookFault};
+ghost use Rattle.oth_book.specs.declared.fault.BookFault.TheVariants as faults;
 
 use crate::claim::Claim;
 use crate::fault::BookFault;
-use crate::read::{read_entries, read_header};
+use crate::read::{check_entries, read_entries, read_header};
 use crate::version::Version;
 use oth_rules::Scoring;
 use std::alloc::Global;
@@ -32,7 +33,8 @@ impl Model for Claims {
 }
 
 impl Claims {
-    /// The scoring by which the entries are claimed: `Winner` of a text of version 1, else the one that the header names.
+    /// The scoring by which the entries are claimed: `Winner` of a text of version 1, else the one that the header
+    /// names.
     pub fn scoring(&self) -> Scoring
         ensures { result ≡ self.now.scoring }
     {
@@ -60,6 +62,18 @@ pub fn read_claims(alloc: Global, bytes: &[u8]) -> Result<Claims, BookFault>
     })
 }
 
+/// Whether the bytes are the text of a book, of version 1 or 2; else their one fault. It takes no memory, so that each
+/// list of bytes is seen to be a text or to have a fault.
+pub fn check_text(bytes: &[u8]) -> Result<(), BookFault>
+    ensures text { OnOk result ((said : Said) × IsText said bytes.now) }
+    ensures fault { IfErr result (λ f. IsBookFault bytes.now f) }
+    ensures memory { IfErr result (λ f. f ≢ faults.Memory) }
+{
+    let version = read_header(bytes)?;
+    check_entries(bytes, version)
+}
+
+// The scoring of a text of this version.
 fn scoring_of(version: Version) -> Scoring
     ensures { result ≡ scoring_of version }
 {

@@ -1,6 +1,7 @@
 //! The entry lines and the end line of a book.
 
-ghost use Rattle.std.specs.Prelude.{◌≡◌, ◌≢◌, ◌++◌, ◌<◌, ◌≤◌, ◌^◌, ◌<ℤ◌, ℕ, ℤ, [], List, ◌↔◌, IsTrue, IfSome, IfNone, drop, take, length, unsigned_abs, ◌+◌, neg_ℤ, pos, if◌then◌else◌};
+ghost use Rattle.std.specs.Prelude.{◌≡◌, ◌≢◌, ◌++◌, ◌<◌, ◌≤◌, ◌^◌, ◌<ℤ◌, ℕ, ℤ, [], List, ◌↔◌, IsTrue, IfSome, IfNone};
+ghost use Rattle.std.specs.Prelude.{drop, take, length, unsigned_abs, ◌+◌, neg_ℤ, pos, if◌then◌else◌};
 ghost use Rattle.oth_book.specs.Shape.{IsWhole, AreBoundsBytes, IsBoundBytes};
 ghost use Rattle.oth_book.specs.Text.{entry_line, end_line, signed, bounds_text, AreBounds};
 ghost use Rattle.oth_book.specs.Fault.{IsEntryAt};
@@ -38,13 +39,14 @@ pub fn read_entry(line: &[u8], version: Version) -> Option<Claim>
     })
 }
 
-/// Whether these are an entry's: a canonical board, and no best moves where the bounds differ.
+// Whether these are an entry's: a canonical board, and no best moves where the bounds differ.
 fn is_entry(board: &Board, bounds: Interval, best: u64) -> bool
     ensures { IsTrue result ↔ ((canonical board.now ≡ board.now) × (bounds.lower <ℤ bounds.upper → best ≡ 0)) }
 {
     is_canonical(board) && (bounds.lower == bounds.upper || best == 0)
 }
 
+// Whether the board is its own canonical image.
 fn is_canonical(board: &Board) -> bool
     ensures { IsTrue result ↔ (canonical board.now ≡ board.now) }
 {
@@ -52,12 +54,13 @@ fn is_canonical(board: &Board) -> bool
     image == *board
 }
 
-/// The bounds that the bytes say, or None where they aren't bounds in order.
+// The bounds that the bytes say, or None where they aren't bounds in order.
 fn read_bounds(text: &[u8], version: Version) -> Option<Interval>
     requires { AreBoundsBytes version text.now }
     ensures said { IfSome result (λ b. AreBounds version b.lower b.upper) }
     ensures text { IfSome result (λ b. text.now ≡ bounds_text version b.lower b.upper) }
-    ensures none { IfNone result ((lower upper : ℤ) → AreBounds version lower upper → text.now ≢ bounds_text version lower upper) }
+    ensures none { IfNone result ((lower upper : ℤ) → AreBounds version lower upper
+        → text.now ≢ bounds_text version lower upper) }
 {
     match version {
         Version::One => {
@@ -78,6 +81,7 @@ fn read_bounds(text: &[u8], version: Version) -> Option<Interval>
     }
 }
 
+// So many bytes of the line, from this place on.
 fn part(line: &[u8], from: usize, len: usize) -> &[u8]
     requires { from + len ≤ length line.now }
     ensures { result.now ≡ take len (drop from line.now) }
@@ -85,7 +89,7 @@ fn part(line: &[u8], from: usize, len: usize) -> &[u8]
     &line[from..from + len]
 }
 
-/// A bound of a sign and two digits, or None where it is `-00`.
+// A bound of a sign and two digits, or None where it is `-00`.
 fn read_bound(text: &[u8]) -> Option<i8>
     requires { IsBoundBytes text.now }
     ensures text { IfSome result (λ z. text.now ≡ signed z) }
@@ -100,6 +104,7 @@ fn read_bound(text: &[u8]) -> Option<i8>
     Some(bound_of(is_negative, number))
 }
 
+// The number with its sign.
 fn bound_of(is_negative: bool, number: u64) -> i8
     requires { number < 100 }
     ensures { result ≡ (if is_negative then neg_ℤ (pos number) else pos number) }

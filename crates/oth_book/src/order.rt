@@ -1,3 +1,4 @@
+//! The order of boards in a book.
 ghost use Rattle.std.specs.Prelude.{◌≡◌, ◌<◌};
 ghost use Rattle.oth_book.specs.Order.{board_cmp, cell_byte};
 

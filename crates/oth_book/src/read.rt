@@ -1,8 +1,12 @@
 //! Reading a book's text.
 
-ghost use Rattle.std.specs.Prelude.{◌≡◌, ◌≢◌, ◌++◌, ◌<◌, ◌≤◌, ◌↔◌, IsTrue, OnOk, ◌+◌, ◌-◌, ℕ, [], List, IfOk, IfErr, IfSome, IfNone, OnSome, length, drop, ◌==◌};
+ghost use Rattle.std.specs.Prelude.{◌≡◌, ◌≢◌, ◌++◌, ◌<◌, ◌≤◌, ◌↔◌, IsTrue, OnOk, ◌+◌, ◌-◌, ℕ, [], List, IfOk, IfErr};
+ghost use Rattle.std.specs.Prelude.{IfSome, IfNone, OnSome, length, drop, ◌==◌};
 ghost use Rattle.oth_book.specs.Text.{end_line, IsBookText};
-ghost use Rattle.oth_book.specs.Fault.{IsBookFault, IsLineFault, IsHeaderFault, IsNext, IsEntryAt, IsAboveLast, begins, stand, end_stand, entry_stand};
+ghost use Rattle.oth_book.specs.Fault.{IsBookFault, IsLineFault, IsHeaderFault, IsNext, IsEntryAt, IsAboveLast, begins};
+ghost use Rattle.oth_book.specs.Fault.{last_of, stand, end_stand, entry_stand};
+ghost use Rattle.oth_book.specs.declared.claim.Claim.{Claim as AnyClaim};
+ghost use Rattle.oth_book.specs.declared.fault.BookFault.TheVariants as faults;
 ghost use Rattle.oth_book.specs.Shape.{fit_of, is_cell, shape_len};
 
 use crate::claim::Claim;
@@ -26,7 +30,7 @@ pub fn read_entries(alloc: Global, bytes: &[u8], version: Version) -> Result<Vec
 {
     let mut rest = after_line(bytes, Shape::Header(version));
     let mut claims = Vec::new(alloc);
-    while let Some(claim) = read_line(rest, version, claims.as_slice())? {
+    while let Some(claim) = read_line(rest, version, Place::after(claims.as_slice()))? {
         if claims.push(claim).is_err() {
             return Err(BookFault::Memory);
         }
@@ -35,6 +39,47 @@ pub fn read_entries(alloc: Global, bytes: &[u8], version: Version) -> Result<Vec
     Ok(claims)
 }
 
+/// Whether the lines after a header are a book's, told without memory.
+pub fn check_entries(bytes: &[u8], version: Version) -> Result<(), BookFault>
+    requires { fit_of (Shape.Header version) bytes.now ≡ Fit.Whole }
+    ensures text { OnOk result ((claims : List AnyClaim) × IsBookText version claims bytes.now) }
+    ensures fault { IfErr result (λ f. IsBookFault bytes.now f) }
+    ensures memory { IfErr result (λ f. f ≢ faults.Memory) }
+{
+    let mut rest = after_line(bytes, Shape::Header(version));
+    let mut count = 0;
+    let mut last = None;
+    while let Some(claim) = read_line(rest, version, Place { count, last })? {
+        count += 1;
+        last = Some(claim);
+        rest = after_line(rest, Shape::Entry(version));
+    }
+    Ok(())
+}
+
+// How far the lines of entries were read.
+#[derive(Clone, Copy)]
+struct Place {
+    // The number of entries.
+    count: usize,
+    // The last of them.
+    last: Option<Claim>,
+}
+
+impl Place {
+    // Behind these entries.
+    fn after(before: &[Claim]) -> Self
+        ensures count { result.count ≡ length before.now }
+        ensures last { result.last ≡ last_of before.now }
+    {
+        Place {
+            count: before.len(),
+            last: before.last().copied(),
+        }
+    }
+}
+
+// What follows a line of this shape.
 fn after_line(rest: &[u8], shape: Shape) -> &[u8]
     requires { shape_len shape ≤ length rest.now }
     ensures { result.now ≡ drop (shape_len shape) rest.now }
@@ -65,26 +110,28 @@ pub fn read_header(bytes: &[u8]) -> Result<Version, BookFault>
     Err(BookFault::Header)
 }
 
-/// The next entry after those before, or None where the text ends there.
+// The next entry after those before, or None where the text ends there.
 #[tactic(auto, unfolding(crate::specs::Fault::stand))]
-fn read_line(rest: &[u8], version: Version, before: &[Claim]) -> Result<Option<Claim>, BookFault>
-    requires { length before.now ≤ MAX_ENTRIES }
-    ensures entry { IfOk result (λ next. IfSome next (IsNext version before.now rest.now)) }
+fn read_line(rest: &[u8], version: Version, place: Place) -> Result<Option<Claim>, BookFault>
+    requires { place.count ≤ MAX_ENTRIES }
+    ensures entry { IfOk result (λ next. IfSome next (IsNext version place.count place.last rest.now)) }
     ensures long { IfOk result (λ next. OnSome next (shape_len (Shape.Entry version) ≤ length rest.now)) }
-    ensures end { IfOk result (λ next. IfNone next (rest.now ≡ end_line (length before.now))) }
-    ensures fault { IfErr result (λ f. IsLineFault version before.now rest.now f) }
+    ensures end { IfOk result (λ next. IfNone next (rest.now ≡ end_line place.count)) }
+    ensures memory { IfErr result (λ f. f ≢ faults.Memory) }
+    ensures fault { IfErr result (λ f. IsLineFault version place.count place.last rest.now f) }
 {
     if begins_end_line(rest) {
-        read_end_line(rest, version, before)?;
+        read_end_line(rest, version, place)?;
         return Ok(None);
     }
-    if before.len() == MAX_ENTRIES && begins_entry_line(rest) {
+    if place.count == MAX_ENTRIES && begins_entry_line(rest) {
         return Err(BookFault::Count);
     }
-    let claim = read_entry_line(rest, version, before)?;
+    let claim = read_entry_line(rest, version, place)?;
     Ok(Some(claim))
 }
 
+// Whether only an end line can stand here.
 fn begins_end_line(rest: &[u8]) -> bool
     ensures { result ≡ begins (λ b. b == 69) rest.now }
 {
@@ -94,6 +141,7 @@ fn begins_end_line(rest: &[u8]) -> bool
     }
 }
 
+// Whether only an entry line can stand here.
 fn begins_entry_line(rest: &[u8]) -> bool
     ensures { result ≡ begins is_cell rest.now }
 {
@@ -103,18 +151,20 @@ fn begins_entry_line(rest: &[u8]) -> bool
     }
 }
 
-fn read_end_line(rest: &[u8], version: Version, before: &[Claim]) -> Result<(), BookFault>
-    requires stand { end_stand rest.now ≡ stand version (length before.now) rest.now }
-    requires few { length before.now ≤ MAX_ENTRIES }
-    ensures ok { OnOk result (rest.now ≡ end_line (length before.now)) }
-    ensures fault { IfErr result (λ f. IsLineFault version before.now rest.now f) }
+// Reads the end line, behind which nothing may stand.
+fn read_end_line(rest: &[u8], version: Version, place: Place) -> Result<(), BookFault>
+    requires stand { end_stand rest.now ≡ stand version place.count rest.now }
+    requires few { place.count ≤ MAX_ENTRIES }
+    ensures ok { OnOk result (rest.now ≡ end_line place.count) }
+    ensures memory { IfErr result (λ f. f ≢ faults.Memory) }
+    ensures fault { IfErr result (λ f. IsLineFault version place.count place.last rest.now f) }
 {
     match fit_of(Shape::End, rest) {
         Fit::Cut => return Err(BookFault::CutShort),
-        Fit::Misplaced => return Err(BookFault::Line(before.len() as u32 + 1)),
+        Fit::Misplaced => return Err(BookFault::Line(place.count as u32 + 1)),
         Fit::Whole => {}
     }
-    if read_end(rest) != before.len() as u64 {
+    if read_end(rest) != place.count as u64 {
         return Err(BookFault::Count);
     }
     if rest.len() > 11 {
@@ -123,14 +173,16 @@ fn read_end_line(rest: &[u8], version: Version, before: &[Claim]) -> Result<(), 
     Ok(())
 }
 
-fn read_entry_line(rest: &[u8], version: Version, before: &[Claim]) -> Result<Claim, BookFault>
-    requires stand { entry_stand version rest.now ≡ stand version (length before.now) rest.now }
-    requires few { length before.now ≤ MAX_ENTRIES }
+// The entry of the next line, which must stand above the last one.
+fn read_entry_line(rest: &[u8], version: Version, place: Place) -> Result<Claim, BookFault>
+    requires stand { entry_stand version rest.now ≡ stand version place.count rest.now }
+    requires few { place.count ≤ MAX_ENTRIES }
     ensures entry { IfOk result (λ c. IsEntryAt version rest.now c) }
-    ensures above { IfOk result (λ c. IsAboveLast before.now c) }
-    ensures fault { IfErr result (λ f. IsLineFault version before.now rest.now f) }
+    ensures above { IfOk result (λ c. IsAboveLast place.last c) }
+    ensures memory { IfErr result (λ f. f ≢ faults.Memory) }
+    ensures fault { IfErr result (λ f. IsLineFault version place.count place.last rest.now f) }
 {
-    let line = before.len() as u32 + 1;
+    let line = place.count as u32 + 1;
     match fit_of(Shape::Entry(version), rest) {
         Fit::Cut => return Err(BookFault::CutShort),
         Fit::Misplaced => return Err(BookFault::Line(line)),
@@ -139,16 +191,17 @@ fn read_entry_line(rest: &[u8], version: Version, before: &[Claim]) -> Result<Cl
     let Some(claim) = read_entry(rest, version) else {
         return Err(BookFault::Line(line));
     };
-    if !is_above_last(before, &claim) {
+    if !is_above_last(place.last, &claim) {
         return Err(BookFault::Order(line));
     }
     Ok(claim)
 }
 
-fn is_above_last(before: &[Claim], claim: &Claim) -> bool
-    ensures { IsTrue result ↔ IsAboveLast before.now claim.now }
+// Whether the entry stands above the last one before it.
+fn is_above_last(last: Option<Claim>, claim: &Claim) -> bool
+    ensures { IsTrue result ↔ IsAboveLast last claim.now }
 {
-    match before.last() {
+    match last {
         Some(last) => compare(&last.board, &claim.board) == Ordering::Less,
         None => true,
     }

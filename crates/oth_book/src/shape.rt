@@ -1,7 +1,8 @@
 //! The lines of a book by place: which bytes are allowed where.
 
 ghost use Rattle.std.specs.Prelude.{◌≡◌, ◌<◌, ◌≤◌, ◌+◌, length};
-ghost use Rattle.oth_book.specs.Shape.{allows, allows_in_bounds, allows_in_entry, bounds_len, fit_of, header, header_len, shape_len, is_cell, is_hex_digit, is_sign, IsWhole};
+ghost use Rattle.oth_book.specs.Shape.{allows, allows_in_bounds, allows_in_entry, bounds_len, fit_of, header};
+ghost use Rattle.oth_book.specs.Shape.{header_len, shape_len, is_cell, is_hex_digit, is_sign, IsWhole};
 
 use crate::version::Version;
 use oth_rules::Scoring;
@@ -74,6 +75,7 @@ pub fn fit_of(shape: Shape, bytes: &[u8]) -> Fit
     Fit::Whole
 }
 
+// Whether the byte may stand at this place of a line.
 fn is_allowed(shape: Shape, place: usize, byte: u8) -> bool
     requires { place < shape_len shape }
     ensures { result ≡ allows shape place byte }
@@ -85,6 +87,7 @@ fn is_allowed(shape: Shape, place: usize, byte: u8) -> bool
     }
 }
 
+// The same, of the header.
 fn is_allowed_in_header(version: Version, place: usize, byte: u8) -> bool
     requires { place < header_len version }
     ensures { result ≡ allows (Shape.Header version) place byte }
@@ -92,6 +95,7 @@ fn is_allowed_in_header(version: Version, place: usize, byte: u8) -> bool
     byte == header(version)[place]
 }
 
+// The same, of an entry line whose bounds have so many bytes.
 fn is_allowed_in_entry(bounds: usize, place: usize, byte: u8) -> bool
     requires { bounds ≤ 7 }
     ensures { result ≡ allows_in_entry bounds place byte }
@@ -111,6 +115,7 @@ fn is_allowed_in_entry(bounds: usize, place: usize, byte: u8) -> bool
     }
 }
 
+// The same, of the bounds, counted from their first byte.
 fn is_allowed_in_bounds(place: usize, byte: u8) -> bool
     ensures { result ≡ allows_in_bounds place byte }
 {
@@ -123,6 +128,7 @@ fn is_allowed_in_bounds(place: usize, byte: u8) -> bool
     }
 }
 
+// The same, of the end line.
 fn is_allowed_in_end(place: usize, byte: u8) -> bool
     requires { place < 11 }
     ensures { result ≡ allows Shape.End place byte }
@@ -141,12 +147,14 @@ pub fn is_cell(byte: u8) -> bool
     byte == b'X' || byte == b'O' || byte == b'-'
 }
 
+// Whether it is a plus or a minus.
 fn is_sign(byte: u8) -> bool
     ensures { result ≡ is_sign byte }
 {
     byte == b'+' || byte == b'-'
 }
 
+// Whether it is one of 0 to 9 and a to f.
 fn is_hex_digit(byte: u8) -> bool
     ensures { result ≡ is_hex_digit byte }
 {

@@ -1,15 +1,18 @@
-//! The worked books: A has value -50 by `Winner` and -49 by `Discs`, its best move is h1. C has value 64, its best moves are a1 and h1.
-//! The first two images have A as canonical board.
+//! The worked books: A has value -50 by `Winner` and -49 by `Discs`, its best move is h1. C has value 64, its best
+//! moves are a1 and h1. The first two images have A as canonical board.
 
 mod full;
+mod knowing;
 mod refused;
 
 ghost use Rattle.std.specs.Prelude.{◌≡◌, ◌≤◌, IfSome};
 ghost use Rattle.oth_rules.specs.Position.{empty_count};
 
 use crate::{
-    AddError, Added, Book, BookFault, Cause, WriteFault, Wrong, read_claims, verify, write,
+    AddError, Added, Book, BookFault, Cause, WriteFault, Wrong, check_text, read_claims, verify,
+    write,
 };
+use oth_rules::samples::board;
 use oth_rules::{Board, Scoring};
 use oth_search::{Answer, Interval, Kind, NoCells, Solved, solve_alone};
 use oth_text::fakes::ByteSink;
@@ -35,19 +38,24 @@ const BOOK_1: &[u8] =
     b"OBOOK1\n--OXOOO-OOOOOOOOOOOOOOOOOOOOOOOOOOOOOOOOOOOOOOOOOOOOOOOOOOOOOOOO -50 0000000000000080\nEND 000001\n";
 
 const BOOK_2: &[u8] =
-    b"OBOOK2 W\n--OXOOO-OOOOOOOOOOOOOOOOOOOOOOOOOOOOOOOOOOOOOOOOOOOOOOOOOOOOOOOO -50 -50 0000000000000080\nEND 000001\n";
+    b"OBOOK2 W\n--OXOOO-OOOOOOOOOOOOOOOOOOOOOOOOOOOOOOOOOOOOOOOOOOOOOOOOOOOOOOOO -50 -50 0000000000000080\n\
+      END 000001\n";
 
 const BOTH: &[u8] =
-    b"OBOOK2 W\n--OXOOO-OOOOOOOOOOOOOOOOOOOOOOOOOOOOOOOOOOOOOOOOOOOOOOOOOOOOOOOO -50 -50 0000000000000080\nXXXXXXXXXXXXXXXXXXXXXXXXXXXXXXXXXXXXXXXXXXXXXXXXXXXXXXXX-OXXXXO- +64 +64 8100000000000000\nEND 000002\n";
+    b"OBOOK2 W\n--OXOOO-OOOOOOOOOOOOOOOOOOOOOOOOOOOOOOOOOOOOOOOOOOOOOOOOOOOOOOOO -50 -50 0000000000000080\n\
+      XXXXXXXXXXXXXXXXXXXXXXXXXXXXXXXXXXXXXXXXXXXXXXXXXXXXXXXX-OXXXXO- +64 +64 8100000000000000\nEND 000002\n";
 
 const WRONG_ORDER: &[u8] =
-    b"OBOOK2 W\nXXXXXXXXXXXXXXXXXXXXXXXXXXXXXXXXXXXXXXXXXXXXXXXXXXXXXXXX-OXXXXO- +64 +64 8100000000000000\n--OXOOO-OOOOOOOOOOOOOOOOOOOOOOOOOOOOOOOOOOOOOOOOOOOOOOOOOOOOOOOO -50 -50 0000000000000080\nEND 000002\n";
+    b"OBOOK2 W\nXXXXXXXXXXXXXXXXXXXXXXXXXXXXXXXXXXXXXXXXXXXXXXXXXXXXXXXX-OXXXXO- +64 +64 8100000000000000\n\
+      --OXOOO-OOOOOOOOOOOOOOOOOOOOOOOOOOOOOOOOOOOOOOOOOOOOOOOOOOOOOOOO -50 -50 0000000000000080\nEND 000002\n";
 
 const WRONG_ORDER_1: &[u8] =
-    b"OBOOK1\nXXXXXXXXXXXXXXXXXXXXXXXXXXXXXXXXXXXXXXXXXXXXXXXXXXXXXXXX-OXXXXO- +64 8100000000000000\n--OXOOO-OOOOOOOOOOOOOOOOOOOOOOOOOOOOOOOOOOOOOOOOOOOOOOOOOOOOOOOO -50 0000000000000080\nEND 000002\n";
+    b"OBOOK1\nXXXXXXXXXXXXXXXXXXXXXXXXXXXXXXXXXXXXXXXXXXXXXXXXXXXXXXXX-OXXXXO- +64 8100000000000000\n\
+      --OXOOO-OOOOOOOOOOOOOOOOOOOOOOOOOOOOOOOOOOOOOOOOOOOOOOOOOOOOOOOO -50 0000000000000080\nEND 000002\n";
 
 const TWICE: &[u8] =
-    b"OBOOK1\n--OXOOO-OOOOOOOOOOOOOOOOOOOOOOOOOOOOOOOOOOOOOOOOOOOOOOOOOOOOOOOO -50 0000000000000080\n--OXOOO-OOOOOOOOOOOOOOOOOOOOOOOOOOOOOOOOOOOOOOOOOOOOOOOOOOOOOOOO -50 0000000000000080\nEND 000002\n";
+    b"OBOOK1\n--OXOOO-OOOOOOOOOOOOOOOOOOOOOOOOOOOOOOOOOOOOOOOOOOOOOOOOOOOOOOOO -50 0000000000000080\n\
+      --OXOOO-OOOOOOOOOOOOOOOOOOOOOOOOOOOOOOOOOOOOOOOOOOOOOOOOOOOOOOOO -50 0000000000000080\nEND 000002\n";
 
 // What becomes of bytes that are read and verified.
 #[derive(Clone, Copy, Debug, PartialEq, Eq)]
@@ -55,6 +63,11 @@ enum Outcome {
     Fault(BookFault),
     Wrong(Wrong),
     Good(usize),
+}
+
+// What is read is what is checked.
+fn is_checked_as_read(alloc: Global, bytes: &[u8]) -> bool {
+    check_text(bytes).err() == read_claims(alloc, bytes).err()
 }
 
 fn judged(alloc: Global, bytes: &[u8]) -> Outcome {
@@ -230,16 +243,6 @@ fn each_cut_and_each_wrong_byte_is_refused(rt: HostRuntime) -> Result<(), Fail> 
     Ok(())
 }
 
-fn board(words: [u64; 2]) -> Option<Board>
-    ensures { IfSome result (λ b. empty_count b ≤ 30) }
-{
-    let board = Board::of(words[0], words[1]).ok()?;
-    if board.empties() > 30 {
-        return None;
-    }
-    Some(board)
-}
-
 fn answer(words: [u64; 2], scoring: Scoring) -> Option<Answer>
     ensures { IfSome result (λ a. empty_count a.board ≤ 30) }
 {
@@ -368,6 +371,26 @@ fn a_writer_that_fails_has_the_first_bytes(rt: HostRuntime) -> Result<(), Fail> 
         assert_eq!(rt; write(&book, &mut sink), Err(WriteFault));
         assert!(rt; sink.taken() == front(BOOK_2, count));
         assert!(rt; sink.calls() == count as u64 + 1);
+    }
+    Ok(())
+}
+
+#[test]
+fn a_text_is_checked_without_memory_as_it_is_read(rt: HostRuntime) -> Result<(), Fail> {
+    let alloc = rt.alloc();
+    assert_eq!(rt; check_text(BOTH), Ok(()));
+    assert_eq!(rt; check_text(EMPTY_1), Ok(()));
+    assert_eq!(rt; check_text(EMPTY_2), Ok(()));
+    assert_eq!(rt; check_text(WRONG_ORDER), Err(BookFault::Order(2)));
+    assert_eq!(rt; check_text(TWICE), Err(BookFault::Order(2)));
+    for len in 0..BOTH.len() {
+        assert!(rt; is_checked_as_read(alloc, &BOTH[..len]));
+    }
+    let mut bytes = BOTH.to_vec(alloc)?;
+    for place in 0..BOTH.len() {
+        bytes[place] = b'+';
+        assert!(rt; is_checked_as_read(alloc, bytes.as_slice()));
+        bytes[place] = BOTH[place];
     }
     Ok(())
 }

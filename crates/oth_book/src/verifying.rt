@@ -13,23 +13,46 @@ use crate::claim::Claim;
 use crate::claims::Claims;
 use crate::wrong::{Cause, Wrong};
 use oth_rules::Scoring;
-use oth_search::{Interval, NoCells, search, solve_alone};
+use oth_search::{Answer, Interval, NoCells, search, solve_alone};
 use std::alloc::Global;
 
-/// The book of claims that are all true, or the first that isn't. Each is solved anew. The claims are given up. Memory is asked for
-/// once, before any is solved, and not where there are no claims.
+/// The book of claims that are all true, or the first that isn't. Each is solved anew. The claims are given up. Memory
+/// is asked for once, before any is solved, and not where there are no claims.
 pub fn verify(alloc: Global, claims: Claims) -> Result<Book, Wrong>
     ensures same { IfOk result (λ book. book ≡ claims) }
     ensures holds { IfOk result (λ book. IsTrueBook book) }
     ensures wrong { IfErr result (λ w. IsWrong claims w) }
 {
+    verify_knowing(alloc, claims, |_: &[Claim]| None)
+}
+
+/// The same, where answers may be known. Before each claim is tested, `known` is asked with the claims that are left,
+/// and may tell an answer. One of the first claim's board by the claims' scoring decides that claim; another is passed
+/// over, and the board is solved anew. An answer can't be untrue, so which are told changes nothing but the time.
+pub fn verify_knowing<F: FnMut(&[Claim]) -> Option<Answer>>(
+    alloc: Global,
+    claims: Claims,
+    known: F,
+) -> Result<Book, Wrong>
+    requires { F.IsAlwaysCallable known }
+    ensures same { IfOk result (λ book. book ≡ claims) }
+    ensures holds { IfOk result (λ book. IsTrueBook book) }
+    ensures wrong { IfErr result (λ w. IsWrong claims w) }
+{
     let scoring = claims.scoring();
-    let entries = verified(alloc, claims.entries(), scoring)?;
+    let entries = verified(alloc, claims.entries(), scoring, known)?;
     Ok(Book::of(scoring, entries))
 }
 
-fn verified(alloc: Global, claims: &[Claim], scoring: Scoring) -> Result<Vec<Claim>, Wrong>
-    requires { (v : AnyVersion) × AreClaims v claims.now }
+// The claims, if all are true, or the first that isn't.
+fn verified<F: FnMut(&[Claim]) -> Option<Answer>>(
+    alloc: Global,
+    claims: &[Claim],
+    scoring: Scoring,
+    mut known: F,
+) -> Result<Vec<Claim>, Wrong>
+    requires claims { (v : AnyVersion) × AreClaims v claims.now }
+    requires known { F.IsAlwaysCallable known }
     ensures same { IfOk result (λ entries. entries.items ≡ claims.now) }
     ensures each { IfOk result (λ entries. All (IsTrueClaim scoring) entries.items) }
     ensures wrong { IfErr result (λ w. IsWrong (record { scoring = scoring; entries = claims.now }) w) }
@@ -38,7 +61,8 @@ fn verified(alloc: Global, claims: &[Claim], scoring: Scoring) -> Result<Vec<Cla
         return Err(Wrong::Memory);
     };
     for claim in claims {
-        if let Err(cause) = check(claim, scoring) {
+        let answer = known(&claims[entries.len()..]);
+        if let Err(cause) = check(claim, scoring, answer) {
             return Err(Wrong::Entry(entries.len() as u32 + 1, cause));
         }
         entries.push(*claim).unwrap();
@@ -46,14 +70,20 @@ fn verified(alloc: Global, claims: &[Claim], scoring: Scoring) -> Result<Vec<Cla
     Ok(entries)
 }
 
-/// Whether the claim is true, or the first cause for which it isn't.
-fn check(claim: &Claim, scoring: Scoring) -> Result<(), Cause>
+// Whether the claim is true, or the first cause for which it isn't: by the answer if it is that of the claim's board,
+// else by a search.
+fn check(claim: &Claim, scoring: Scoring, answer: Option<Answer>) -> Result<(), Cause>
     requires { IsInterval claim.now.lower claim.now.upper }
     ensures ok { OnOk result (IsTrueClaim scoring claim.now) }
     ensures cause { IfErr result (λ why. IsCause scoring claim.now why) }
 {
     if !has_few_empties(&claim.board) {
         return Err(Cause::Empties);
+    }
+    if let Some(answer) = answer {
+        if answer.board == claim.board && answer.scoring == scoring {
+            return check_by(claim, &answer);
+        }
     }
     if is_exact(claim) {
         return check_exact(claim, scoring);
@@ -64,25 +94,35 @@ fn check(claim: &Claim, scoring: Scoring) -> Result<(), Cause>
     Ok(())
 }
 
-fn check_exact(claim: &Claim, scoring: Scoring) -> Result<(), Cause>
+// The same, of a claim whose board's answer is known.
+fn check_by(claim: &Claim, answer: &Answer) -> Result<(), Cause>
     requires few { empty_count claim.now.board ≤ 30 }
-    requires exact { IsExact claim.now }
-    ensures ok { OnOk result (IsTrueClaim scoring claim.now) }
-    ensures cause { IfErr result (λ why. IsCause scoring claim.now why) }
+    requires board { answer.now.board ≡ claim.now.board }
+    ensures ok { OnOk result (IsTrueClaim answer.now.scoring claim.now) }
+    ensures cause { IfErr result (λ why. IsCause answer.now.scoring claim.now why) }
 {
-    let Ok(answer) = solve_alone(&claim.board, scoring) else {
-        return Err(Cause::Empties);
-    };
-    if answer.score != claim.lower {
+    if answer.score < claim.lower || claim.upper < answer.score {
         return Err(Cause::Bounds);
     }
-    if answer.best != claim.best {
+    if is_exact(claim) && answer.best != claim.best {
         return Err(Cause::Best);
     }
     Ok(())
 }
 
-/// Whether the bounds enclose the value, by one search with the window just round them.
+// The same, of a claim whose bounds are one number.
+fn check_exact(claim: &Claim, scoring: Scoring) -> Result<(), Cause>
+    requires few { empty_count claim.now.board ≤ 30 }
+    ensures ok { OnOk result (IsTrueClaim scoring claim.now) }
+    ensures cause { IfErr result (λ why. IsCause scoring claim.now why) }
+{
+    match solve_alone(&claim.board, scoring) {
+        Ok(answer) => check_by(claim, &answer),
+        Err(_) => Err(Cause::Empties),
+    }
+}
+
+// Whether the bounds enclose the value, by one search with the window just round them.
 fn encloses(claim: &Claim, scoring: Scoring) -> bool
     requires { IsInterval claim.now.lower claim.now.upper }
     ensures { IsTrue result ↔ HoldsValue scoring claim.now }
@@ -97,6 +137,7 @@ fn encloses(claim: &Claim, scoring: Scoring) -> bool
     is_within(found, claim)
 }
 
+// Whether what was found lies within the claim.
 fn is_within(found: Interval, claim: &Claim) -> bool
     ensures { IsTrue result ↔ ((claim.now.lower ≤ℤ found.lower) × (found.upper ≤ℤ claim.now.upper)) }
 {

@@ -1,3 +1,4 @@
+//! The versions of a book's text.
 use oth_rules::Scoring;
 
 /// The two forms of a book's text.

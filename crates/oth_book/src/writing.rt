@@ -23,7 +23,7 @@ use oth_rules::Board;
 use oth_text::{Failed, Sink, write_all};
 use thiserror::Error;
 
-/// The most bytes of a line.
+// The most bytes of a line.
 const LINE_LEN: usize = 90;
 
 /// The writer failed while a book was written.
@@ -31,7 +31,8 @@ const LINE_LEN: usize = 90;
 #[error("the book couldn't be written")]
 pub struct WriteFault;
 
-/// Writes the text of the book, in version 2: of a true book, since there is no other. Where the writer fails, a beginning of the text was written.
+/// Writes the text of the book, in version 2: of a true book, since there is no other. Where the writer fails, a
+/// beginning of the text was written.
 pub fn write<W: Sink>(book: &Book, writer: &mut W) -> Result<(), WriteFault>
     requires { W.failed writer.old ≡ false }
     ensures book { IsTrueBook book.now }
@@ -48,11 +49,13 @@ pub fn write<W: Sink>(book: &Book, writer: &mut W) -> Result<(), WriteFault>
     }
 }
 
+// Writes the text, a line at a time.
 fn write_lines<W: Sink>(entries: &[Claim], version: Version, writer: &mut W) -> Result<(), Failed>
     requires version { (g : AnyScoring) × (version ≡ Version.Two g) }
     requires bounds { All (λ c. IsInterval c.lower c.upper) entries.now }
     ensures ok { OnOk result (Appends (W.contents writer.old) (W.contents writer.new) (book_text version entries.now)) }
-    ensures err { OnErr result (AppendsBeginning (W.contents writer.old) (W.contents writer.new) (book_text version entries.now)) }
+    ensures err { OnErr result
+        (AppendsBeginning (W.contents writer.old) (W.contents writer.new) (book_text version entries.now)) }
     ensures works { OnOk result (W.failed writer.new ≡ W.failed writer.old) }
     ensures fails { OnErr result (W.failed writer.new ≡ true) }
 {
@@ -66,6 +69,7 @@ fn write_lines<W: Sink>(entries: &[Claim], version: Version, writer: &mut W) -> 
     Ok(())
 }
 
+// The line of an entry.
 fn line_of(entry: &Claim) -> ArrayVec<u8, LINE_LEN>
     requires { IsInterval entry.now.lower entry.now.upper }
     ensures { (g : AnyScoring) → result.items ≡ entry_line (Version.Two g) entry.now }
@@ -82,6 +86,7 @@ fn line_of(entry: &Claim) -> ArrayVec<u8, LINE_LEN>
     line
 }
 
+// The end line of so many entries.
 #[tactic(auto, unfolding(crate::specs::Text::end_line))]
 fn last_line(count: u64) -> ArrayVec<u8, LINE_LEN>
     ensures { result.items ≡ end_line count }
@@ -93,6 +98,7 @@ fn last_line(count: u64) -> ArrayVec<u8, LINE_LEN>
     line
 }
 
+// The cells of the board.
 fn push_cells(line: &mut ArrayVec<u8, LINE_LEN>, board: &Board)
     requires { line.old.items ≡ [] }
     ensures cells { line.new.items ≡ cells board.now }
@@ -103,6 +109,7 @@ fn push_cells(line: &mut ArrayVec<u8, LINE_LEN>, board: &Board)
     }
 }
 
+// A sign and two digits.
 #[tactic(auto, unfolding(crate::specs::Text::signed))]
 fn push_bound(line: &mut ArrayVec<u8, LINE_LEN>, bound: i8)
     requires { array_vec_len line.old + 3 ≤ LINE_LEN }
@@ -113,6 +120,7 @@ fn push_bound(line: &mut ArrayVec<u8, LINE_LEN>, bound: i8)
     push_numeral::<2>(line, 10, u64::from(bound.unsigned_abs()));
 }
 
+// So many digits of the number.
 fn push_numeral<const DIGITS: usize>(line: &mut ArrayVec<u8, LINE_LEN>, base: u64, number: u64)
     requires room { array_vec_len line.old + DIGITS ≤ LINE_LEN }
     requires positive { 0 < base }

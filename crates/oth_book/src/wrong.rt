@@ -1,3 +1,4 @@
+//! What is wrong with an entry of a book, and the number by which it is told.
 ghost use Rattle.std.specs.Prelude.{◌≡◌};
 ghost use Rattle.oth_book.specs.Numbers.{wrong_number, wrong_entry};
 

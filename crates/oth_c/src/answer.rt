@@ -8,8 +8,8 @@ use crate::refusal::Refusal;
 use oth_rules::Scoring;
 use oth_search::{Answer, Kind};
 
-/// The value of a board for its mover, -64 to 64; all its best moves, bit `n` for square `n`; and what the mover does: 0
-/// moves, 1 passes, 2 the game is over.
+/// The value of a board for its mover, -64 to 64; all its best moves, bit `n` for square `n`; and what the mover does:
+/// 0 moves, 1 passes, 2 the game is over.
 #[repr(C)]
 #[derive(Clone, Copy, PartialEq, Eq, Debug)]
 pub struct OthAnswer {
@@ -33,6 +33,7 @@ impl OthAnswer {
     }
 }
 
+// The number of the kind in C: 0 a move, 1 a pass, 2 the end.
 fn kind_number(kind: Kind) -> u8
     ensures { result ≡ kind_number kind }
 {

@@ -43,6 +43,7 @@ impl OthPosition {
     }
 }
 
+// The number of the side in C: 0 black, 1 white.
 fn side_number(side: Side) -> u8
     ensures { result ≡ side_number side }
 {

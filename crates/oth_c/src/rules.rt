@@ -27,7 +27,8 @@ pub extern "C" fn oth_moves(board: OthBoard, moves: &mut u64) -> u32
     }
 }
 
-/// Writes the discs that a move to the square flips: none exactly where the move is illegal. Refusals 1 and 2, tested in this order.
+/// Writes the discs that a move to the square flips: none exactly where the move is illegal. Refusals 1 and 2, tested
+/// in this order.
 #[unsafe(no_mangle)]
 pub extern "C" fn oth_flips(board: OthBoard, square: u8, flips: &mut u64) -> u32
     ensures code { result ≡ square_code board square }
@@ -44,6 +45,7 @@ pub extern "C" fn oth_flips(board: OthBoard, square: u8, flips: &mut u64) -> u32
     }
 }
 
+// The discs that the move turns over, or the first refusal.
 fn flipped(board: OthBoard, square: u8) -> Result<u64, Refusal>
     ensures ok { IfOk result (λ w. (square_code board square ≡ DONE)
         × (w ≡ word_of (is_flipped (position board) square))
@@ -71,6 +73,7 @@ pub extern "C" fn oth_play(board: OthBoard, square: u8, next: &mut OthBoard) -> 
     }
 }
 
+// The board after the move, or the first refusal.
 fn played(board: OthBoard, square: u8) -> Result<Board, Refusal>
     ensures ok { IfOk result (λ b. (play_code board square ≡ DONE) × (b ≡ after (position board) square)) }
     ensures err { IfErr result (λ r. play_code board square ≡ code_of r) }

@@ -15,17 +15,14 @@ use crate::board::OthBoard;
 use crate::cells::CallCells;
 use crate::refusal::{DONE, Refusal};
 use oth_rules::{Board, Scoring};
-use oth_search::{Answer, solve_alone, solve_with};
+use oth_search::{Answer, MOST_EMPTIES, solve_alone, solve_with};
 use oth_table::{SharedTable, TableCells, TableError, TableSeat};
 use std::alloc::Global;
 
-/// The most empty squares of a board that is solved.
-const MOST_EMPTIES: u8 = 30;
-
-/// Writes the score and all best moves of a board of at most 30 empty squares by full minimax, and what its mover does. `scoring` is 0
-/// (the empty squares go to the winner) or 1 (discs alone). `cells` is 0, or 1, 2, 4 .. 262,144: so many cells has the
-/// table that the call makes and frees. Where there is no memory it searches without a table, and answers the same.
-/// Refusals 1, 4, 5 and 6, tested in this order.
+/// Writes the score and all best moves of a board of at most 30 empty squares by full minimax, and what its mover does.
+/// `scoring` is 0 (the empty squares go to the winner) or 1 (discs alone). `cells` is 0, or 1, 2, 4 .. 262,144: so many
+/// cells has the table that the call makes and frees. Where there is no memory it searches without a table, and answers
+/// the same. Refusals 1, 4, 5 and 6, tested in this order.
 #[unsafe(no_mangle)]
 pub extern "C" fn oth_solve_alone(
     alloc: Global,
@@ -48,6 +45,7 @@ pub extern "C" fn oth_solve_alone(
     }
 }
 
+// The answer, or the first refusal.
 fn solved(alloc: Global, board: OthBoard, scoring: u8, cells: u32) -> Result<Answer, Refusal>
     ensures accepted { IfOk result (λ a. Accepts board scoring cells) }
     ensures full { IfOk result (IsFullMinimax (position board) (scoring_of scoring)) }

@@ -11,15 +11,16 @@ ghost use Rattle.oth_c.specs.Boards.{position};
 ghost use Rattle.oth_c.specs.Codes.{code_of};
 ghost use Rattle.oth_c.specs.Positions.{shown, words_of};
 ghost use Rattle.oth_c.specs.declared.refusal.Refusal.TheVariants as refusal;
-ghost use Rattle.oth_c.specs.Texts.{line_code, line_place, moves_line_code, print_code, transcript_code, transcript_place};
+ghost use Rattle.oth_c.specs.Texts.{line_code, line_place, moves_line_code, print_code, transcript_code};
+ghost use Rattle.oth_c.specs.Texts.{transcript_place};
 
 use crate::board::OthBoard;
 use crate::position::OthPosition;
 use crate::refusal::{DONE, Refusal};
 use oth_text::{LineFault, TranscriptFault, moves_line, read_board, read_transcript, write_board};
 
-/// Writes the position of a board line of 66 bytes. `place` gets the place, from 1, of the byte of refusal 12, and else 0.
-/// Refusals 11 to 14: the length, a cell, byte 65, byte 66.
+/// Writes the position of a board line of 66 bytes. `place` gets the place, from 1, of the byte of refusal 12, and else
+/// 0. Refusals 11 to 14: the length, a cell, byte 65, byte 66.
 #[unsafe(no_mangle)]
 pub extern "C" fn oth_read_board(text: &[u8], position: &mut OthPosition, place: &mut u8) -> u32
     ensures code { result ≡ line_code (reading text.now) }
@@ -63,8 +64,9 @@ fn line_place(fault: LineFault) -> u8
     }
 }
 
-/// Writes the position that a transcript leads to. `place` gets the number, from 1, of the pair of refusals 22 to 24, and else
-/// 0. Refusals 21 to 24: an odd length, a pair that is no square, an illegal move, the game is over before the pair.
+/// Writes the position that a transcript leads to. `place` gets the number, from 1, of the pair of refusals 22 to 24,
+/// and else 0. Refusals 21 to 24: an odd length, a pair that is no square, an illegal move, the game is over before the
+/// pair.
 #[unsafe(no_mangle)]
 pub extern "C" fn oth_read_transcript(
     text: &[u8],
@@ -113,7 +115,8 @@ fn transcript_place(fault: TranscriptFault) -> u8
     }
 }
 
-/// Prints the board line of a position, 66 bytes, into the front of a buffer. Refusals 1, 8 and 7, tested in this order.
+/// Prints the board line of a position, 66 bytes, into the front of a buffer. Refusals 1, 8 and 7, tested in this
+/// order.
 #[unsafe(no_mangle)]
 pub extern "C" fn oth_print_board(position: OthPosition, line: &mut [u8]) -> u32
     ensures code { result ≡ print_code position (length line.old) }
@@ -126,8 +129,10 @@ pub extern "C" fn oth_print_board(position: OthPosition, line: &mut [u8]) -> u32
     }
 }
 
+// Writes the position's line into the buffer, or gives the first refusal.
 fn printed(position: OthPosition, line: &mut [u8]) -> Result<(), Refusal>
-    ensures ok { IfOk result (λ u. (print_code position (length line.old) ≡ DONE) × (line.new ≡ board_line (shown position) ++ drop 66 line.old)) }
+    ensures ok { IfOk result (λ u. (print_code position (length line.old) ≡ DONE)
+        × (line.new ≡ board_line (shown position) ++ drop 66 line.old)) }
     ensures err { IfErr result (λ r. (print_code position (length line.old) ≡ code_of r) × (line.new ≡ line.old)) }
 {
     let position = position.position()?;
@@ -136,8 +141,10 @@ fn printed(position: OthPosition, line: &mut [u8]) -> Result<(), Refusal>
 
 // Copies the text into the front of the buffer; refused where it is too short.
 fn put(text: &[u8], buffer: &mut [u8]) -> Result<(), Refusal>
-    ensures ok { IfOk result (λ u. (length text.now ≤ length buffer.old) × (buffer.new ≡ text.now ++ drop (length text.now) buffer.old)) }
-    ensures err { IfErr result (λ r. (length buffer.old < length text.now) × (r ≡ refusal.Room) × (buffer.new ≡ buffer.old)) }
+    ensures ok { IfOk result (λ u. (length text.now ≤ length buffer.old)
+        × (buffer.new ≡ text.now ++ drop (length text.now) buffer.old)) }
+    ensures err { IfErr result (λ r. (length buffer.old < length text.now) × (r ≡ refusal.Room)
+        × (buffer.new ≡ buffer.old)) }
 {
     if buffer.len() < text.len() {
         return Err(Refusal::Room);
@@ -164,6 +171,7 @@ pub extern "C" fn oth_print_moves(board: OthBoard, line: &mut [u8], written: &mu
     }
 }
 
+// Writes the moves line into the buffer and gives its length, or the first refusal.
 fn moves_printed(board: OthBoard, line: &mut [u8]) -> Result<usize, Refusal>
     ensures ok { IfOk result (λ n. (moves_line_code board (length line.old) ≡ DONE)
         × (n ≡ length (moves_line_of (position board)))

@@ -1,4 +1,5 @@
-//! Calls one form of `moves` or of `flips` ten times on each of three million boards of scattered discs, and prints the sum of what it gave.
+//! Calls one form of `moves` or of `flips` ten times on each of three million boards of scattered discs, and prints the
+//! sum of what it gave.
 //!
 //! `bench/forms.py` times it, form by form. All forms of one call print the same sum.
 #![tactic(auto)]
@@ -8,19 +9,20 @@ use std::env::Env;
 use std::process::ExitCode;
 use std::{env, io};
 
-/// The boards of a round.
+// The boards of a round.
 const BOARDS: u32 = 3_000_000;
 
-/// How often a run goes over all boards.
+// How often a run goes over all boards.
 const ROUNDS: u32 = 10;
 
-/// Where the random words begin.
+// Where the random words begin.
 const SEED: u64 = 0x9e37_79b9_7f4a_7c15;
 
+// What is said where the word names no form.
 const USAGE: &str =
     "a form is one of: nothing, moves, moves_by_lines, moves_by_shifts, flips, flips_by_rays, flips_by_shifts";
 
-/// What is called on each board.
+// What is called on each board.
 #[derive(Clone, Copy)]
 enum Form {
     Nothing,
@@ -33,7 +35,7 @@ enum Form {
 }
 
 impl Form {
-    /// The form of this name.
+    // The form of this name.
     fn named(name: &str) -> Option<Form> {
         match name {
             "nothing" => Some(Form::Nothing),
@@ -47,7 +49,7 @@ impl Form {
         }
     }
 
-    /// What the form gives of a board and a square.
+    // What the form gives of a board and a square.
     fn of(self, board: &Board, square: Square) -> u64 {
         match self {
             Form::Nothing => board.own(),
@@ -61,13 +63,14 @@ impl Form {
     }
 }
 
-/// Words without a pattern, each made of the last one.
+// Words without a pattern, each made of the last one.
 #[derive(Drop)]
 struct Words {
     last: u64,
 }
 
 impl Words {
+    // The next word.
     fn next(&mut self) -> u64 {
         let mut word = self.last;
         word ^= word << 13;
@@ -77,7 +80,7 @@ impl Words {
         word
     }
 
-    /// A board on which three squares of four have a disc.
+    // A board on which three squares of four have a disc.
     fn board(&mut self) -> Option<Board> {
         let discs = self.next() | self.next();
         let own = self.next();
@@ -85,6 +88,7 @@ impl Words {
     }
 }
 
+// Prints the sum of what the form gives, so that no call can be left out.
 fn main(rt: HostRuntime) -> ExitCode {
     match asked_form(&rt) {
         Ok(Some(form)) => match println!(rt; "{:016x}", sum(form)) {
@@ -98,13 +102,13 @@ fn main(rt: HostRuntime) -> ExitCode {
     }
 }
 
-/// The form that the one word of the command line names.
+// The form that the one word of the command line names.
 fn asked_form<R: Env + AllocGlobal>(rt: &R) -> io::Result<Option<Form>> {
     let mut words = env::args(rt)?;
     Ok(words.nth(1).and_then(|name| Form::named(name.as_str())))
 }
 
-/// The sum of what the form gives of all boards, in all rounds.
+// The sum of what the form gives of all boards, in all rounds.
 fn sum(form: Form) -> u64 {
     let mut sum = 0u64;
     for _ in 0..ROUNDS {
@@ -113,7 +117,7 @@ fn sum(form: Form) -> u64 {
     sum
 }
 
-/// The sum of what the form gives of all boards, at the first empty square of each.
+// The sum of what the form gives of all boards, at the first empty square of each.
 fn round(form: Form) -> u64 {
     let mut words = Words { last: SEED };
     let mut sum = 0u64;

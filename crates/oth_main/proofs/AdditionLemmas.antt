@@ -167,6 +167,10 @@ full_within before input bytes i d within full =
     ∙ ap (λ l. input ++ l) (sym (append_assoc (take i bytes) (b ∷ []) (drop (i + 1) bytes)) ∙ ap (λ l. l ++ drop (i + 1) bytes) (sym front) ∙ take-append-drop (i + 1) bytes) in
     rw whole at (full_more before ((input ++ take i bytes) ++ b ∷ []) (drop (i + 1) bytes) full)
 
+-- by the same book and line
+pub adding_same : (before book book' : Contents) (kept kept' input : List ℕ) → book' ≡ book → kept' ≡ kept → IsAdding before book kept input → IsAdding before book' kept' input
+adding_same before book book' kept kept' input same line so_far = rw (same, line) so_far
+
 pub adding_byte : (before book : Contents) (kept input bytes : List ℕ) (i d : ℕ) → i < length bytes → IsAdding before book kept ((input ++ take i bytes) ++ get_or bytes i d ∷ [])
     → IsAdding before book kept (input ++ take (i + 1) bytes)
 adding_byte before book kept input bytes i d within so_far =

@@ -1,24 +1,21 @@
 //! Boards of lines that wait together, solved side by side before their lines are answered.
 
-ghost use Rattle.std.specs.Prelude.{◌≡◌, ◌<◌, ◌↔◌, IsErr, IfOk, IfErr, IfSome};
+ghost use Rattle.std.specs.Prelude.{◌≡◌, ◌<◌, ◌↔◌, IsErr, IfOk, IfErr};
 ghost use Rattle.oth_rules.specs.Position.{empty_count};
 ghost use Rattle.oth_main.specs.Run.{AreLawful};
 
-use crate::engine::split_line;
+use crate::lines::split_line;
 use crate::solver::Solver;
-use oth_batch::Boards;
+use oth_batch::{Boards, answer_among};
 use oth_pool::Gate;
-use oth_rules::{Board, Scoring};
-use oth_search::{Answer, TooManyEmpties};
+use oth_rules::Board;
+use oth_search::{Answer, MOST_EMPTIES, TooManyEmpties};
 use oth_text::read_solvable;
 use oth_words::{Command, Settings};
 use std::alloc::Global;
 use std::thread::Threads;
 
-/// The most empty squares of a board that is solved.
-const MOST_EMPTIES: u8 = 30;
-
-/// The most lines that are looked at together.
+// The most lines that are looked at together.
 const MOST_LINES: usize = 1_024;
 
 /// Answers of boards of the next lines. A board whose answer isn't there is solved when its line's turn comes.
@@ -55,27 +52,14 @@ impl Ahead {
         if empties > MOST_EMPTIES {
             return Err(TooManyEmpties { empties });
         }
-        match self.found(board, settings.scoring) {
+        match answer_among(self.answers.as_slice(), board, settings.scoring) {
             Some(answer) => Ok(answer),
             None => solver.answer_of(board, settings),
         }
     }
 
-    /// The answer of the board by the scoring, if it was found before.
-    fn found(&self, board: &Board, scoring: Scoring) -> Option<Answer>
-        ensures board { IfSome result (λ a. a.board ≡ board.now) }
-        ensures scoring { IfSome result (λ a. a.scoring ≡ scoring) }
-    {
-        for answer in self.answers.iter() {
-            if answer.board == *board && answer.scoring == scoring {
-                return Some(*answer);
-            }
-        }
-        None
-    }
-
-    /// Passes the first of the lines in these bytes, which begin with a line. Where it wasn't looked at, the boards of as many of
-    /// the lines as make a batch are solved side by side.
+    /// Passes the first of the lines in these bytes, which begin with a line. Where it wasn't looked at, the boards of
+    /// as many of the lines as make a batch are solved side by side.
     pub fn pass<T: Threads + Sync, G: Gate>(
         &mut self,
         solver: &Solver<'_, T, G>,
@@ -94,7 +78,7 @@ impl Ahead {
     }
 }
 
-/// The boards of the whole lines in these bytes, up to a batch, and the number of lines.
+// The boards of the whole lines in these bytes, up to a batch, and the number of lines.
 fn boards_of(bytes: &[u8]) -> (Boards, usize) {
     let mut boards = Boards::new();
     let mut rest = bytes;

@@ -9,13 +9,16 @@ ghost use Rattle.oth_book.specs.Add.{HasNoRoom, IsAbsent, Keeps};
 ghost use Rattle.oth_book.specs.Book.{HasExact, IsTrueBook};
 ghost use Rattle.oth_book.specs.Contents.{Contents, IsText, written};
 ghost use Rattle.oth_book.specs.declared.add.AddError.{AddError as AnyRefusal};
-ghost use Rattle.oth_main.specs.Addition.{AddsLines, AddsTo, AnswersLine, DeviceFails, FindsNoRoom, HasAdded, HasNoPlace, IsAdding, IsAnswered, IsFullFor, IsRefusedLine, IsStatus, OfInput, StopsBy, StopsFull, StopsReading};
+ghost use Rattle.oth_main.specs.Addition.{AddsLines, AddsTo, AnswersLine, DeviceFails, FindsNoRoom, HasAdded};
+ghost use Rattle.oth_main.specs.Addition.{HasNoPlace, IsAdding, IsAnswered, IsFullFor, IsRefusedLine, IsStatus};
+ghost use Rattle.oth_main.specs.Addition.{OfInput, StopsBy, StopsFull, StopsReading};
 ghost use Rattle.oth_main.specs.BookFile.{IsRefused, IsVerdict};
 ghost use Rattle.oth_main.specs.Report.{cut, lines_of};
 ghost use Rattle.oth_main.specs.Run.{AreLawful, status_of};
 ghost use Rattle.oth_main.specs.declared.book_commands.Stop.TheVariants.{Run};
 ghost use Rattle.oth_main.specs.declared.fault.RunFault.TheVariants.{Write};
 
+use crate::ahead::Ahead;
 use crate::book_file::{REFUSED, open_book, print_refusal};
 use crate::checking::check_settings;
 use crate::fault::RunFault;
@@ -25,14 +28,22 @@ use oth_book::{AddError, Book, write};
 use oth_pool::Open;
 use oth_search::Answer;
 use oth_text::{BoardReader, LineFault, Sink, Source, fault_line};
-use oth_words::Settings;
+use oth_words::{Command, Settings};
 use std::alloc::Global;
 use std::sync::Wait;
-use std::thread::Threads;
+use std::thread::{Threads, available_parallelism};
 
+// So many bytes are read at once.
 const BUFFER_LEN: usize = 16_384;
 
+// Status 0: all was done.
 const DONE: u8 = 0;
+
+// The cells of each table where nobody asks for a number.
+const CELLS: u32 = 65_536;
+
+// The workers where nobody asks for a number and nobody knows how many processors there are.
+const WORKERS: u8 = 4;
 
 // Why an addition ends without a book.
 #[derive(Drop)]
@@ -43,9 +54,10 @@ enum Stop {
     Refused(u64, AddError),
 }
 
-/// Prints `book ok n` of a book of n entries, each solved anew, or why the file is no book. The status of the program: 0,
-/// or 1 where the writer fails, or 3 where the file is refused.
-pub fn book_verify<W: Sink, E: Sink>(
+/// Prints `book ok n` of a book of n entries, each solved anew by as many workers as there are processors, or why the
+/// file is no book. The status of the program: 0, or 1 where the writer fails, or 3 where the file is refused.
+pub fn book_verify<T: Threads + Sync, W: Sink, E: Sink>(
+    rt: &T,
     alloc: Global,
     file: &[u8],
     writer: &mut W,
@@ -54,7 +66,7 @@ pub fn book_verify<W: Sink, E: Sink>(
     ensures verdict { IsVerdict file.now result (W.failed writer.new) }
     ensures works { result ≡ 0 → (W.failed writer.new ≡ false) × (W.flushed writer.new ≡ true) }
 {
-    match open_book(alloc, file) {
+    match open_book(rt, alloc, file, processors(rt), CELLS) {
         Ok(book) => {
             let ok = Message::of(b"book ok ").number(book.len() as u64);
             if !writer.failed() && ok.write_to(writer) && writer.flush().is_ok() {
@@ -70,10 +82,10 @@ pub fn book_verify<W: Sink, E: Sink>(
     }
 }
 
-/// Solves each board line by the book's scoring, adds the answers to the book of the file, and writes the new book at the
-/// end of input. Where a line can't be read, its number and its fault are printed, and it is left out. The status of the
-/// program: 0, or 1 where a device fails, or 2 where the settings aren't lawful, or 3 where the file or an answer is
-/// refused; then no book is written, save for what a writer took before it failed.
+/// Solves each board line by the book's scoring, adds the answers to the book of the file, and writes the new book at
+/// the end of input. Where a line can't be read, its number and its fault are printed, and it is left out. The status
+/// of the program: 0, or 1 where a device fails, or 2 where the settings aren't lawful, or 3 where the file or an
+/// answer is refused; then no book is written, save for what a writer took before it failed.
 pub fn book_add<T: Wait + Threads + Sync, R: Source, W: Sink, E: Sink>(
     rt: &T,
     alloc: Global,
@@ -97,7 +109,7 @@ pub fn book_add<T: Wait + Threads + Sync, R: Source, W: Sink, E: Sink>(
     if let Err(fault) = check_settings(settings) {
         return print_run_fault(fault, errors);
     }
-    match open_book(alloc, file) {
+    match open_book(rt, alloc, file, settings.workers, settings.cells) {
         Ok(book) => add_lines(rt, alloc, book, reader, writer, errors, settings),
         Err(refusal) => {
             print_refusal(&refusal, errors);
@@ -119,6 +131,48 @@ pub fn print_run_fault<E: Sink>(fault: RunFault, errors: &mut E) -> u8
     }
 }
 
+// As many workers as there are processors, at most 16.
+fn processors<T: Threads>(rt: &T) -> u8 {
+    match available_parallelism(rt) {
+        Ok(count) => count.get().min(16) as u8,
+        Err(_) => WORKERS,
+    }
+}
+
+// The settings by which lines are solved for a book: by its scoring.
+fn by_book(settings: &Settings, book: &Book) -> Settings
+    requires { AreLawful settings.now }
+    ensures lawful { AreLawful result }
+    ensures scoring { result.scoring ≡ book.now.scoring }
+{
+    Settings {
+        command: Command::Solve,
+        scoring: book.scoring(),
+        ..*settings
+    }
+}
+
+// Passes the first of the lines in these bytes, after boards of them were solved side by side for the book.
+fn pass_line<T: Threads + Sync>(
+    ahead: &mut Ahead,
+    rt: &T,
+    alloc: Global,
+    book: &Book,
+    bytes: &[u8],
+    settings: &Settings,
+)
+    requires { AreLawful settings.now }
+{
+    let asked = by_book(settings, book);
+    let solver = Solver {
+        rt,
+        alloc,
+        gate: &Open,
+        book: Some(book),
+    };
+    ahead.pass(&solver, &asked, bytes);
+}
+
 // Adds the lines of the input to the book, and writes it.
 fn add_lines<T: Wait + Threads + Sync, R: Source, W: Sink, E: Sink>(
     rt: &T,
@@ -132,7 +186,8 @@ fn add_lines<T: Wait + Threads + Sync, R: Source, W: Sink, E: Sink>(
     requires lawful { AreLawful settings.now }
     requires holds { IsTrueBook book }
     ensures status { IsStatus result
-        (AddsLines book (R.remaining reader.old) (R.remaining reader.new) (W.contents writer.old) (W.contents writer.new))
+        (AddsLines book (R.remaining reader.old) (R.remaining reader.new)
+        (W.contents writer.old) (W.contents writer.new))
         (DeviceFails (R.failed reader.new) (W.failed writer.new) (writer.new ≡ writer.old))
         ((writer.new ≡ writer.old) × StopsFull book (R.remaining reader.old) (R.remaining reader.new)) }
     ensures works { result ≡ 0 → (R.failed reader.new ≡ R.failed reader.old)
@@ -141,6 +196,7 @@ fn add_lines<T: Wait + Threads + Sync, R: Source, W: Sink, E: Sink>(
     let mut addition = Addition {
         book,
         line: BoardReader::new(),
+        ahead: Ahead::nothing(alloc),
         number: 1,
     };
     match addition.run(rt, alloc, reader, writer, errors, settings) {
@@ -157,11 +213,12 @@ fn add_lines<T: Wait + Threads + Sync, R: Source, W: Sink, E: Sink>(
     }
 }
 
-// The book so far, the line that has begun, and its number from 1.
+// The book so far, the line that has begun, answers of the next lines, and the line's number from 1.
 #[derive(Drop)]
 struct Addition {
     book: Book,
     line: BoardReader,
+    ahead: Ahead,
     number: u64,
 }
 
@@ -183,7 +240,8 @@ impl Addition {
             (W.contents writer.old) (W.contents writer.new)) }
         ensures works { OnOk result ((R.failed reader.new ≡ R.failed reader.old)
             × (W.failed writer.new ≡ false) × (W.flushed writer.new ≡ true)) }
-        ensures err { IfErr result (λ stop. StopsBy stop (R.failed reader.new) (W.failed writer.new) (writer.new ≡ writer.old)
+        ensures err { IfErr result (λ stop. StopsBy stop (R.failed reader.new) (W.failed writer.new)
+            (writer.new ≡ writer.old)
             (StopsFull self.old.book (R.remaining reader.old) (R.remaining reader.new))) }
     {
         self.read_lines(rt, alloc, reader, errors, settings)?;
@@ -233,16 +291,37 @@ impl Addition {
         settings: &Settings,
     ) -> Result<(), Stop>
         requires lawful { AreLawful settings.now }
-        ensures ok { OnOk result ((before : Contents) (input : List ℕ) → IsAdding before self.old.book self.old.line input
+        ensures ok { OnOk result ((before : Contents) (input : List ℕ)
+            → IsAdding before self.old.book self.old.line input
             → IsAdding before self.new.book self.new.line (input ++ bytes.now)) }
-        ensures full { OnErr result ((before : Contents) (input : List ℕ) → IsAdding before self.old.book self.old.line input
+        ensures full { OnErr result ((before : Contents) (input : List ℕ)
+            → IsAdding before self.old.book self.old.line input
             → FindsNoRoom before (cut (input ++ bytes.now)).lines) }
         ensures refused { IfErr result IsRefusedLine }
     {
-        for byte in bytes {
-            self.take_byte(rt, alloc, *byte, errors, settings)?;
+        for place in 0..bytes.len() {
+            self.look_ahead(rt, alloc, &bytes[place..], settings);
+            self.take_byte(rt, alloc, bytes[place], errors, settings)?;
         }
         Ok(())
+    }
+
+    // Where a line begins with these bytes: solves boards of the next lines side by side, unless that was done.
+    fn look_ahead<T: Threads + Sync>(
+        &mut self,
+        rt: &T,
+        alloc: Global,
+        bytes: &[u8],
+        settings: &Settings,
+    )
+        requires lawful { AreLawful settings.now }
+        ensures book { self.new.book ≡ self.old.book }
+        ensures line { self.new.line ≡ self.old.line }
+    {
+        let is_first = self.line.is_empty();
+        if is_first {
+            pass_line(&mut self.ahead, rt, alloc, &self.book, bytes, settings);
+        }
     }
 
     // Takes a further byte.
@@ -255,9 +334,11 @@ impl Addition {
         settings: &Settings,
     ) -> Result<(), Stop>
         requires lawful { AreLawful settings.now }
-        ensures ok { OnOk result ((before : Contents) (input : List ℕ) → IsAdding before self.old.book self.old.line input
+        ensures ok { OnOk result ((before : Contents) (input : List ℕ)
+            → IsAdding before self.old.book self.old.line input
             → IsAdding before self.new.book self.new.line (input ++ byte ∷ [])) }
-        ensures full { OnErr result ((before : Contents) (input : List ℕ) → IsAdding before self.old.book self.old.line input
+        ensures full { OnErr result ((before : Contents) (input : List ℕ)
+            → IsAdding before self.old.book self.old.line input
             → FindsNoRoom before (cut (input ++ byte ∷ [])).lines) }
         ensures refused { IfErr result IsRefusedLine }
     {
@@ -277,9 +358,11 @@ impl Addition {
         settings: &Settings,
     ) -> Result<(), Stop>
         requires lawful { AreLawful settings.now }
-        ensures ok { OnOk result ((before : Contents) (input : List ℕ) → IsAdding before self.old.book self.old.line input
+        ensures ok { OnOk result ((before : Contents) (input : List ℕ)
+            → IsAdding before self.old.book self.old.line input
             → HasAdded before self.new.book input) }
-        ensures full { OnErr result ((before : Contents) (input : List ℕ) → IsAdding before self.old.book self.old.line input
+        ensures full { OnErr result ((before : Contents) (input : List ℕ)
+            → IsAdding before self.old.book self.old.line input
             → FindsNoRoom before (lines_of input)) }
         ensures refused { IfErr result IsRefusedLine }
     {
@@ -298,9 +381,11 @@ impl Addition {
         settings: &Settings,
     ) -> Result<(), Stop>
         requires lawful { AreLawful settings.now }
-        ensures ok { OnOk result ((before : Contents) (input : List ℕ) → IsAdding before self.old.book self.old.line input
+        ensures ok { OnOk result ((before : Contents) (input : List ℕ)
+            → IsAdding before self.old.book self.old.line input
             → IsAdding before self.new.book self.new.line (input ++ 10 ∷ [])) }
-        ensures full { OnErr result ((before : Contents) (input : List ℕ) → IsAdding before self.old.book self.old.line input
+        ensures full { OnErr result ((before : Contents) (input : List ℕ)
+            → IsAdding before self.old.book self.old.line input
             → FindsNoRoom before (cut (input ++ 10 ∷ [])).lines) }
         ensures refused { IfErr result IsRefusedLine }
     {
@@ -322,7 +407,8 @@ impl Addition {
         ensures line { self.new.line ≡ self.old.line }
         ensures kept { Keeps self.old.book self.new.book }
         ensures holds { IsTrueBook self.old.book → IsTrueBook self.new.book }
-        ensures answered { OnOk result ((line : List ℕ) → KeepsLine self.old.line line → IsAnswered self.new.book line) }
+        ensures answered { OnOk result ((line : List ℕ) → KeepsLine self.old.line line
+            → IsAnswered self.new.book line) }
         ensures full { OnErr result ((line : List ℕ) → KeepsLine self.old.line line → HasNoPlace self.old.book line) }
         ensures refused { IfErr result IsRefusedLine }
     {
@@ -352,22 +438,20 @@ impl Addition {
         ensures few { IfOk result (λ a. empty_count a.board ≤ 30) }
     {
         let position = self.line.read()?;
-        let by_book = Settings {
-            scoring: self.book.scoring(),
-            ..*settings
-        };
+        let asked = by_book(settings, &self.book);
         let solver = Solver {
             rt,
             alloc,
             gate: &Open,
             book: Some(&self.book),
         };
-        match solver.answer_of(&position.board, &by_book) {
+        match self.ahead.answer_of(&solver, &position.board, &asked) {
             Ok(answer) => Ok(answer),
             Err(many) => Err(LineFault::Empties(many.empties)),
         }
     }
 
+    // Adds the answer of the line to the book.
     fn add(&mut self, answer: &Answer) -> Result<(), Stop>
         requires scoring { answer.now.scoring ≡ self.old.book.scoring }
         requires few { empty_count answer.now.board ≤ 30 }

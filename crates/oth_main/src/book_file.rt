@@ -6,9 +6,11 @@ ghost use Rattle.oth_book.specs.Contents.{IsText};
 ghost use Rattle.oth_main.specs.BookFile.{IsBook, IsForMemory, IsRefusal};
 
 use crate::message::Message;
-use oth_book::{Book, BookFault, Wrong, read_claims, verify};
+use oth_batch::verify_by;
+use oth_book::{Book, BookFault, Wrong, read_claims};
 use oth_text::Sink;
 use std::alloc::Global;
+use std::thread::Threads;
 
 /// The most bytes that are read of a book's file: one more than the longest book has.
 pub const MOST_BOOK_BYTES: usize = 9_000_021;
@@ -25,8 +27,15 @@ pub enum BookRefusal {
     Claim(Wrong),
 }
 
-/// The book of a file's bytes, each entry solved anew. The text of a true book is refused for want of memory alone.
-pub fn open_book(alloc: Global, file: &[u8]) -> Result<Book, BookRefusal>
+/// The book of a file's bytes, each entry solved anew by so many workers over tables of at most so many cells. The text
+/// of a true book is refused for want of memory alone.
+pub fn open_book<T: Threads + Sync>(
+    rt: &T,
+    alloc: Global,
+    file: &[u8],
+    workers: u8,
+    cells: u32,
+) -> Result<Book, BookRefusal>
     ensures text { IfOk result (λ book. IsText book file.now) }
     ensures holds { IfOk result (λ book. IsTrueBook book) }
     ensures refused { IfErr result (λ why. IsRefusal file.now why) }
@@ -36,14 +45,14 @@ pub fn open_book(alloc: Global, file: &[u8]) -> Result<Book, BookRefusal>
         Ok(claims) => claims,
         Err(fault) => return Err(BookRefusal::Text(fault)),
     };
-    match verify(alloc, claims) {
+    match verify_by(rt, alloc, claims, workers, cells) {
         Ok(book) => Ok(book),
         Err(wrong) => Err(BookRefusal::Claim(wrong)),
     }
 }
 
-/// Prints why a file is no book: `book error n` or `book wrong n`, then ` at k` where a line or an entry is to blame. An
-/// output that fails is passed over.
+/// Prints why a file is no book: `book error n` or `book wrong n`, then ` at k` where a line or an entry is to blame.
+/// An output that fails is passed over.
 pub fn print_refusal<E: Sink>(refusal: &BookRefusal, errors: &mut E) {
     let (message, number, place) = match *refusal {
         BookRefusal::Text(fault) => (Message::of(b"book error "), fault.number(), fault.line()),

@@ -1,6 +1,6 @@
 //! The engine: the line that has begun, and the bytes of the report that wait to be written.
 
-ghost use Rattle.std.specs.Prelude.{◌≡◌, ◌≢◌, ◌<◌, ℕ, List, [], ◌∷◌, ◌++◌, All, false, true, length, slice_index, take, IfSome, IfNone, OnOk, OnErr};
+ghost use Rattle.std.specs.Prelude.{◌≡◌, ◌≢◌, ℕ, List, [], ◌∷◌, ◌++◌, All, false, true, OnOk, OnErr};
 ghost use Rattle.std.specs.Io.KnownBytes.{Consumes, IsAtEnd};
 ghost use Rattle.oth_main.specs.Halfway.{Answers, Ends, StopsInside, StopsWithin, Takes, WritesEnded};
 ghost use Rattle.oth_main.specs.Line.{Holds};
@@ -11,6 +11,7 @@ ghost use Rattle.oth_main.specs.Run.{AreLawful, FailsBy};
 use crate::ahead::Ahead;
 use crate::fault::RunFault;
 use crate::line::Line;
+use crate::lines::split_line;
 use crate::solver::Solver;
 use crate::waiting::Waiting;
 use oth_pool::Gate;
@@ -20,6 +21,7 @@ use std::alloc::Global;
 use std::sync::Wait;
 use std::thread::Threads;
 
+// So many bytes are read at once.
 const BUFFER_LEN: usize = 65_536;
 
 /// The line that has begun, answers of the next lines, and the bytes of the report that wait to be written.
@@ -215,29 +217,4 @@ impl Engine {
         self.waiting.write_to(writer)?;
         writer.flush()
     }
-}
-
-// The first line, without the byte 10 that ends it, and what follows it.
-pub fn split_line(bytes: &[u8]) -> Option<(&[u8], &[u8])>
-    ensures joined { IfSome result (λ r. bytes.now ≡ (r.0.now ++ 10 ∷ []) ++ r.1.now) }
-    ensures line { IfSome result (λ r. All (λ b. b ≢ 10) r.0.now) }
-    ensures none { IfNone result (All (λ b. b ≢ 10) bytes.now) }
-{
-    let end = line_end(bytes)?;
-    Some((&bytes[..end], &bytes[end + 1..]))
-}
-
-// The place of the first byte 10.
-fn line_end(bytes: &[u8]) -> Option<usize>
-    ensures within { IfSome result (λ n. n < length bytes.now) }
-    ensures end { IfSome result (λ n. slice_index bytes.now n ≡ 10) }
-    ensures before { IfSome result (λ n. All (λ b. b ≢ 10) (take n bytes.now)) }
-    ensures none { IfNone result (All (λ b. b ≢ 10) bytes.now) }
-{
-    for i in 0..bytes.len() {
-        if bytes[i] == b'\n' {
-            return Some(i);
-        }
-    }
-    None
 }

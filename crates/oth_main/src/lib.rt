@@ -8,6 +8,7 @@ mod checking;
 mod engine;
 mod fault;
 mod line;
+mod lines;
 mod message;
 mod running;
 mod solver;

@@ -137,6 +137,7 @@ fn transcript_reply(reader: &TranscriptReader) -> ArrayVec<u8, REPLY_LEN>
     }
 }
 
+// The text as a reply.
 fn copied(text: &[u8]) -> ArrayVec<u8, REPLY_LEN>
     requires { length text.now ≤ 196 }
     ensures { result.items ≡ text.now }

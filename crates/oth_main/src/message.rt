@@ -6,7 +6,8 @@ use arrayvec::ArrayVec;
 use itoa::Buffer;
 use oth_text::{Sink, write_all};
 
-// More than the longest line has: three texts of at most 12 bytes, two numbers of at most 20, and byte 10.
+// More than the longest line has: `line `, a number of at most 20 digits, `: `, a fault line of at most 24 bytes, and
+// byte 10.
 const CAPACITY: usize = 80;
 
 /// A line of texts and numbers.
@@ -51,6 +52,7 @@ impl Message {
         write_all(writer, self.bytes.as_slice()).is_ok()
     }
 
+    // Adds the text, as far as there is room.
     fn push_text(&mut self, text: &[u8]) {
         let _ = self.bytes.try_extend_from_slice(text);
     }

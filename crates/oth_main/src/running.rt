@@ -3,7 +3,8 @@
 ghost use Rattle.std.specs.Prelude.{◌≡◌, ◌↔◌, IsTrue, ℕ, List, [], false, true, OnOk};
 ghost use Rattle.std.specs.Io.KnownBytes.{Appends, Consumes, IsAtEnd};
 ghost use Rattle.oth_main.specs.Reply.{reply};
-ghost use Rattle.oth_main.specs.Run.{AreCells, AreLawful, AreWorkers, FailsBy, IsPastTests, OnRefusal, RefusesBy, Writes};
+ghost use Rattle.oth_main.specs.Run.{AreCells, AreLawful, AreWorkers, FailsBy, IsPastTests, OnRefusal, RefusesBy};
+ghost use Rattle.oth_main.specs.Run.{Writes};
 
 use crate::engine::Engine;
 use crate::fault::RunFault;
@@ -19,13 +20,15 @@ use std::thread::Threads;
 /// Reads lines from the reader until its end, and writes the report of them: for each line by itself its reply and byte
 /// 10. Byte 10 ends a line, and a last line without it counts if it isn't empty.
 ///
-/// At `Ok` the writer was flushed behind the last byte. The numbers of workers and of cells are tested first, in this order, and where one is refused nothing is read or
-/// written. The reader's fault leaves the report of the lines that byte 10 had ended; the writer's fault, in a write or
-/// the flush at the end, leaves a beginning of the report. After a fault no device is called again. The run returns only
-/// if the input ends or a device fails.
+/// The numbers of workers and of cells are tested first, in this order, and where one is refused nothing is read or
+/// written. At `Ok` the writer was flushed behind the last byte. The reader's fault leaves the report of the lines that
+/// byte 10 had ended; the writer's fault, in a write or the flush at the end, leaves a beginning of the report. After a
+/// fault no device is called again. The run returns only if the input ends or a device fails.
 ///
-/// A board is solved by so many workers over a table of so many cells, and a book that is given is asked first. None of
-/// these changes the report, nor does the gate, nor want of memory or threads. A line takes no memory, however long it is.
+/// A board is solved by so many workers over a table of so many cells, and a book that is given is asked first. Boards
+/// of lines that wait together may be solved side by side, each by one worker over a table of at most so many cells.
+/// None of this changes the report, nor does the gate, nor want of memory or threads. A line takes no memory, however
+/// long it is.
 pub fn run<T: Wait + Threads + Sync, R: Source, W: Sink, G: Gate>(
     rt: &T,
     alloc: Global,

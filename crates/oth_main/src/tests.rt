@@ -1,5 +1,5 @@
-//! Runs over rows and over devices that fail, and the commands of the book. The expected lines are those that the rules and the
-//! formats give.
+//! Runs over rows and over devices that fail, and the commands of the book. The expected lines are those that the rules
+//! and the formats give.
 
 mod batches;
 mod books;
@@ -44,7 +44,8 @@ struct Walked {
     writer: ByteSink<256>,
 }
 
-// A run with a reader that gives one byte a call and fails after some, and a writer that takes one byte a call and fails after some.
+// A run with a reader that gives one byte a call and fails after some, and a writer that takes one byte a call and
+// fails after some.
 fn walk<R: Wait + Threads + Sync + AllocGlobal>(
     rt: &R,
     settings: &Settings,

@@ -6,6 +6,7 @@ ghost use Rattle.oth_main.specs.Gathered.{Gathers, KeepsGathered, StopsInWaiting
 use arrayvec::ArrayVec;
 use oth_text::{Failed, Sink, write_all};
 
+// So many bytes wait at most.
 const CAPACITY: usize = 16_384;
 
 /// Bytes that wait to be written.
@@ -29,7 +30,8 @@ impl Waiting {
         requires { length text.now ≤ 16384 }
         ensures ok { OnOk result (Gathers (W.contents writer.old) (W.contents writer.new)
             self.old.bytes.items self.new.bytes.items text.now) }
-        ensures err { OnErr result (StopsInWaiting (W.contents writer.old) (W.contents writer.new) self.old.bytes.items) }
+        ensures err { OnErr result
+            (StopsInWaiting (W.contents writer.old) (W.contents writer.new) self.old.bytes.items) }
         ensures works { OnOk result (W.failed writer.new ≡ W.failed writer.old) }
         ensures fails { OnErr result (W.failed writer.new ≡ true) }
     {
@@ -44,7 +46,8 @@ impl Waiting {
     pub fn write_to<W: Sink>(&mut self, writer: &mut W) -> Result<(), Failed>
         ensures empty { OnOk result (self.new.bytes.items ≡ []) }
         ensures ok { OnOk result (WritesOut (W.contents writer.old) (W.contents writer.new) self.old.bytes.items) }
-        ensures err { OnErr result (StopsInWaiting (W.contents writer.old) (W.contents writer.new) self.old.bytes.items) }
+        ensures err { OnErr result
+            (StopsInWaiting (W.contents writer.old) (W.contents writer.new) self.old.bytes.items) }
         ensures works { OnOk result (W.failed writer.new ≡ W.failed writer.old) }
         ensures fails { OnErr result (W.failed writer.new ≡ true) }
     {
@@ -57,7 +60,8 @@ impl Waiting {
     pub fn write_if<W: Sink>(&mut self, is_asked: bool, writer: &mut W) -> Result<(), Failed>
         ensures ok { OnOk result (KeepsGathered (W.contents writer.old) (W.contents writer.new)
             self.old.bytes.items self.new.bytes.items) }
-        ensures err { OnErr result (StopsInWaiting (W.contents writer.old) (W.contents writer.new) self.old.bytes.items) }
+        ensures err { OnErr result
+            (StopsInWaiting (W.contents writer.old) (W.contents writer.new) self.old.bytes.items) }
         ensures works { OnOk result (W.failed writer.new ≡ W.failed writer.old) }
         ensures fails { OnErr result (W.failed writer.new ≡ true) }
     {

@@ -1,4 +1,4 @@
-// What was found of the items of a frontier.
+//! What was found of the items of a frontier.
 ghost use Rattle.std.specs.Prelude.{◌≡◌, Some, OnOk, OnErr, slice_get};
 ghost use Rattle.oth_pieces.specs.Collecting.{is_winner, same_scoring, nothing_of, refusal, with_reply, joined, err_of};
 
@@ -28,6 +28,7 @@ impl<'f> Model for Collector<'f> {
     ghost invariant = { λ c. length c.found.items ≡ length c.frontier.now };
 }
 
+// Whether the empty squares go to the winner.
 fn is_winner(scoring: Scoring) -> bool
     ensures { result ≡ is_winner scoring }
 {
@@ -37,6 +38,7 @@ fn is_winner(scoring: Scoring) -> bool
     }
 }
 
+// Whether both scorings are one.
 fn same_scoring(one: Scoring, other: Scoring) -> bool
     ensures { result ≡ same_scoring one other }
 {
@@ -62,8 +64,8 @@ impl<'f> Collector<'f> {
         }
     }
 
-    /// Takes the reply of a known item that has none yet, where it is of the item's board and by the collector's scoring.
-    /// The collector is unchanged after each refusal.
+    /// Takes the reply of a known item that has none yet, where it is of the item's board and by the collector's
+    /// scoring. The collector is unchanged after each refusal.
     pub fn take(&mut self, reply: Reply) -> Result<(), Refusal>
         ensures variant { refusal self.old reply ≡ err_of result }
         ensures ok { OnOk result (self.new ≡ with_reply self.old reply) }

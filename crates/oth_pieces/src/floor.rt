@@ -1,4 +1,4 @@
-// The greatest score that is known of a root, which threads raise together.
+//! The greatest score that is known of a root, which threads raise together.
 ghost use Rattle.std.specs.Prelude.{◌≡◌, ◌↔◌, OnOk, IfOk, OnErr, IsOk, [], ◌≤◌, pos, negsuc, ◌-ℤ◌, ◌≤ℤ◌};
 ghost use Rattle.oth_pieces.specs.History.{floor_after, root_value, Begins};
 ghost use Rattle.oth_pieces.specs.Floor.{longer, code_of};
@@ -21,14 +21,17 @@ use std::marker::Model;
 use thiserror::Error;
 pub use view::View;
 
+// The place of the root's own discs among the floor's words.
 const OWN: usize = 0;
 
+// The place of the opposing discs.
 const OPP: usize = 1;
 
+// The place of the height: the floor, plus 64.
 const HEIGHT: usize = 2;
 
-/// A floor of a root, which is a board and a scoring: the greatest lower bound of its value that was raised. Threads share it
-/// without a lock, each through a seat of its own.
+/// A floor of a root, which is a board and a scoring: the greatest lower bound of its value that was raised. Threads
+/// share it without a lock, each through a seat of its own.
 #[derive(Drop)]
 pub struct Floor {
     table: Table<u8, View, Root, TheFloor, Global>,
@@ -60,7 +63,12 @@ impl Model for FloorSeat {
 
     ghost Value = { Watcher };
 
-    ghost view = { λ s. record { floor = s.seat.table_id; name = s.seat.me.0.name; root = s.seat.me.0.root; seen = s.seat.me.0.seen } };
+    ghost view = { λ s. record {
+      floor = s.seat.table_id;
+      name = s.seat.me.0.name;
+      root = s.seat.me.0.root;
+      seen = s.seat.me.0.seen;
+    } };
 
     ghost invariant = { λ s. (s.seat.me.0.live ≡ true) × (s.seat.me.1 ≡ []) };
 }
@@ -166,11 +174,12 @@ impl Floor {
         (found as i16 - 64) as i8
     }
 
-    /// Raises the floor to the solved lower bound, by one atomic step. Refused, with the floor unchanged, where the solved board
-    /// isn't the root or was solved by the other scoring.
+    /// Raises the floor to the solved lower bound, by one atomic step. Refused, with the floor unchanged, where the
+    /// solved board isn't the root or was solved by the other scoring.
     pub fn raise(&self, seat: &mut FloorSeat, solved: &Solved) -> Result<(), Stranger>
         requires { IsSeatOf self.now seat.old }
-        ensures variant { IsOk result ↔ ((solved.now.board ≡ self.now.root.board) × (solved.now.scoring ≡ self.now.root.scoring)) }
+        ensures variant { IsOk result ↔ ((solved.now.board ≡ self.now.root.board)
+            × (solved.now.scoring ≡ self.now.root.scoring)) }
         ensures ok { OnOk result (Adds seat.old seat.new (Raise seat.old.name solved.now.interval.lower)) }
         ensures err { OnErr result (seat.new ≡ seat.old) }
     {
@@ -181,6 +190,7 @@ impl Floor {
         Ok(())
     }
 
+    // Raises the floor to a lower bound of the root's value, where it isn't as high.
     fn raise_to(&self, seat: &mut FloorSeat, number: i8)
         requires seat { IsSeatOf self.now seat.old }
         requires low { negsuc 63 ≤ℤ number }

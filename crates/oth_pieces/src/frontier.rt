@@ -1,8 +1,9 @@
-// The boards one or two plies below a root.
+//! The boards one or two plies below a root.
 ghost use Rattle.std.specs.Prelude.{◌≡◌, ◌+◌, ◌<◌, ◌≤◌, ◌++◌, option_map, slice_get, length, flat_map};
 ghost use Rattle.oth_rules.specs.Position.{empty_count};
 ghost use Rattle.oth_rules.specs.Move.{can_move};
-ghost use Rattle.oth_pieces.specs.Below.{awake, only_passes, item_after, child_of, children, moves_of, one_ply, two_plies, frontier, below, board_of, IsPlies};
+ghost use Rattle.oth_pieces.specs.Below.{awake, only_passes, item_after, child_of, children, moves_of, one_ply};
+ghost use Rattle.oth_pieces.specs.Below.{two_plies, frontier, below, board_of, IsPlies};
 
 mod item;
 
@@ -32,9 +33,9 @@ impl Model for Frontier {
 }
 
 impl Frontier {
-    /// The boards one or two plies below the board, after a forced pass where there is one. They go by rising squares of the
-    /// first move, and then of the second. A board that is over one ply below stands itself; below a root that is over there
-    /// are none.
+    /// The boards one or two plies below the board, after a forced pass where there is one. They go by rising squares
+    /// of the first move, and then of the second. A board that is over one ply below stands itself; below a root that
+    /// is over there are none.
     pub fn of(board: &Board, plies: u8) -> Frontier
         requires plies { IsPlies plies }
         requires few { empty_count board.now ≤ 30 }
@@ -109,6 +110,7 @@ fn push_child(items: &mut ArrayVec<Item, MOST_ITEMS>, parent: &Item, square: Squ
     }
 }
 
+// The item of a board that the parent leads to; a forced pass is put in.
 fn item_after(parent: &Item, after: Board) -> Item
     ensures { result ≡ item_after parent.now after }
 {
@@ -146,6 +148,7 @@ fn second_ply(first: &ArrayVec<Item, MOST_ITEMS>) -> ArrayVec<Item, MOST_ITEMS>
     items
 }
 
+// The boards after the item's moves, or the item itself where its game is over.
 fn push_below(items: &mut ArrayVec<Item, MOST_ITEMS>, item: &Item)
     requires { length items.old.items + length (below item.now) ≤ 870 }
     ensures { items.new.items ≡ items.old.items ++ below item.now }

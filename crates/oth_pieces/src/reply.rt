@@ -1,8 +1,9 @@
+//! What was found of an item, and why a collector refuses it.
 use oth_search::Solved;
 use thiserror::Error;
 
 /// An item's number, and bounds of its board.
-#[derive(Clone, Copy)]
+#[derive(Clone, Copy, Debug)]
 pub struct Reply {
     pub number: u32,
     pub solved: Solved,

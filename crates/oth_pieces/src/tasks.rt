@@ -1,8 +1,10 @@
 //! The numbers of a frontier, dealt out to the hands of several threads.
-ghost use Rattle.std.specs.Prelude.{◌≡◌, ◌<◌, ◌≤◌, true, false, IfNone, IfOk, IfSome, [], ◌∷◌, ◌++◌, MatchOption, map, length, vec_len};
+ghost use Rattle.std.specs.Prelude.{◌≡◌, ◌<◌, ◌≤◌, true, false, IfNone, IfOk, IfSome, [], ◌∷◌, ◌++◌, MatchOption, map};
+ghost use Rattle.std.specs.Prelude.{length, vec_len};
 ghost use Rattle.crossbeam_deque.specs.Handles.{view, IsPassOf, stealer_deque};
 ghost use Rattle.oth_pieces.specs.Dealing.{Took};
-ghost use Rattle.oth_pieces.specs.Hands.{AreAllHands, IsHandOf, Fits, Draws, AreFresh, HaveRoom, IsCrew, list_of, number_of, has_ended, room_of, count_of};
+ghost use Rattle.oth_pieces.specs.Hands.{AreAllHands, IsHandOf, Fits, Draws, AreFresh, HaveRoom, IsCrew, list_of};
+ghost use Rattle.oth_pieces.specs.Hands.{number_of, has_ended, room_of, count_of};
 ghost use Rattle.oth_pieces.specs.Drawing.{lists_of, AreOnce};
 
 mod closing;
@@ -42,9 +44,9 @@ impl From<AllocError> for TasksError {
 }
 
 impl Tasks {
-    /// Tasks of the numbers of the frontier, and so many hands, 1 to 16. Number `j` is pushed into the deque of hand `j` modulo
-    /// the hands; a number whose push is refused is left to the caller. Each hand has room for all numbers of a frontier. Refused
-    /// where there is no memory.
+    /// Tasks of the numbers of the frontier, and so many hands, 1 to 16. Number `j` is pushed into the deque of hand
+    /// `j` modulo the hands; a number whose push is refused is left to the caller. Each hand has room for all numbers
+    /// of a frontier. Refused where there is no memory.
     pub fn new(
         alloc: Global,
         frontier: &Frontier,
@@ -60,8 +62,9 @@ impl Tasks {
         Tasks::by_rank(alloc, frontier, &[], hands)
     }
 
-    /// The same tasks and hands, where each deque has its numbers by rising rank. The rank of number `j` is the one at `j`; a number
-    /// that has none goes last, and of equal ranks the lesser number goes first. Which number is drawn when rests on this alone.
+    /// The same tasks and hands, where each deque has its numbers by rising rank. The rank of number `j` is the one at
+    /// `j`; a number that has none goes last, and of equal ranks the lesser number goes first. Which number is drawn
+    /// when rests on this alone.
     pub fn by_rank(
         alloc: Global,
         frontier: &Frontier,
@@ -104,14 +107,16 @@ impl Tasks {
         Drawn { lists, left }
     }
 
-    /// Takes a number from the hand's own deque, or else from the next one that has some, and puts it last in the hand's list.
-    /// From the first `None` on this hand gets no more. It takes no memory, and tries each deque at most 64 times.
+    /// Takes a number from the hand's own deque, or else from the next one that has some, and puts it last in the
+    /// hand's list. From the first `None` on this hand gets no more. It takes no memory, and tries each deque at most
+    /// 64 times.
     pub fn draw(&self, hand: &mut Hand) -> Option<u32>
         requires { IsHandOf self.now hand.old }
         ensures hand { IsHandOf self.now hand.new }
         ensures number { number_of hand.new ≡ number_of hand.old }
         ensures room { room_of hand.new ≡ room_of hand.old }
-        ensures drawn { MatchOption result (list_of hand.new ≡ list_of hand.old) (λ number. list_of hand.new ≡ list_of hand.old ++ number ∷ []) }
+        ensures drawn { MatchOption result (list_of hand.new ≡ list_of hand.old)
+            (λ number. list_of hand.new ≡ list_of hand.old ++ number ∷ []) }
         ensures below { IfSome result (λ number. number < count_of self.now) }
         ensures ended { IfNone result (has_ended hand.new ≡ true) }
         ensures more { IfSome result (λ _. has_ended hand.new ≡ false) }
@@ -148,6 +153,7 @@ impl Tasks {
         None
     }
 
+    // A number of another hand's deque, if one can be had there.
     fn steal(&self, hand: &mut Hand, deque: usize) -> Option<u32>
         requires hand { Fits self.now hand.old }
         requires deque { deque < vec_len self.now.thieves }
@@ -169,6 +175,7 @@ impl Drawn {
     }
 }
 
+// A number of the deque. A try that another thread foiled is made again, up to `TRIES` times.
 fn steal_from(thief: &Thief, pass: &mut Token) -> Option<u32>
     requires pass { IsPassOf (stealer_deque thief.now) pass.old }
     requires knows { (view pass.old).knows ≡ true }

@@ -2,11 +2,11 @@
 
 mod refused;
 
-ghost use Rattle.std.specs.Prelude.{◌≡◌, ◌<◌, ◌≤◌, ℕ, IfSome, length, slice_index_or};
-ghost use Rattle.oth_rules.specs.Position.{empty_count};
+ghost use Rattle.std.specs.Prelude.{◌≡◌, ◌<◌, ℕ, length, slice_index_or};
 ghost use Rattle.oth_pieces.specs.Hands.{AreAllHands, IsHandOf, number_of};
 
 use crate::{Collector, Floor, Frontier, Hand, Refusal, Reply, Tasks};
+use oth_rules::samples::board;
 use oth_rules::{Board, Scoring, Square};
 use oth_search::{NoCells, Solved};
 use std::test::Fail;
@@ -21,16 +21,6 @@ const B: [u64; 2] = [0xffff_ffff_ffff_fcfc, 0x0000_0000_0000_0202];
 const MANY_ITEMS: [u64; 2] = [0x0408_40c7_c284_0400, 0x0264_3f38_3c48_9200];
 
 const C: [u64; 2] = [0xffff_ffff_ffff_ff3c, 0x42];
-
-fn board(words: [u64; 2]) -> Option<Board>
-    ensures { IfSome result (λ b. empty_count b ≤ 30) }
-{
-    let board = Board::of(words[0], words[1]).ok()?;
-    if board.empties() > 30 {
-        return None;
-    }
-    Some(board)
-}
 
 // The board with its value.
 fn exactly(board: &Board) -> Solved {
@@ -194,7 +184,8 @@ fn draw_all<R: Threads + Sync>(rt: &R, tasks: &Tasks, hands: &mut Vec<Hand>)
 fn draw_each<R: Threads + Sync>(rt: &R, tasks: &Tasks, hands: &mut [Hand])
     requires { (i : ℕ) (d : Hand) → i < length hands.old → IsHandOf tasks.now (slice_index_or hands.old i d) }
     ensures hands { (i : ℕ) (d : Hand) → i < length hands.old → IsHandOf tasks.now (slice_index_or hands.new i d) }
-    ensures numbers { (i : ℕ) (d : Hand) → i < length hands.old → number_of (slice_index_or hands.new i d) ≡ number_of (slice_index_or hands.old i d) }
+    ensures numbers { (i : ℕ) (d : Hand) → i < length hands.old
+        → number_of (slice_index_or hands.new i d) ≡ number_of (slice_index_or hands.old i d) }
 {
     if hands.is_empty() {
         return;

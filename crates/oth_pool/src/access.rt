@@ -59,8 +59,8 @@ impl<'t> TableAccess<'t> {
     }
 }
 
-/// What one worker keeps entries in: cells of the table where there is one, and a memory of its own for boards with few empty squares where
-/// that pays.
+/// What one worker keeps entries in: cells of the table where there is one, and a memory of its own for boards with few
+/// empty squares where that pays.
 #[derive(Drop)]
 pub struct WorkerCells<'t> {
     cells: Option<TableCells<'t>>,

@@ -2,6 +2,7 @@
 ghost use Rattle.std.specs.Prelude.{◌≡◌};
 
 use crate::gate::Gate;
+use crate::leading::{lead, moves_of};
 use crate::narrowing::narrow;
 use crate::root_move::RootMove;
 use crate::scene::Scene;
@@ -11,12 +12,14 @@ use oth_pieces::{Item, can_move};
 use oth_rules::{Board, Square};
 use oth_search::{Cells, Solved};
 
-// A worker helps with so many of the root's moves that come before that of its item.
-const MOVES_BEFORE: usize = 3;
+// A worker helps with so many of the root's moves that come first, before that of its item.
+const MOVES_BEFORE: usize = 1;
 
-// How often a worker that has no item left goes through the root's moves. One that others are at is left to them but in the last round.
+// How often a worker that has no item left goes through the root's moves. One that others are at is left to them but in
+// the last round.
 const ROUNDS: u32 = 3;
 
+// In this round no move is left to another worker.
 const LAST_ROUND: u32 = 2;
 
 // So many of the root's moves are searched by all workers together when no item is left.
@@ -48,6 +51,7 @@ fn search_drawn<C: Cells>(scene: &Scene, item: &Item, walk: &mut Walk<C>) -> Sol
         settle_alone(&root_move, walk);
         return walk.told(&item.board);
     }
+    lead(scene, walk);
     settle_before(scene, item.square, walk);
     if walk.is_settled(item.square) {
         return walk.told(&item.board);
@@ -77,7 +81,8 @@ fn settle_alone<C: Cells>(root_move: &RootMove, walk: &mut Walk<C>) {
 // Helps with the first moves of the root that come before this one.
 fn settle_before<C: Cells>(scene: &Scene, square: Square, walk: &mut Walk<C>) {
     let mut count = 0;
-    for elder in scene.squares {
+    let squares = moves_of(scene, walk);
+    for elder in squares.as_slice() {
         if *elder == square || count == MOVES_BEFORE {
             return;
         }
@@ -105,8 +110,9 @@ fn search_eldest<C: Cells>(root_move: &RootMove, board: &Board, walk: &mut Walk<
 /// Searches what is open of the root's moves, when no item is left.
 pub(crate) fn settle_all<C: Cells>(scene: &Scene, walk: &mut Walk<C>) {
     let rounds = if walk.plan.shares { ROUNDS } else { 1 };
+    let squares = moves_of(scene, walk);
     for round in 0..rounds {
-        for square in scene.squares {
+        for square in squares.as_slice() {
             if let Some(root_move) = RootMove::of(scene.root, *square) {
                 settle_in_round(&root_move, round, walk);
             }

@@ -1,61 +1,73 @@
-//! A guess of the root's score by a search of few moves. Workers make it together. No answer depends on it.
+//! A guess of the root's score and best move by a search of few moves. Workers make it together. No answer depends on
+//! it.
 ghost use Rattle.std.specs.Prelude.{pos, negsuc, ◌≤ℤ◌};
 
+use crate::move_order::beginning_with;
 use crate::narrowing::searched;
 use crate::walk::Walk;
 use crate::window::Window;
 use oth_pieces::can_move;
-use oth_rules::Board;
+use oth_rules::{Board, Square};
 use oth_search::Cells;
 
-// Boards with no more empty squares are searched in full. The table keeps what is found of them, so a worker that comes later finds it there.
-const FEW_EMPTIES: u8 = 9;
+// Boards with no more empty squares are searched in full.
+const FEW_EMPTIES: u8 = 8;
 
-// Of a reply so many moves are tried, which are all, and of each board below it so many.
-const ALL: usize = 64;
-
+// All moves of the root are tried and all replies to them, and of each board below a reply so many moves.
 const WIDTH: usize = 2;
 
 // The most scores that are asked for.
 const ROUNDS: u8 = 12;
 
 // A guess is close enough where so few scores are left.
-const CLOSE: i8 = 6;
+const CLOSE: i8 = 4;
 
 // The first step from the first score that is asked for.
 const FIRST_STEP: i8 = 8;
 
-// How often the replies are gone through. One that another worker is at is left for the second time.
+// How often moves are gone through. One that another worker is at is left for the second time.
 const TURNS: u8 = 2;
 
-/// The score that the root seems to reach by its first move; none where another worker has told one.
-pub(crate) fn glance<C: Cells>(root: &Board, walk: &mut Walk<C>) -> i8
-    ensures low { negsuc 62 ≤ℤ result }
-    ensures high { result ≤ℤ pos 64 }
-{
-    let Some(child) = first_child(root, walk) else {
-        return 0;
+/// A score that the root seems to reach, from -63 on, and the move by which it seems to.
+#[derive(Clone, Copy)]
+pub(crate) struct Guess {
+    pub score: i8,
+    pub square: Square,
+    ghost range: { (negsuc 62 ≤ℤ score) × (score ≤ℤ pos 64) },
+}
+
+impl Guess {
+    /// The nearest guess to this score, by this move.
+    pub fn of(score: i8, square: Square) -> Guess {
+        Guess {
+            score: score.max(-63).min(64),
+            square,
+        }
+    }
+}
+
+/// The score that the root seems to reach and its move, or what another worker has told of them meanwhile.
+pub(crate) fn glance<C: Cells>(root: &Board, walk: &mut Walk<C>) -> Guess {
+    let squares = walk.order(root);
+    let mut best = match squares.first() {
+        Some(square) => *square,
+        None => Square::numbered(0),
     };
     let mut range = Range::new();
     for _ in 0..ROUNDS {
         let score = range.next();
-        let is_reached = seems_reached(&child, score, walk);
+        let ordered = beginning_with(Some(best), squares.as_slice());
+        let found = reaching(root, ordered.as_slice(), score, walk);
         if let Some(told) = walk.told_guess() {
-            return told.max(-63).min(64);
+            return told;
         }
-        range = range.after(score, is_reached);
+        range = range.after(score, found.is_some());
+        best = later(best, found);
         if range.is_close() {
             break;
         }
     }
-    range.guess()
-}
-
-fn first_child<C: Cells>(root: &Board, walk: &mut Walk<C>) -> Option<Board> {
-    let squares = walk.order(root);
-    let square = squares.first()?;
-    let child = root.play(*square)?;
-    if can_move(&child) { Some(child) } else { None }
+    Guess::of(range.guess(), best)
 }
 
 // Where the score seems to lie: what is reached, and what isn't.
@@ -67,6 +79,7 @@ struct Range {
 }
 
 impl Range {
+    // Nothing is known yet.
     fn new() -> Range {
         Range {
             low: -64,
@@ -115,20 +128,73 @@ impl Range {
         }
     }
 
+    // Whether the guess is close enough.
     fn is_close(self) -> bool {
         self.high.saturating_sub(self.low) <= CLOSE
     }
 
-    fn guess(self) -> i8
-        ensures low { negsuc 62 ≤ℤ result }
-        ensures high { result ≤ℤ pos 64 }
-    {
-        self.low.max(-63).min(64)
+    // What seems reached.
+    fn guess(self) -> i8 {
+        self.low
     }
 }
 
-// Whether each reply to the child seems to leave the root the score.
+// What was found, or what was there before.
+fn later(before: Square, found: Option<Square>) -> Square {
+    match found {
+        Some(square) => square,
+        None => before,
+    }
+}
+
+// The first of these moves of the root by which it seems to reach the score. All workers begin with the first one.
+fn reaching<C: Cells>(
+    root: &Board,
+    squares: &[Square],
+    score: i8,
+    walk: &mut Walk<C>,
+) -> Option<Square>
+    requires low { negsuc 62 ≤ℤ score }
+    requires high { score ≤ℤ pos 64 }
+{
+    let mut seen = 0;
+    for turn in 0..TURNS {
+        for (place, square) in squares.iter().enumerate() {
+            if let Some(child) = root.play(*square) {
+                let is_next = turn > 0 || place == 0 || !walk.is_left(&child);
+                if seen & square.word() == 0 && is_next {
+                    seen |= square.word();
+                    if seems_reached(&child, score, walk) {
+                        return Some(*square);
+                    }
+                }
+            }
+        }
+    }
+    None
+}
+
+// Whether the root seems to reach the score by the move to this child.
 fn seems_reached<C: Cells>(child: &Board, score: i8, walk: &mut Walk<C>) -> bool
+    requires low { negsuc 62 ≤ℤ score }
+    requires high { score ≤ℤ pos 64 }
+{
+    if let Some(told) = walk.seen(child, score) {
+        return told;
+    }
+    walk.begin(child);
+    let found = if can_move(child) {
+        all_leave(child, score, walk)
+    } else {
+        leaves(&child.pass(), score, walk)
+    };
+    walk.tell_seen(child, score, found);
+    walk.end(child);
+    found
+}
+
+// Whether each reply to the child seems to leave the root the score.
+fn all_leave<C: Cells>(child: &Board, score: i8, walk: &mut Walk<C>) -> bool
     requires low { negsuc 62 ≤ℤ score }
     requires high { score ≤ℤ pos 64 }
 {
@@ -149,34 +215,32 @@ fn seems_reached<C: Cells>(child: &Board, score: i8, walk: &mut Walk<C>) -> bool
     true
 }
 
-// Whether the reply seems to leave the root the score.
+// Whether this board, where the root's mover is on the move, seems to have the score.
 fn leaves<C: Cells>(reply: &Board, score: i8, walk: &mut Walk<C>) -> bool
     requires low { negsuc 62 ≤ℤ score }
     requires high { score ≤ℤ pos 64 }
 {
+    if let Some(told) = walk.seen(reply, score) {
+        return told;
+    }
     let plies = reply.empties().saturating_sub(FEW_EMPTIES);
     walk.begin(reply);
-    let found = reaches(*reply, Window::at(score), plies, ALL, walk);
+    let found = reaches(*reply, Window::at(score), plies, walk);
+    walk.tell_seen(reply, score, found);
     walk.end(reply);
     found
 }
 
-// Whether the board's value seems to be above the null window, by so many of its moves.
+// Whether the board's value seems to be above the null window, by so many plies of few moves.
 #[cycle(glancing)]
-fn reaches<C: Cells>(
-    board: Board,
-    window: Window,
-    plies: u8,
-    width: usize,
-    walk: &mut Walk<C>,
-) -> bool {
+fn reaches<C: Cells>(board: Board, window: Window, plies: u8, walk: &mut Walk<C>) -> bool {
     if plies == 0 || board.is_over() {
         return searched(&board, window, walk).interval.lower >= window.beta;
     }
     if !can_move(&board) {
-        return !reaches(board.pass(), window.turned(), plies - 1, WIDTH, walk);
+        return !reaches(board.pass(), window.turned(), plies - 1, walk);
     }
-    reaches_by_moves(&board, window, plies - 1, width, walk)
+    reaches_by_moves(&board, window, plies - 1, walk)
 }
 
 // The same by its first moves, where it has some.
@@ -185,16 +249,15 @@ fn reaches_by_moves<C: Cells>(
     board: &Board,
     window: Window,
     plies: u8,
-    width: usize,
     walk: &mut Walk<C>,
 ) -> bool {
     let squares = walk.order(board);
     for (tried, square) in squares.as_slice().iter().enumerate() {
-        if tried == width {
+        if tried == WIDTH {
             break;
         }
         if let Some(child) = board.play(*square) {
-            if !reaches(child, window.turned(), plies, WIDTH, walk) {
+            if !reaches(child, window.turned(), plies, walk) {
                 return true;
             }
         }

@@ -13,8 +13,8 @@ pub(crate) struct SharedHeight<'f> {
     ghost sits: { IsSeatOf floor.now seat },
 }
 
-/// The greatest score that the root is known to reach, which a worker reads and raises: the floor that workers share, or bounds of its
-/// own where there is no memory for a floor.
+/// The greatest score that the root is known to reach, which a worker reads and raises: the floor that workers share,
+/// or bounds of its own where there is no memory for a floor.
 #[derive(Drop)]
 pub(crate) enum Height<'f> {
     Shared(SharedHeight<'f>),

@@ -1,10 +1,12 @@
-//! What the workers of a search tell each other besides bounds: which boards somebody is searching, which of the root's moves need no
-//! further search, and in which order a board's moves are best searched. These are hints. They save time, and every answer is right
-//! whatever they say.
+//! What the workers of a search tell each other besides bounds: which boards somebody is searching, which of the root's
+//! moves need no further search, what score the root seems to have and by which move, whether a board seems to reach a
+//! score, and in which order a board's moves are best searched. These are hints. They save time, and every answer is
+//! right whatever they say.
 ghost use Rattle.std.specs.Prelude.{◌≡◌, ◌<◌, ◌≤ℤ◌, negsuc, IfSome};
 
 mod rule;
 
+use crate::glance::Guess;
 use crate::move_order::MoveOrder;
 use atomic_table::{Seat, Table};
 use oth_rules::{Board, Square};
@@ -12,20 +14,34 @@ use rule::{Anything, Step};
 use std::alloc::Global;
 use std::marker::Model;
 
-// The words: for each square whether the root's move to it is settled, how many moves are, a guess, the marks, and the orders.
+// The words: for each square whether the root's move to it is settled, how many moves are, a guess, the marks, what
+// boards seem to have, and the orders.
 const SETTLED_COUNT: usize = 64;
 
-// A guess of the root's score, raised by so much, or 0 for none.
+// A guess of the root's score, raised by so much, and above it the number of the move's square, or 0 for none.
 const GUESS: usize = 65;
 
+// What is added to a guess, so that 0 says that there is none.
 const GUESS_RAISED: i16 = 65;
 
+// Above so many bits of the word stands the square.
+const GUESS_BITS: u32 = 8;
+
+// The first place of a mark.
 const MARKS: usize = 66;
 
 // So many boards can be marked, each at a place that its discs tell.
 const MARK_COUNT: usize = 1024;
 
-const ORDERS: usize = MARKS + MARK_COUNT;
+// The first place of what a board seems to have.
+const SEEN: usize = MARKS + MARK_COUNT;
+
+// For so many boards it can be told whether they seem to have a score, each at a place that its discs and the score
+// tell.
+const SEEN_COUNT: usize = 256;
+
+// The first place of a kept order.
+const ORDERS: usize = SEEN + SEEN_COUNT;
 
 /// The hints of workers that search one board.
 #[derive(Drop)]
@@ -54,6 +70,7 @@ impl Hints {
     }
 }
 
+// So many words, if there is memory for them.
 fn zeros(alloc: Global, count: usize) -> Option<Vec<u64>> {
     vec![in alloc; 0u64; count].ok()
 }
@@ -76,6 +93,7 @@ impl<'h> HintSeat<'h> {
         Some(HintSeat { hints, seat })
     }
 
+    // The word at this place, and 0 behind the last.
     fn load(&mut self, word: usize) -> u64 {
         let hints = self.hints;
         if word >= hints.table.word_count() {
@@ -84,6 +102,7 @@ impl<'h> HintSeat<'h> {
         hints.table.shared.load::<Step>(&mut self.seat, word)
     }
 
+    // Stores a word, if its place is there.
     fn store(&mut self, word: usize, value: u64) {
         let hints = self.hints;
         if word < hints.table.word_count() {
@@ -119,25 +138,47 @@ impl<'h> HintSeat<'h> {
         }
     }
 
-    /// How many of the root's moves need no further search. Where two are settled at the same time one may not be counted.
+    /// How many of the root's moves need no further search. Where two are settled at the same time one may not be
+    /// counted.
     pub fn settled(&mut self) -> u64 {
         self.load(SETTLED_COUNT)
     }
 
-    /// A guess of the root's score, if one was told.
-    pub fn guess(&mut self) -> Option<i8> {
+    /// A guess of the root's score and move, if one was told.
+    pub fn guess(&mut self) -> Option<Guess> {
         let word = self.load(GUESS);
-        if word == 0 || word > 129 {
+        let raised = word & 255;
+        if raised == 0 || raised > 129 {
             return None;
         }
-        Some((word as i16 - GUESS_RAISED) as i8)
+        let score = (raised as i16 - GUESS_RAISED) as i8;
+        let square = Square::numbered(((word >> GUESS_BITS) & 63) as u8);
+        Some(Guess::of(score, square))
     }
 
-    /// Tells a guess of the root's score.
-    pub fn tell_guess(&mut self, guess: i8)
-        requires { negsuc 63 ≤ℤ guess }
-    {
-        self.store(GUESS, (i16::from(guess) + GUESS_RAISED) as u64);
+    /// Tells a guess of the root's score and move.
+    pub fn tell_guess(&mut self, guess: Guess) {
+        let raised = (i16::from(guess.score) + GUESS_RAISED) as u64;
+        let square = u64::from(guess.square.number());
+        self.store(GUESS, raised | (square << GUESS_BITS));
+    }
+
+    /// Whether the board seems to have at least this score, if that was told.
+    pub fn seen(&mut self, board: &Board, score: i8) -> Option<bool> {
+        let key = scored_key_of(board, score);
+        let word = self.load(seen_of(key));
+        if word | 1 == key {
+            Some(word == key)
+        } else {
+            None
+        }
+    }
+
+    /// Tells whether the board seems to have at least this score.
+    pub fn tell_seen(&mut self, board: &Board, score: i8, is_reached: bool) {
+        let key = scored_key_of(board, score);
+        let word = if is_reached { key } else { key ^ 1 };
+        self.store(seen_of(key), word);
     }
 
     /// Whether a worker seems to search the board.
@@ -199,6 +240,18 @@ fn key_of(board: &Board) -> u64 {
     let own = board.own().wrapping_mul(0x9e37_79b9_7f4a_7c15);
     let opposing = board.opp().wrapping_mul(0xc2b2_ae3d_27d4_eb4f);
     own.wrapping_add(opposing) | 1
+}
+
+// An odd number that tells the board and the score from most others.
+fn scored_key_of(board: &Board, score: i8) -> u64 {
+    let scored = u64::from(score.unsigned_abs()).wrapping_mul(0xd6e8_feb8_6659_fd93);
+    let turned = if score < 0 { !scored } else { scored };
+    key_of(board).wrapping_add(turned) | 1
+}
+
+// The word for what a board with this key seems to have.
+fn seen_of(key: u64) -> usize {
+    SEEN + (key >> 56) as usize
 }
 
 // The word for the mark of a board with this key.

@@ -1,4 +1,5 @@
-//! The search of one board by several workers: what they take from the tasks, what they tell each other, and the answer.
+//! The search of one board by several workers: what they take from the tasks, what they tell each other, and the
+//! answer.
 #![tactic(auto)]
 
 mod access;
@@ -7,6 +8,7 @@ mod gate;
 mod glance;
 mod height;
 mod hints;
+mod leading;
 mod move_order;
 mod narrowing;
 mod promise;

@@ -1,4 +1,5 @@
-//! Searches that workers share: each leaves to the others the boards that they are at, and gives up what another has found.
+//! Searches that workers share: each leaves to the others the boards that they are at, and gives up what another has
+//! found.
 ghost use Rattle.std.specs.Prelude.{◌≡◌, pos, negsuc, ◌≤ℤ◌, false};
 ghost use Rattle.oth_rules.specs.Move.{can_move};
 
@@ -12,10 +13,11 @@ use std::alloc::Global;
 // How often the moves of a board are gone through. A board that others are at is left to them but in the last round.
 const ROUNDS: u32 = 3;
 
+// In this round no board is left to another worker.
 const LAST_ROUND: u32 = 2;
 
 // The moves of a board with many empty squares that are searched whether or not another worker is at them.
-const MOVES_TOGETHER: usize = 3;
+const MOVES_TOGETHER: usize = 2;
 
 /// Bounds of the board's value, by a walk of at most so many plies. They decide the window unless the walk is given up.
 #[cycle(narrowing)]
@@ -86,6 +88,7 @@ struct Node {
 }
 
 impl Node {
+    // A board whose moves are about to be searched.
     fn of(board: Board, window: Window, together: usize, alloc: Global) -> Node
         ensures { result.board ≡ board }
     {
@@ -113,7 +116,8 @@ impl Node {
     }
 }
 
-// Bounds of the board's value by its moves, below which so many plies are shared. They decide the window unless the walk is given up.
+// Bounds of the board's value by its moves, below which so many plies are shared. They decide the window unless the
+// walk is given up.
 #[cycle(narrowing)]
 fn narrow_moves<C: Cells>(board: Board, window: Window, plies: u8, walk: &mut Walk<C>) -> Solved
     ensures { result.board ≡ board }
@@ -193,8 +197,8 @@ fn visit<C: Cells>(
     None
 }
 
-// What is found of the board after a move, where the window is that of the move: a later one is opened only where a probe lies
-// inside the window.
+// What is found of the board after a move, where the window is that of the move: a later one is opened only where a
+// probe lies inside the window.
 #[cycle(narrowing)]
 fn narrow_after<C: Cells>(
     child: Board,
@@ -219,7 +223,8 @@ fn narrow_after<C: Cells>(
     }
 }
 
-// The same of the board after a forced pass, where there is one: bounds of the boards after the moves are combined by those.
+// The same of the board after a forced pass, where there is one: bounds of the boards after the moves are combined by
+// those.
 fn awake(solved: Solved) -> Solved {
     if !can_move(&solved.board) && can_move(&solved.board.pass()) {
         solved.passed()

@@ -8,8 +8,8 @@ use oth_search::order;
 // A rank beyond the number of a board's moves.
 const BEYOND: u32 = 64;
 
-/// The rank of each item of the frontier, the least first: all replies to the root's first move in their order, then the best reply to
-/// each other move, then the second ones, and so on. Nothing rests on it but time.
+/// The rank of each item of the frontier, the least first: all replies to the root's first move in their order, then
+/// the best reply to each other move, then the second ones, and so on. Nothing rests on it but time.
 pub(crate) fn ranks(scene: &Scene) -> ArrayVec<u32, MOST_ITEMS> {
     let mut ranks = ArrayVec::new();
     let mut replies = replies_to(scene, Square::numbered(0));
@@ -38,7 +38,8 @@ fn rank_of(of_move: u32, of_reply: u32) -> u32 {
     }
 }
 
-// The boards after the replies to a move of the root, after a forced pass where there is one, in the order in which they are searched.
+// The boards after the replies to a move of the root, after a forced pass where there is one, in the order in which
+// they are searched.
 fn replies_to(scene: &Scene, square: Square) -> ArrayVec<Board, 64> {
     let mut replies = ArrayVec::new();
     if let Some(child) = scene.root.play(square) {

@@ -32,7 +32,8 @@ impl RootMove {
         })
     }
 
-    /// Searches the board after the move until it is settled: its value is known, or that the root gets less than the floor by it.
+    /// Searches the board after the move until it is settled: its value is known, or that the root gets less than the
+    /// floor by it.
     pub fn settle<C: Cells>(&self, walk: &mut Walk<C>) {
         if walk.is_settled(self.square) {
             return;
@@ -47,7 +48,28 @@ impl RootMove {
         walk.keep(self.square, found);
     }
 
-    // What is found of the board after the move, until it is settled by this worker or another. The others learn it by the cells.
+    /// Asks whether the root reaches the score by the move, unless that is known, and tells the others. What the root
+    /// gets by it at most.
+    pub fn ask<C: Cells>(&self, score: i8, walk: &mut Walk<C>) -> i8
+        requires low { negsuc 62 ≤ℤ score }
+        requires high { score ≤ℤ pos 64 }
+    {
+        let known = walk.told(&self.child);
+        if known.interval.lower > -score {
+            return -known.interval.lower;
+        }
+        walk.go_on(self.square, -64);
+        walk.begin(&self.child);
+        let window = Window::at(1 - score);
+        let found = known.joined(&narrow(self.child, window, MOST_PLIES, walk));
+        walk.put(&found);
+        walk.raise_by(&self.root, self.square, &found);
+        walk.end(&self.child);
+        -found.interval.lower
+    }
+
+    // What is found of the board after the move, until it is settled by this worker or another. The others learn it by
+    // the cells.
     fn pursue<C: Cells>(&self, walk: &mut Walk<C>) -> Solved {
         let mut found = walk.told(&self.child);
         let mut pace = Pace::new();
@@ -71,7 +93,8 @@ impl RootMove {
         found
     }
 
-    // The window that comes next: at first a null one at the floor, where there is one, and then what tells most of the value.
+    // The window that comes next: at first a null one at the floor, where there is one, and then what tells most of the
+    // value.
     fn window<C: Cells>(&self, found: Interval, least: i8, pace: Pace, walk: &mut Walk<C>) -> Window
         requires low { negsuc 63 ≤ℤ least }
         requires high { least ≤ℤ pos 64 }
@@ -81,10 +104,10 @@ impl RootMove {
         }
         let guess = walk.guess(&self.root);
         if walk.plan.guesses {
-            return shared_window(found, -guess);
+            return shared_window(found, -guess.score);
         }
         if found == Interval::all() {
-            return Window::at(1 - guess);
+            return Window::at(1 - guess.score);
         }
         pace.window(found)
     }
@@ -108,8 +131,8 @@ impl RootMove {
         found
     }
 
-    // Tells the others what the solved board, one ply below the child, alone tells: of the child by the cells, and of the root by the
-    // floor.
+    // Tells the others what the solved board, one ply below the child, alone tells: of the child by the cells, and of
+    // the root by the floor.
     fn share<C: Cells>(&self, solved: &Solved, walk: &mut Walk<C>) {
         if solved.interval == Interval::all() {
             return;

@@ -45,9 +45,9 @@ struct Shared<'s> {
     hints: &'s Option<Hints>,
 }
 
-/// Lets so many workers, 1 to 16, search the items of the frontier, each over cells of the table where there is one and a seat of
-/// it can be had, with a window at the floor. It waits for them. The gate hears of each item that a worker takes. Want of memory
-/// or of threads costs time alone: what no worker takes is left.
+/// Lets so many workers, 1 to 16, search the items of the frontier, each over cells of the table where there is one and
+/// a seat of it can be had, with a window at the floor. It waits for them. The gate hears of each item that a worker
+/// takes. Want of memory or of threads costs time alone: what no worker takes is left.
 pub fn run_workers<'t, R: Threads + Sync, G: Gate>(
     rt: &R,
     alloc: Global,
@@ -210,6 +210,7 @@ fn walks_of<'w, 't>(
     Some(walks)
 }
 
+// A seat of the hints, if there are any and there is memory for it.
 fn seat_of<'h>(hints: &'h Option<Hints>) -> Option<HintSeat<'h>> {
     match hints {
         Some(hints) => HintSeat::of(hints),
@@ -259,7 +260,7 @@ fn worked<'w, R: Threads + Sync, G: Gate, C: Cells + Send + Drop>(
     jobs
 }
 
-// Room for so many; none where there is no memory.
+/// Room for so many; none where there is no memory.
 pub(crate) fn room_for<T: Drop>(alloc: Global, count: u32) -> Vec<T>
     ensures { result.items ≡ [] }
 {
@@ -312,18 +313,21 @@ fn take_all(scene: &Scene, replies: &mut Vec<Reply>, more: &[Reply])
     requires old { All (IsReplyOf scene.now.frontier.now scene.now.plan.scoring) replies.old.items }
     requires more { All (IsReplyOf scene.now.frontier.now scene.now.plan.scoring) more.now }
     ensures all { All (IsReplyOf scene.now.frontier.now scene.now.plan.scoring) replies.new.items }
-    ensures once { (x : ℕ) → times x (numbers_of replies.new.items) ≤ times x (numbers_of replies.old.items) + times x (numbers_of more.now) }
+    ensures once { (x : ℕ) → times x (numbers_of replies.new.items)
+        ≤ times x (numbers_of replies.old.items) + times x (numbers_of more.now) }
 {
     for reply in more {
         take_one(scene, replies, reply);
     }
 }
 
+// Adds a reply, if there is room for it.
 fn take_one(scene: &Scene, replies: &mut Vec<Reply>, reply: &Reply)
     requires old { All (IsReplyOf scene.now.frontier.now scene.now.plan.scoring) replies.old.items }
     requires one { IsReplyOf scene.now.frontier.now scene.now.plan.scoring reply.now }
     ensures all { All (IsReplyOf scene.now.frontier.now scene.now.plan.scoring) replies.new.items }
-    ensures once { (x : ℕ) → times x (numbers_of replies.new.items) ≤ times x (numbers_of replies.old.items) + times x (numbers_of (reply.now ∷ [])) }
+    ensures once { (x : ℕ) → times x (numbers_of replies.new.items)
+        ≤ times x (numbers_of replies.old.items) + times x (numbers_of (reply.now ∷ [])) }
 {
     let _items = scene.frontier.len();
     if replies.len() < replies.capacity() {

@@ -5,12 +5,13 @@ use oth_pieces::Frontier;
 use oth_rules::{Board, Scoring, Square};
 
 // From so many empty squares on a guess that workers make pays.
-const FEWEST_EMPTIES_GUESSED: u8 = 16;
+const FEWEST_EMPTIES_GUESSED: u8 = 14;
 
 // From so many empty squares on a memory for boards with few empty squares pays: it takes time to make.
 const FEWEST_EMPTIES_REMEMBERED: u8 = 10;
 
-/// The board that is solved, its frontier, its moves in the order in which they are searched, and how the search is made.
+/// The board that is solved, its frontier, its moves in the order in which they are searched, and how the search is
+/// made.
 #[derive(Clone, Copy)]
 pub(crate) struct Scene<'s> {
     pub frontier: &'s Frontier,
@@ -25,8 +26,8 @@ pub(crate) struct Plan {
     pub scoring: Scoring,
     /// Boards with fewer empty squares are searched to the end by whoever is there.
     pub fewest: u8,
-    /// The moves of boards with more empty squares are searched by several workers together for longer, since what is searched in vain
-    /// costs most there.
+    /// The moves of boards with more empty squares are searched by several workers together for longer, since what is
+    /// searched in vain costs most there.
     pub dealt: u8,
     /// Whether several workers learn from a table what the others found.
     pub shares: bool,

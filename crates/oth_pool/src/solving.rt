@@ -19,7 +19,8 @@ use oth_book::Book;
 use oth_pieces::{Collector, Floor, Frontier, Reply};
 use oth_rules::{Board, Scoring, Square};
 use oth_search::{
-    Answer, Cells, Solved, before_pass, ended, known_below, known_of, order, solve_moves,
+    Answer, Cells, MOST_EMPTIES, Solved, before_pass, ended, known_below, known_of, order,
+    solve_moves,
 };
 use oth_table::SharedTable;
 use std::alloc::Global;
@@ -43,10 +44,10 @@ pub enum SolveError {
     Cells,
 }
 
-/// The score and all best moves of a board by full minimax, with so many workers over a table of at most so many cells (0: none). It waits
-/// for its workers. Neither their number nor the table's size nor the schedule changes the answer, nor want of memory or threads.
-/// A book of the same scoring is asked first: an exact entry is the answer, and the gate hears nothing; the bounds of another
-/// entry raise the floor before the workers start.
+/// The score and all best moves of a board by full minimax, with so many workers over a table of at most so many cells
+/// (0: none). It waits for its workers. Neither their number nor the table's size nor the schedule changes the answer,
+/// nor want of memory or threads. A book of the same scoring is asked first: an exact entry is the answer, and the gate
+/// hears nothing; the bounds of another entry raise the floor before the workers start.
 pub fn solve<R: Threads + Sync, G: Gate>(
     rt: &R,
     alloc: Global,
@@ -62,7 +63,7 @@ pub fn solve<R: Threads + Sync, G: Gate>(
     ensures err { IfErr result (Refuses board.now workers cells) }
 {
     let empties = board.empties();
-    if empties > 30 {
+    if empties > MOST_EMPTIES {
         return Err(SolveError::TooManyEmpties(empties));
     }
     if workers < 1 || workers > 16 {
@@ -84,6 +85,7 @@ pub fn solve<R: Threads + Sync, G: Gate>(
     Ok(answer(&means, &told, cells))
 }
 
+// Whether a table can have so many cells: 1, 2, 4 .. 262,144.
 fn is_power(cells: u32) -> bool
     ensures { IsTrue result ↔ IsPower cells }
 {
@@ -190,8 +192,8 @@ fn answer_over<'t, R: Threads + Sync, G: Gate>(
     solve_moves(root, known.as_slice(), &mut cells)
 }
 
-// What is found of the boards after the root's moves, by the workers, and by the caller where they left an item, and what the caller
-// searched over.
+// What is found of the boards after the root's moves, by the workers, and by the caller where they left an item, and
+// what the caller searched over.
 fn searched<'t, R: Threads + Sync, G: Gate>(
     means: &Means<R, G>,
     scene: &Scene,
@@ -253,7 +255,8 @@ fn search_left<G: Gate, C: Cells>(
     }
 }
 
-// What is known of the boards after the root's moves, by what workers found of them and by the replies. The floor is raised by each.
+// What is known of the boards after the root's moves, by what workers found of them and by the replies. The floor is
+// raised by each.
 fn children_of<C: Cells>(scene: &Scene, collector: &Collector, walk: &mut Walk<C>) -> Vec<Solved> {
     let replies = replies_of(walk.alloc, scene.frontier.len(), collector);
     let mut children = room_for(walk.alloc, 64);

@@ -8,11 +8,9 @@ mod gate;
 mod refused;
 mod rows;
 
-ghost use Rattle.std.specs.Prelude.{◌≤◌, IfSome};
-ghost use Rattle.oth_rules.specs.Position.{empty_count};
-
 use crate::scene::Plan;
 use crate::{Floor, Frontier, Open, TableAccess, WorkerCells, run_workers, solve};
+use oth_rules::samples::board;
 use oth_rules::{Board, Scoring, Square};
 use oth_search::{Cells, Kind};
 use oth_table::SharedTable;
@@ -28,16 +26,6 @@ const B: [u64; 2] = [0xffff_ffff_ffff_fcfc, 0x0000_0000_0000_0202];
 const CORNERS: [u64; 2] = [0x3cff_ffff_ffff_ff3c, 0x4200_0000_0000_0042];
 
 const C: [u64; 2] = [0xffff_ffff_ffff_ff3c, 0x42];
-
-fn board(words: [u64; 2]) -> Option<Board>
-    ensures { IfSome result (λ b. empty_count b ≤ 30) }
-{
-    let board = Board::of(words[0], words[1]).ok()?;
-    if board.empties() > 30 {
-        return None;
-    }
-    Some(board)
-}
 
 // What `solve` answers: the score, the best moves and the kind; None where it refuses.
 fn solved<R: Threads + Sync>(

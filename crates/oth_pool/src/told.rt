@@ -7,7 +7,7 @@ use oth_book::Book;
 use oth_rules::{Board, Scoring};
 use oth_search::{Answer, Solved};
 
-// The answer of a book by this scoring, where it has the board with exact bounds.
+/// The answer of a book by this scoring, where it has the board with exact bounds.
 pub(crate) fn answer_in(book: Option<&Book>, board: &Board, scoring: Scoring) -> Option<Answer>
     ensures board { IfSome result (λ a. a.board ≡ board.now) }
     ensures scoring { IfSome result (λ a. a.scoring ≡ scoring) }
@@ -19,11 +19,12 @@ pub(crate) fn answer_in(book: Option<&Book>, board: &Board, scoring: Scoring) ->
     book.find(board)
 }
 
-// The bounds of a book by this scoring, or those of every value.
+/// The bounds of a book by this scoring, or those of every value.
 pub(crate) fn bounds_in(book: Option<&Book>, board: &Board, scoring: Scoring) -> Solved
     ensures board { result.board ≡ board.now }
     ensures scoring { result.scoring ≡ scoring }
-    ensures told { IfSome book.entry (λ b. b.now.scoring ≡ scoring → HasBoard b.now.entries (canonical board.now) → Has b.now.entries (canonical board.now) result.interval.lower result.interval.upper) }
+    ensures told { IfSome book.entry (λ b. b.now.scoring ≡ scoring → HasBoard b.now.entries (canonical board.now)
+        → Has b.now.entries (canonical board.now) result.interval.lower result.interval.upper) }
 {
     let Some(book) = book else {
         return Solved::unknown(*board, scoring);

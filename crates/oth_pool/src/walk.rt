@@ -1,7 +1,7 @@
 //! One worker's way through the tree: what it searches over, what it knows, and which searches it has under way.
 ghost use Rattle.std.specs.Prelude.{◌≡◌, pos, negsuc, ◌≤ℤ◌};
 
-use crate::glance::glance;
+use crate::glance::{Guess, glance};
 use crate::height::Height;
 use crate::hints::HintSeat;
 use crate::move_order::MoveOrder;
@@ -18,8 +18,8 @@ pub(crate) const MOST_PLIES: u8 = 30;
 // Boards with fewer empty squares are ordered anew each time.
 const FEWEST_EMPTIES_KEPT: u8 = 12;
 
-// After a board that has fewer empty squares than this, beyond those of the smallest that workers share, not all searches under way are
-// looked up: that would take longer than is saved.
+// After a board that has fewer empty squares than this, beyond those of the smallest that workers share, not all
+// searches under way are looked up: that would take longer than is saved.
 const SMALL: u8 = 2;
 
 // So many of them are.
@@ -47,8 +47,8 @@ pub(crate) struct Walk<'w, C> {
     goals: Vec<Goal>,
     // The root's moves that it has settled itself.
     settled: u64,
-    // A score that the root seems to have.
-    guess: Option<i8>,
+    // A score that the root seems to have, and its move.
+    guess: Option<Guess>,
     /// What it found of boards after the root's moves.
     pub found: Vec<Solved>,
 }
@@ -107,43 +107,86 @@ impl<'w, C: Cells> Walk<'w, C> {
         }
     }
 
-    /// A score that the root seems to have, from -63 on.
-    pub fn guess(&mut self, root: &Board) -> i8
-        ensures low { negsuc 62 ≤ℤ result }
-        ensures high { result ≤ℤ pos 64 }
-    {
-        if let Some(guess) = self.guess {
-            return guess.max(-63).min(64);
+    /// A score that the root seems to have, and its move.
+    pub fn guess(&mut self, root: &Board) -> Guess {
+        if self.guess.is_none() {
+            self.make_guess(root);
         }
-        let guess = if self.plan.guesses {
-            self.guess_together(root)
-        } else if self.plan.shares {
+        match self.guess {
+            Some(guess) => guess,
+            None => Guess::of(0, Square::numbered(0)),
+        }
+    }
+
+    // Makes a guess, together with the others where that pays.
+    fn make_guess(&mut self, root: &Board) {
+        if !self.plan.guesses {
+            self.guess = Some(self.guess_alone(root));
+            return;
+        }
+        self.guess = Some(glance(root, self));
+        self.tell_guess();
+    }
+
+    // Tells the others the guess.
+    fn tell_guess(&mut self) {
+        if let Some(guess) = self.guess {
+            if let Some(hints) = &mut self.hints {
+                hints.tell_guess(guess);
+            }
+        }
+    }
+
+    // A guess by this worker alone, where others can't learn from it, or without a search where the board is small.
+    fn guess_alone(&mut self, root: &Board) -> Guess {
+        let score = if self.plan.shares {
             0
         } else {
             guessed_score(root, &mut self.cells, self.plan.scoring)
         };
-        self.guess = Some(guess);
-        guess.max(-63)
-    }
-
-    // The same, which workers make together.
-    fn guess_together(&mut self, root: &Board) -> i8
-        ensures low { negsuc 63 ≤ℤ result }
-        ensures high { result ≤ℤ pos 64 }
-    {
-        let guess = glance(root, self);
-        if let Some(hints) = &mut self.hints {
-            hints.tell_guess(guess);
+        let squares = self.order(root);
+        match squares.first() {
+            Some(square) => Guess::of(score, *square),
+            None => Guess::of(score, Square::numbered(0)),
         }
-        guess
     }
 
-    /// The guess that another worker has made.
-    pub fn told_guess(&mut self) -> Option<i8> {
+    /// From now on the root seems to have at most so much.
+    pub fn lower_guess(&mut self, root: &Board, most: i8) {
+        let Guess { score, square } = self.guess(root);
+        self.guess = Some(Guess::of(most.min(score - 1), square));
+    }
+
+    /// The guess that another worker has told.
+    pub fn told_guess(&mut self) -> Option<Guess> {
         match &mut self.hints {
             Some(hints) => hints.guess(),
             None => None,
         }
+    }
+
+    /// Whether the board seems to have at least this score, if another worker has told it.
+    pub fn seen(&mut self, board: &Board, score: i8) -> Option<bool> {
+        match &mut self.hints {
+            Some(hints) => hints.seen(board, score),
+            None => None,
+        }
+    }
+
+    /// Tells whether the board seems to have at least this score.
+    pub fn tell_seen(&mut self, board: &Board, score: i8, is_reached: bool) {
+        if let Some(hints) = &mut self.hints {
+            hints.tell_seen(board, score, is_reached);
+        }
+    }
+
+    /// The root's move that seems best, if there is a guess.
+    pub fn favourite(&mut self) -> Option<Square> {
+        let guess = match self.guess {
+            Some(guess) => guess,
+            None => self.told_guess()?,
+        };
+        Some(guess.square)
     }
 
     /// The score that the root's moves are asked for: the floor, or a guess where there is none.
@@ -155,7 +198,7 @@ impl<'w, C: Cells> Walk<'w, C> {
         if least > -64 {
             return least;
         }
-        self.guess(root)
+        self.guess(root).score
     }
 
     /// The cells, when nothing more is to be searched.
@@ -256,14 +299,15 @@ impl<'w, C: Cells> Walk<'w, C> {
         self.goals.truncate(depth);
     }
 
-    /// Whether what it searches is of no more use after this board was searched: the floor has risen, the root's move is settled, or the
-    /// cells tell what one of the searches under way is to decide.
+    /// Whether what it searches is of no more use after this board was searched: the floor has risen, the root's move
+    /// is settled, or the cells tell what one of the searches under way is to decide.
     pub fn gives_up(&mut self, searched: &Board) -> bool {
         let is_small = searched.empties() < self.plan.fewest.saturating_add(SMALL);
         self.floor() > self.least || self.is_settled(self.square) || self.is_any_decided(is_small)
     }
 
-    // Whether the cells tell what one of the searches under way is to decide: one of the last ones, where only few are looked up.
+    // Whether the cells tell what one of the searches under way is to decide: one of the last ones, where only few are
+    // looked up.
     fn is_any_decided(&mut self, few: bool) -> bool {
         let goals = self.goals.as_slice();
         let first = if few {

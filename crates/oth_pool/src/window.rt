@@ -110,8 +110,8 @@ impl Pace {
         Pace { step: 1 }
     }
 
-    /// The null window that is asked next of a value between these bounds: a step below the upper one, or above the lower one where
-    /// that is all that is known.
+    /// The null window that is asked next of a value between these bounds: a step below the upper one, or above the
+    /// lower one where that is all that is known.
     pub fn window(self, bounds: Interval) -> Window {
         let alpha = if bounds.upper == 64 {
             bounds.lower + self.step
@@ -122,9 +122,9 @@ impl Pace {
     }
 }
 
-/// The null window that is asked next of a value between these bounds, which seems to be the guess, where workers share what they find:
-/// all who know the same bounds ask the same. It is the one next to the upper bound, or further below that as the guess is far off.
-/// Where only a lower bound is known it is as far above that as that is above the guess.
+/// The null window that is asked next of a value between these bounds, which seems to be the guess, where workers share
+/// what they find: all who know the same bounds ask the same. It is the one next to the upper bound, or further below
+/// that as the guess is far off. Where only a lower bound is known it is as far above that as that is above the guess.
 pub(crate) fn shared_window(bounds: Interval, guess: i8) -> Window {
     let Interval { lower, upper } = bounds;
     let alpha = if upper < 64 {
@@ -153,6 +153,7 @@ fn threshold(alpha: i8) -> i8
     alpha
 }
 
+// The next step after one that was reached.
 fn wider(step: i8) -> i8
     requires low { pos 1 ≤ℤ step }
     requires high { step ≤ℤ pos 63 }

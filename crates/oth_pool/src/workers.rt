@@ -13,7 +13,8 @@ use oth_search::Cells;
 use std::thread;
 use std::thread::Threads;
 
-/// Lets each job search items until no number is left and no move of the root is open, in a thread of its own where one can be made.
+/// Lets each job search items until no number is left and no move of the root is open, in a thread of its own where one
+/// can be made.
 pub(crate) fn work_all<'w, R: Threads + Sync, G: Gate, C: Cells + Send>(
     rt: &R,
     scene: &Scene,
@@ -21,9 +22,12 @@ pub(crate) fn work_all<'w, R: Threads + Sync, G: Gate, C: Cells + Send>(
     gate: &G,
     jobs: &mut [Job<'w, C>],
 )
-    requires { (i : ℕ) (d : Job C) → i < length jobs.old → CanWork scene.now.frontier.now scene.now.plan.scoring tasks.now (slice_index_or jobs.old i d).work }
-    ensures works { (i : ℕ) (d : Job C) → i < length jobs.old → CanWork scene.now.frontier.now scene.now.plan.scoring tasks.now (slice_index_or jobs.new i d).work }
-    ensures numbers { (i : ℕ) (d : Job C) → i < length jobs.old → number_of (slice_index_or jobs.new i d).work.hand ≡ number_of (slice_index_or jobs.old i d).work.hand }
+    requires { (i : ℕ) (d : Job C) → i < length jobs.old
+        → CanWork scene.now.frontier.now scene.now.plan.scoring tasks.now (slice_index_or jobs.old i d).work }
+    ensures works { (i : ℕ) (d : Job C) → i < length jobs.old
+        → CanWork scene.now.frontier.now scene.now.plan.scoring tasks.now (slice_index_or jobs.new i d).work }
+    ensures numbers { (i : ℕ) (d : Job C) → i < length jobs.old
+        → number_of (slice_index_or jobs.new i d).work.hand ≡ number_of (slice_index_or jobs.old i d).work.hand }
 {
     if jobs.is_empty() {
         return;
@@ -35,7 +39,8 @@ pub(crate) fn work_all<'w, R: Threads + Sync, G: Gate, C: Cells + Send>(
         threads,
         &|_, job: &mut Job<C>|
             requires { CanWork scene.now.frontier.now scene.now.plan.scoring tasks.now job.old.work }
-            ensures works { CanWork scene.entry.now.frontier.now scene.entry.now.plan.scoring tasks.entry.now job.new.work }
+            ensures works { CanWork scene.entry.now.frontier.now scene.entry.now.plan.scoring
+                tasks.entry.now job.new.work }
             ensures number { number_of job.new.work.hand ≡ number_of job.old.work.hand }
         { search_all(scene, tasks, gate, &mut job.work, &mut job.walk) },
     );

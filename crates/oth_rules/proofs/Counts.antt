@@ -182,7 +182,7 @@ flipped_theirs p s q e =
     any_gives (λ d. is_in (outflanked p (ray d s)) q) (is_theirs p q) directions (λ d. outflanked_theirs p (ray d s) q)
     (and_parts (is_empty p s) (list_any (λ d. is_in (outflanked p (ray d s)) q) directions) e).1
 
-theirs_not_empty : (p : Position) (q : ℕ) → is_theirs p q ≡ true → is_empty p q ≡ false
+pub theirs_not_empty : (p : Position) (q : ℕ) → is_theirs p q ≡ true → is_empty p q ≡ false
 unfolding is_theirs is_empty
 theirs_not_empty p q e = cell_not_empty (cell p q) e
 

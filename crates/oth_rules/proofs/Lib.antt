@@ -22,3 +22,4 @@ pub mod Slides
 pub mod Moves
 pub mod Vectors
 pub mod RowCarry
+pub mod LastMoves

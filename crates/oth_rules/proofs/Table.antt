@@ -1,5 +1,5 @@
 -- The tables of rays: the squares of each mask, in the ray's order, are the ray. The tables are computed.
-use Rattle.std.proofs.Common.{◌≡◌, ℕ, ◌<◌, ◌^◌, Bool, true, false, ◌&&◌, ◌||◌, List, [], ◌∷◌, refl, ap, ◌∙◌}
+use Rattle.std.proofs.Common.{◌≡◌, ℕ, ◌<◌, ◌-◌, ◌^◌, Bool, true, false, ◌&&◌, ◌||◌, List, [], ◌∷◌, refl, ap, ◌∙◌}
 use Rattle.std.specs.Prelude.{bit_or, ◌==◌, nat_lt, slice_index_or}
 use Rattle.std.specs.List.{list_any}
 use Rattle.std.proofs.lemmas.Bool.{eqb-true, ltb-true, and_parts, agree_below, agree_below_at, false≢true}
@@ -8,22 +8,22 @@ use Rattle.oth_rules.specs.Position.{Position}
 use Rattle.oth_rules.specs.Move.{outflanked, flipped_along}
 use Rattle.oth_rules.specs.Line.{rising, falling_below, falling, rising_directions, falling_directions}
 use Rattle.oth_rules.specs.declared.masks.TheConstants.{RISING, FALLING}
-use Rattle.oth_rules.specs.declared.square_words.TheConstants.{SQUARE_WORDS}
+use Rattle.oth_rules.specs.declared.square_words.TheConstants.{WORDS_AFTER}
 use Rattle.oth_rules.proofs.Bits.{word_of-same}
 use Rattle.oth_rules.proofs.Words.{or_word}
 
 -- ---- the words of single squares
 
-is_square_word : ℕ → Bool
-is_square_word i = slice_index_or SQUARE_WORDS i 0 == 2 ^ i
+is_word_after : ℕ → Bool
+is_word_after i = slice_index_or WORDS_AFTER i 0 == 2 ^ (63 - i)
 
-square_words : agree_below is_square_word (λ _. true) 64 ≡ true
-unfolding is_square_word
-square_words = refl
+words_after : agree_below is_word_after (λ _. true) 64 ≡ true
+unfolding is_word_after
+words_after = refl
 
-pub square_word_is : (i : ℕ) → i < 64 → slice_index_or SQUARE_WORDS i 0 ≡ 2 ^ i
-unfolding is_square_word
-square_word_is i l = eqb-true (slice_index_or SQUARE_WORDS i 0) (2 ^ i) (agree_below_at is_square_word (λ _. true) 64 i square_words l)
+pub word_after_is : (i : ℕ) → i < 64 → slice_index_or WORDS_AFTER i 0 ≡ 2 ^ (63 - i)
+unfolding is_word_after
+word_after_is i l = eqb-true (slice_index_or WORDS_AFTER i 0) (2 ^ (63 - i)) (agree_below_at is_word_after (λ _. true) 64 i words_after l)
 
 -- ---- the rays
 

@@ -7,3 +7,4 @@ pub mod Value
 pub mod Line
 pub mod Laws
 pub mod Exchange
+pub mod LastMove

@@ -1,4 +1,4 @@
-// A board as its mover sees it.
+//! A board as its mover sees it.
 ghost use Rattle.std.specs.Prelude.{◌≡◌, ◌<◌, ◌≤◌, ◌↔◌, bit_and, IsErr, IfOk, IsTrue, SomeIff, false};
 ghost use Rattle.oth_rules.specs.Square.{word_of, is_in};
 ghost use Rattle.oth_rules.specs.Position.{Position, IsBoard, empty_count, is_empty, pass};

@@ -1,4 +1,4 @@
-// Moves and flips over vectors of four words: four directions of one sense at a time, a lane for each.
+//! Moves and flips over vectors of four words: four directions of one sense at a time, a lane for each.
 ghost use Rattle.std.specs.Prelude.{◌≡◌, ◌↔◌, IsTrue, false};
 ghost use Rattle.std.specs.List.{list_any};
 ghost use Rattle.oth_rules.specs.Square.{word_of, is_in};

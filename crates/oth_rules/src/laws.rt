@@ -6,7 +6,8 @@ ghost use Rattle.oth_rules.specs.Move.{after};
 ghost use Rattle.oth_rules.specs.Score.{score_of};
 ghost use Rattle.oth_rules.specs.Value.{value};
 ghost use Rattle.oth_rules.specs.Symmetry.{canonical};
-ghost use Rattle.oth_rules.specs.Laws.{IsLegal, IsScore, IsEven, IsValueByMoves, IsValueByPass, IsValueAtEnd, IsValueOfImages};
+ghost use Rattle.oth_rules.specs.Laws.{IsLegal, IsScore, IsEven, IsValueByMoves, IsValueByPass, IsValueAtEnd};
+ghost use Rattle.oth_rules.specs.Laws.{IsValueOfImages};
 ghost use Rattle.oth_rules.specs.declared.scoring.Scoring.{Scoring};
 ghost use Rattle.oth_rules.specs.declared.scoring.Scoring.TheVariants.{Winner};
 

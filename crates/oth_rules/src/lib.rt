@@ -5,8 +5,11 @@
 mod board;
 mod direction;
 mod lanes;
+mod last_move;
 pub mod laws;
+mod line_tables;
 mod masks;
+pub mod samples;
 mod scoring;
 mod sliding;
 mod square;

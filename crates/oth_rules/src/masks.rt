@@ -1,4 +1,4 @@
-// Words of squares: the inner columns, and the rays of each square, its squares to the edge, one word a direction.
+//! Words of squares: the inner columns, and the rays of each square, its squares to the edge, one word a direction.
 
 /// The squares of columns b to g. A line across the columns has a square before each of its discs and one past it, so
 /// its discs lie here, and here plain shifts need no mask.

@@ -1,7 +1,8 @@
-// One of the 64 squares.
+//! One of the 64 squares.
 ghost use Rattle.std.specs.Prelude.{◌≡◌, ◌≢◌, ◌<◌, ◌↔◌, ◌^◌, ℕ, true, false, IsSome, IfSome, slice_index_or, []};
 ghost use Rattle.oth_rules.specs.Square.{has};
 
+use crate::line_tables::{LINE_FACTORS, LINE_MASKS};
 use crate::masks::{FALLING, RISING};
 use std::marker::Model;
 
@@ -70,7 +71,7 @@ impl Square {
         1 << self.number
     }
 
-    // The rays along which square numbers rise.
+    /// The rays along which square numbers rise.
     pub(crate) fn rising_rays(self) -> &'static [u64; 4]
         ensures value { result.now ≡ slice_index_or RISING self [] }
         ensures below { self < 64 }
@@ -78,11 +79,27 @@ impl Square {
         &RISING[self.number as usize]
     }
 
-    // The rays along which square numbers fall.
+    /// The rays along which square numbers fall.
     pub(crate) fn falling_rays(self) -> &'static [u64; 4]
         ensures value { result.now ≡ slice_index_or FALLING self [] }
         ensures below { self < 64 }
     {
         &FALLING[self.number as usize]
+    }
+
+    // The squares in line with it, along its row, its falling diagonal, its column and its rising diagonal.
+    pub(crate) fn line_masks(self) -> &'static [u64; 4]
+        ensures value { result.now ≡ slice_index_or LINE_MASKS self [] }
+        ensures below { self < 64 }
+    {
+        &LINE_MASKS[self.number as usize]
+    }
+
+    // What gathers the discs on these squares in eight bits.
+    pub(crate) fn line_factors(self) -> &'static [u64; 4]
+        ensures value { result.now ≡ slice_index_or LINE_FACTORS self [] }
+        ensures below { self < 64 }
+    {
+        &LINE_FACTORS[self.number as usize]
     }
 }

@@ -1,4 +1,4 @@
-// The eight symmetries of the board, and words carried along them.
+//! The eight symmetries of the board, and words carried along them.
 ghost use Rattle.std.specs.Prelude.{◌≡◌, ◌<◌, ◌↔◌, ◌^◌, ◌*◌, ◌%◌, IsSome, IfSome, bit_and, if◌then◌else◌};
 ghost use Rattle.oth_rules.specs.Square.{has, word_of};
 ghost use Rattle.oth_rules.specs.Symmetry.{map_word, unmap_word};
@@ -103,18 +103,21 @@ fn transposed(word: u64) -> u64
     exchanged(word, 0x0000_0000_f0f0_f0f0, 28)
 }
 
+// The word, mirrored left to right if so asked.
 fn mirrored_if(word: u64, yes: bool) -> u64
     ensures { result ≡ word_of (λ q. has word (if yes then mirrored_square q else q)) }
 {
     if yes { mirrored(word) } else { word }
 }
 
+// The word, turned top to bottom if so asked.
 fn flipped_if(word: u64, yes: bool) -> u64
     ensures { result ≡ word_of (λ q. has word (if yes then flipped_square q else q)) }
 {
     if yes { flipped(word) } else { word }
 }
 
+// The word, its columns and rows exchanged if so asked.
 fn transposed_if(word: u64, yes: bool) -> u64
     ensures { result ≡ word_of (λ q. has word (if yes then transposed_square q else q)) }
 {

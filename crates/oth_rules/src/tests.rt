@@ -1,5 +1,5 @@
-// Boards whose scores, moves and canonical images are known from outside, and the counts of legal transcripts from
-// the start.
+//! Boards whose scores, moves and canonical images are known from outside, and the counts of legal transcripts from
+//! the start.
 use crate::{Board, Overlap, Scoring, Square, Sym};
 use std::collections::VecDeque;
 use std::process::Abort;

@@ -1,6 +1,6 @@
 -- One empty square: the score of a board that is left as it is bounds what it comes to where the mover has no move.
 use Rattle.std.proofs.Common.{◌≡◌, ℕ, zero, suc, ◌+◌, ◌<◌, ◌≤◌, Bool, true, false, cond, ◌||◌, refl, sym, ap, ◌∙◌, arith, [], ◌∷◌, inl, inr, ⊎_elim, subst}
-use Rattle.std.specs.Prelude.{if◌then◌else◌, ℤ, pos, ◌+ℤ◌, ◌-ℤ◌, ◌≤ℤ◌, ◌==◌}
+use Rattle.std.specs.Prelude.{if◌then◌else◌, ℤ, pos, neg_ℤ, ◌+ℤ◌, ◌-ℤ◌, ◌≤ℤ◌, ◌==◌, count_by}
 use Rattle.std.proofs.lemmas.Int.{ints}
 use Rattle.std.proofs.lemmas.Bool.{cases_Bool, cases_order, false≢true}
 use Rattle.oth_rules.specs.declared.scoring.Scoring.{Scoring}
@@ -8,10 +8,13 @@ use Rattle.oth_rules.specs.declared.scoring.Scoring.TheVariants.{Winner, Discs}
 use Rattle.oth_rules.specs.Position.{Position, Cell, Mine, Theirs, Empty, cell, is_mine, is_mine_cell, opposite_cell, pass, mine_count, theirs_count, empty_count}
 use Rattle.oth_rules.specs.Move.{after, is_flipped, can_move}
 use Rattle.oth_rules.specs.Score.{disc_difference, winner_score, score_of}
+use Rattle.oth_rules.specs.Square.{squares}
+use Rattle.oth_rules.specs.LastMove.{IsLast}
 use Rattle.oth_rules.specs.Value.{value}
 use Rattle.oth_rules.specs.Laws.{IsLegal, IsScore}
 use Rattle.oth_rules.proofs.Positions.{cell-position_of, after-is}
 use Rattle.oth_rules.proofs.Counts.{count_upto, count_by-squares, counts}
+use Rattle.oth_rules.proofs.LastMoves.{discs_after}
 use Rattle.oth_rules.proofs.Scores.{won, lost, drawn}
 use Rattle.oth_rules.proofs.SearchLaws.{value-over, some_legal, legal-empty, IsScore-score_of}
 use Rattle.oth_search.specs.Bound.{BoundsAt}
@@ -114,3 +117,27 @@ BoundsAt-left g p q a alpha r l none is e low = record {
     passed some =
         let m = some_legal q some in
         subst (IsLegal q) (⊎_elim (λ h. h) (λ h. absurd h) ((Leaves-pass p q (a ∷ []) l is).only m.0 m.1.on_board (legal-empty q m.0 m.1))) m.1
+
+-- ---- what a move to the only empty square comes to
+
+pub only_empty : (p : Position) (a : ℕ) → Leaves p (a ∷ []) → IsLast p a
+only_empty p a l = record {
+  on_board = l.each.0;
+  empty = l.each.1;
+  only = λ t within e. ⊎_elim (λ h. h) (λ h. absurd h) (l.only t within e);
+}
+
+pub discs_fit : (p : Position) (a n : ℕ) → Leaves p (a ∷ []) → n ≡ count_by (is_flipped p a) squares → mine_count p + n ≤ 63
+discs_fit p a n l e = omega (arith, e, discs_after p a l.each.0 l.each.1, counts (after p a))
+
+full_score : (g : Scoring) (p : Position) → mine_count p + theirs_count p ≡ 64 → score_of g p ≡ (pos (mine_count p) -ℤ pos (theirs_count p))
+unfolding score_of
+full_score Winner p full = full_winner p full
+full_score Discs p full = difference p
+
+pub score_after : (g : Scoring) (p : Position) (a n : ℕ) (r : ℤ) → Leaves p (a ∷ []) → n ≡ count_by (is_flipped p a) squares → r ≡ (pos (mine_count p) +ℤ pos n -ℤ pos 31) +ℤ (pos (mine_count p) +ℤ pos n -ℤ pos 31) → r ≡ neg_ℤ (score_of g (after p a))
+score_after g p a n r l e h =
+    let z : Position = after p a in
+    let empty_z : empty_count z ≡ 0 = no_empties z (Leaves-after p z a [] l refl) in
+    let full : mine_count z + theirs_count z ≡ 64 = omega (arith, counts z, empty_z) in
+    omega (arith, ints, e, h, full, discs_after p a l.each.0 l.each.1, full_score g z full)

@@ -1,17 +1,15 @@
 -- The last few empty squares, one after another.
-use Rattle.std.proofs.Common.{◌≡◌, ◌≢◌, ◌⊎◌, inl, inr, ⊎_elim, ℕ, ◌<◌, ◌+◌, Bool, true, false, not, ◌&&◌, refl, sym, ap, subst, ◌∙◌, arith, List, [], ◌∷◌, ◌++◌}
-use Rattle.std.specs.Prelude.{count_ones, ◌==◌, ℤ, pos, neg_ℤ, ◌+ℤ◌, ◌-ℤ◌, ◌≤ℤ◌, ◌<ℤ◌}
+use Rattle.std.proofs.Common.{◌≡◌, ◌≢◌, ◌⊎◌, inl, inr, ⊎_elim, ℕ, ◌<◌, Bool, true, false, not, ◌&&◌, refl, sym, ap, subst, ◌∙◌, arith, List, [], ◌∷◌, ◌++◌}
+use Rattle.std.specs.Prelude.{◌==◌, ℤ, pos, neg_ℤ, ◌-ℤ◌, ◌≤ℤ◌, ◌<ℤ◌}
 use Rattle.std.proofs.lemmas.Int.{ints, by_lt_z}
-use Rattle.std.proofs.lemmas.Bool.{cases_Bool, cases_order, false≢true, ne_eqb}
+use Rattle.std.proofs.lemmas.Bool.{cases_Bool, false≢true, ne_eqb}
 use Rattle.oth_rules.specs.declared.scoring.Scoring.{Scoring}
 use Rattle.oth_rules.specs.Square.{squares, word_of, has}
-use Rattle.oth_rules.specs.declared.scoring.Scoring.TheVariants.{Winner, Discs}
 use Rattle.oth_rules.proofs.Counts as counts
 use Rattle.oth_rules.proofs.Counts.{count_by-same}
-use Rattle.oth_rules.proofs.Scores.{own_count, won, lost, drawn}
-use Rattle.oth_rules.specs.Position.{Position, IsBoard, is_empty, pass, mine_count, theirs_count, empty_count}
+use Rattle.oth_rules.specs.Position.{Position, is_empty, pass, empty_count}
 use Rattle.oth_rules.specs.Move.{after, can_move}
-use Rattle.oth_rules.specs.Score.{disc_difference, winner_score, score_of}
+use Rattle.oth_rules.specs.Score.{score_of}
 use Rattle.oth_rules.specs.Value.{value}
 use Rattle.oth_rules.specs.Laws.{IsLegal, IsScore}
 use Rattle.oth_rules.proofs.SearchLaws.{value-move_reached, can_move-legal, some_legal, value-over, value-pass, IsScore-value, IsScore-score_of}
@@ -286,31 +284,6 @@ no_empties p l = count_by-same (is_empty p) (λ s. false) (λ s within. not_true
     not_true : (b : Bool) → (b ≡ true → ⊥) → b ≡ false
     not_true true f = absurd (f refl)
     not_true false f = refl
-
-by_scoring : (g : Scoring) (p : Position) (r : ℤ) → r ≡ winner_score p → r ≡ disc_difference p → r ≡ score_of g p
-unfolding score_of
-by_scoring Winner p r e f = e
-by_scoring Discs p r e f = f
-
-discs_are : (p : Position) → disc_difference p ≡ pos (mine_count p) -ℤ pos (theirs_count p)
-unfolding disc_difference
-discs_are p = refl
-
--- with no empty square both scorings give the difference of the discs
-pub score-full : (g : Scoring) (p : Position) (r : ℤ) → IsBoard p → Leaves p [] → r ≡ (pos (count_ones p.own) -ℤ pos 32) +ℤ (pos (count_ones p.own) -ℤ pos 32) → r ≡ score_of g p
-score-full g p r b l e =
-    let m = mine_count p in
-    let t = theirs_count p in
-    let full : m + t ≡ 64 = omega (arith, no_empties p l, counts.counts p) in
-    let own = own_count p b in
-    let winner : r ≡ winner_score p = elim (cases_order m t) [
-      | inl same ↦ let s = drawn p m t refl refl same in omega (arith, ints, e, own, full, same, s)
-      | inr o ↦ elim o [
-        | inl less ↦ let s = lost p m t refl refl less in omega (arith, ints, e, own, full, s)
-        | inr more ↦ let s = won p m t refl refl more in omega (arith, ints, e, own, full, s)
-      ]
-    ] in
-    by_scoring g p r winner (let d = discs_are p in omega (arith, ints, e, own, full, d))
 
 -- ---- one empty square
 

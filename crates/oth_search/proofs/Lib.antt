@@ -9,3 +9,4 @@ pub mod Withins
 pub mod Fulls
 pub mod RootSearch
 pub mod LastBounds
+pub mod KindLemmas

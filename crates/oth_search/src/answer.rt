@@ -1,3 +1,4 @@
+//! Answers: a board's value and all its best moves, true by the type.
 ghost use Rattle.std.specs.Prelude.{◌≡◌};
 ghost use Rattle.oth_rules.specs.Square.{word_of};
 ghost use Rattle.oth_rules.specs.Symmetry.{image, map_word};
@@ -8,9 +9,10 @@ ghost use Rattle.oth_search.specs.Answers.{kind_of};
 use crate::kind::Kind;
 use oth_rules::{Board, Scoring, Sym, map};
 
-/// A board with its value for the mover, -64 to 64, and all its best moves, as a set of squares. Where the mover passes or the
-/// game is over the set is empty. No untrue value of this type can be made: whoever makes one proves its three ghost fields.
-#[derive(Clone, Copy, PartialEq, Eq)]
+/// A board with its value for the mover, -64 to 64, and all its best moves, as a set of squares. Where the mover passes
+/// or the game is over the set is empty. No untrue value of this type can be made: whoever makes one proves its three
+/// ghost fields.
+#[derive(Clone, Copy, PartialEq, Eq, Debug)]
 pub struct Answer {
     pub board: Board,
     pub scoring: Scoring,

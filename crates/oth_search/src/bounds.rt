@@ -1,3 +1,4 @@
+//! Intervals of scores, and boards with one that encloses their value, true by the type.
 ghost use Rattle.std.specs.Prelude.{◌≡◌, ◌↔◌, IsSome, IfSome, IsTrue, IsFalse, ◌≤ℤ◌, ◌<ℤ◌, neg_ℤ, pos};
 ghost use Rattle.oth_rules.specs.Laws.{IsScore};
 ghost use Rattle.oth_rules.specs.Score.{score_of};
@@ -9,7 +10,7 @@ use crate::searching::{greater, lesser};
 use oth_rules::{Board, Scoring};
 
 /// A lower and an upper bound of a score, `-64 <= lower <= upper <= 64`.
-#[derive(Clone, Copy, PartialEq, Eq)]
+#[derive(Clone, Copy, PartialEq, Eq, Debug)]
 pub struct Interval {
     pub lower: i8,
     pub upper: i8,
@@ -63,7 +64,7 @@ impl Interval {
 
 /// A board with bounds that enclose its value for the mover, by its scoring. No untrue value of this type can be made:
 /// whoever makes one proves its ghost field.
-#[derive(Clone, Copy, PartialEq, Eq)]
+#[derive(Clone, Copy, PartialEq, Eq, Debug)]
 pub struct Solved {
     pub board: Board,
     pub scoring: Scoring,
@@ -133,8 +134,10 @@ impl Solved {
         requires { BoundsAt (value (score_of self.scoring) self.board) alpha found }
         ensures board { result.board ≡ self.board }
         ensures scoring { result.scoring ≡ self.scoring }
-        ensures above { alpha <ℤ found → (result.interval.lower ≡ found) × (result.interval.upper ≡ self.interval.upper) }
-        ensures below { found ≤ℤ alpha → (result.interval.lower ≡ self.interval.lower) × (result.interval.upper ≡ found) }
+        ensures above { alpha <ℤ found → (result.interval.lower ≡ found)
+            × (result.interval.upper ≡ self.interval.upper) }
+        ensures below { found ≤ℤ alpha → (result.interval.lower ≡ self.interval.lower)
+            × (result.interval.upper ≡ found) }
     {
         if found > alpha {
             Solved::between(self.board, self.scoring, found, self.interval.upper)
@@ -143,14 +146,16 @@ impl Solved {
         }
     }
 
-    /// What both tell of the board: the greater lower bound and the lesser upper one. Of another board or by the other scoring the
-    /// other tells nothing.
+    /// What both tell of the board: the greater lower bound and the lesser upper one. Of another board or by the other
+    /// scoring the other tells nothing.
     pub fn joined(&self, other: &Solved) -> Solved
         ensures board { result.board ≡ self.now.board }
         ensures scoring { result.scoring ≡ self.now.scoring }
         ensures lower { self.now.interval.lower ≤ℤ result.interval.lower }
         ensures upper { result.interval.upper ≤ℤ self.now.interval.upper }
-        ensures both { other.now.board ≡ self.now.board → other.now.scoring ≡ self.now.scoring → (other.now.interval.lower ≤ℤ result.interval.lower) × (result.interval.upper ≤ℤ other.now.interval.upper) }
+        ensures both { other.now.board ≡ self.now.board → other.now.scoring ≡ self.now.scoring
+            → (other.now.interval.lower ≤ℤ result.interval.lower)
+            × (result.interval.upper ≤ℤ other.now.interval.upper) }
     {
         if other.board != self.board || other.scoring != self.scoring {
             return *self;

@@ -1,3 +1,4 @@
+//! Cells: where a search keeps what it found, and their law; and cells that keep nothing.
 ghost use Rattle.std.specs.Prelude.{◌≡◌, IfSome, IsNone};
 ghost use Rattle.oth_rules.specs.Symmetry.{IsCanonical};
 
@@ -5,8 +6,8 @@ use crate::bounds::Solved;
 use crate::entry::Entry;
 use oth_rules::{Board, Scoring};
 
-/// Where a search keeps what it found. Nothing is promised of what is kept, but that `look` gives only an entry of the board
-/// and scoring that it is asked for.
+/// Where a search keeps what it found. Nothing is promised of what is kept, but that `look` gives only an entry of the
+/// board and scoring that it is asked for.
 pub trait Cells {
     /// What no call changes, as the table on which the cells stand.
     ghost Fixed: { Type 0 };
@@ -38,7 +39,7 @@ pub trait Cells {
 }
 
 /// Cells that keep nothing: each look is `None`.
-#[derive(Clone, Copy)]
+#[derive(Clone, Copy, Debug)]
 pub struct NoCells;
 
 impl Cells for NoCells {

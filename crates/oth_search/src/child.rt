@@ -1,3 +1,4 @@
+//! The board after a move, as a search by rank wants it.
 use oth_rules::{Board, Square};
 
 /// A move with the board after it, the replies to it, and its rank: the least is tried first.

@@ -1,6 +1,5 @@
 //! Bounds of a board by bounds of boards below it.
-ghost use Rattle.std.specs.Prelude.{◌≡◌, true, false};
-ghost use Rattle.oth_rules.specs.Position.{pass};
+ghost use Rattle.std.specs.Prelude.{◌≡◌, true};
 ghost use Rattle.oth_rules.specs.Move.{can_move};
 
 use crate::bounds::{Interval, Solved};
@@ -32,12 +31,12 @@ pub fn known_below(board: Board, plies: u8, known: &[Solved], scoring: Scoring) 
     }
     let passed = board.pass();
     if passed.moves() != 0 {
-        return turned(board, known_by_moves(passed, plies, known, scoring));
+        return known_by_moves(passed, plies, known, scoring).before_pass(&board);
     }
     known_of(board, known, scoring)
 }
 
-/// The same, where the mover has a move.
+// The same, where the mover has a move.
 #[cycle(combining)]
 fn known_by_moves(board: Board, plies: u8, known: &[Solved], scoring: Scoring) -> Solved
     requires { can_move board ≡ true }
@@ -62,23 +61,5 @@ fn known_by_moves(board: Board, plies: u8, known: &[Solved], scoring: Scoring) -
         board,
         scoring,
         interval: Interval { lower, upper },
-    }
-}
-
-/// The bounds of a board whose mover must pass.
-fn turned(board: Board, passed: Solved) -> Solved
-    requires passed { passed.board ≡ pass board }
-    requires none { can_move board ≡ false }
-    requires some { can_move (pass board) ≡ true }
-    ensures board { result.board ≡ board }
-    ensures scoring { result.scoring ≡ passed.scoring }
-{
-    Solved {
-        board,
-        scoring: passed.scoring,
-        interval: Interval {
-            lower: -passed.interval.upper,
-            upper: -passed.interval.lower,
-        },
     }
 }

@@ -1,3 +1,4 @@
+//! Probes by rank and with cells, of boards with more than a few empty squares.
 ghost use Rattle.std.specs.Prelude.{◌≡◌, ℕ, ◌<◌, neg_ℤ, pos, true, IfSome};
 ghost use Rattle.std.specs.List.{All};
 ghost use Rattle.oth_rules.specs.Move.{can_move};
@@ -20,13 +21,13 @@ use crate::squares::without;
 use arrayvec::ArrayVec;
 use oth_rules::{Board, Scoring};
 
-/// Boards with fewer empty squares are searched square by square.
+// Boards with fewer empty squares are searched square by square.
 const FEWEST_EMPTIES_REMEMBERED: u8 = 5;
 
-/// Boards with fewer empty squares are searched without an order.
+// Boards with fewer empty squares are searched without an order.
 const FEWEST_EMPTIES_ORDERED: u8 = 6;
 
-/// Boards with fewer empty squares are remembered and not kept.
+// Boards with fewer empty squares are remembered and not kept.
 const FEWEST_EMPTIES_KEPT: u8 = 9;
 
 /// As `probe`, with the cells.
@@ -38,7 +39,7 @@ pub fn probe_with<C: Cells>(board: Board, alpha: i8, cells: &mut C, scoring: Sco
     probe_node(Node::of(board), alpha, cells, scoring)
 }
 
-/// The same, where the moves are known.
+// The same, where the moves are known.
 #[cycle(deep)]
 fn probe_node<C: Cells>(node: Node, alpha: i8, cells: &mut C, scoring: Scoring) -> i8
     requires { IsThreshold alpha }
@@ -59,7 +60,7 @@ fn probe_node<C: Cells>(node: Node, alpha: i8, cells: &mut C, scoring: Scoring) 
     board.final_score(scoring)
 }
 
-/// Looks the board up, and puts what it found unless the entry decides.
+// Looks the board up, and puts what it found unless the entry decides.
 #[cycle(deep)]
 fn probe_kept<C: Cells>(node: Node, alpha: i8, cells: &mut C, scoring: Scoring) -> i8
     requires threshold { IsThreshold alpha }
@@ -83,7 +84,7 @@ fn probe_kept<C: Cells>(node: Node, alpha: i8, cells: &mut C, scoring: Scoring) 
     found
 }
 
-/// Recalls what is known of the board, and remembers what it found unless that decides.
+// Recalls what is known of the board, and remembers what it found unless that decides.
 #[cycle(deep)]
 fn probe_remembered<C: Cells>(node: Node, alpha: i8, cells: &mut C, scoring: Scoring) -> i8
     requires threshold { IsThreshold alpha }
@@ -103,7 +104,7 @@ fn probe_remembered<C: Cells>(node: Node, alpha: i8, cells: &mut C, scoring: Sco
     found
 }
 
-/// Searches the children in their order.
+// Searches the children in their order.
 #[cycle(deep)]
 fn probe_ordered<C: Cells>(node: Node, alpha: i8, cells: &mut C, scoring: Scoring) -> i8
     requires threshold { IsThreshold alpha }
@@ -124,8 +125,8 @@ fn probe_ordered<C: Cells>(node: Node, alpha: i8, cells: &mut C, scoring: Scorin
     probe_long(node, alpha, cells, scoring)
 }
 
-/// The same, where at most eight squares are empty. A function of its own for each length of the list: the blank places of a
-/// long one take time to fill.
+// The same, where at most eight squares are empty. A function of its own for each length of the list: the blank places
+// of a long one take time to fill.
 #[inline(never)]
 #[cycle(deep)]
 fn probe_short<C: Cells>(node: Node, alpha: i8, cells: &mut C, scoring: Scoring) -> i8
@@ -138,7 +139,7 @@ fn probe_short<C: Cells>(node: Node, alpha: i8, cells: &mut C, scoring: Scoring)
     probe_children(node, list.as_slice(), alpha, cells, scoring)
 }
 
-/// The same, where few more are empty.
+// The same, where few more are empty.
 #[inline(never)]
 #[cycle(deep)]
 fn probe_middle<C: Cells>(node: Node, alpha: i8, cells: &mut C, scoring: Scoring) -> i8
@@ -151,7 +152,7 @@ fn probe_middle<C: Cells>(node: Node, alpha: i8, cells: &mut C, scoring: Scoring
     probe_children(node, list.as_slice(), alpha, cells, scoring)
 }
 
-/// The same, where many squares are empty: the children are looked up, and then looked at.
+// The same, where many squares are empty: the children are looked up, and then looked at.
 #[inline(never)]
 #[cycle(deep)]
 fn probe_long<C: Cells>(node: Node, alpha: i8, cells: &mut C, scoring: Scoring) -> i8
@@ -168,7 +169,7 @@ fn probe_long<C: Cells>(node: Node, alpha: i8, cells: &mut C, scoring: Scoring) 
     probe_children(node, looked.as_slice(), alpha, cells, scoring)
 }
 
-/// Searches these children and any other, the best-ranked first.
+// Searches these children and any other, the best-ranked first.
 #[cycle(deep)]
 fn probe_children<C: Cells>(
     node: Node,
@@ -203,7 +204,7 @@ fn probe_children<C: Cells>(
     best
 }
 
-/// A bound above `alpha`, if the cells tell one of a child.
+// A bound above `alpha`, if the cells tell one of a child.
 fn known_above<C: Cells>(
     parent: &Board,
     children: &[Child],
@@ -240,7 +241,7 @@ pub fn known<C: Cells>(board: &Board, cells: &mut C, scoring: Scoring) -> Solved
     }
 }
 
-/// What is remembered of a board.
+// What is remembered of a board.
 fn recalled<C: Cells>(board: &Board, cells: &mut C, scoring: Scoring) -> Solved
     ensures board { result.board ≡ board.now }
     ensures scoring { result.scoring ≡ scoring }

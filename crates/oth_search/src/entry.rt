@@ -1,3 +1,4 @@
+//! Entries: canonical boards with true bounds, and the three words that a table keeps of one.
 ghost use Rattle.std.specs.Prelude.{◌≡◌, ℕ, ◌≤◌, ℤ, pos, neg_ℤ, ◌-ℤ◌, ◌≤ℤ◌, Some};
 ghost use Rattle.oth_rules.specs.Symmetry.{canonical, IsCanonical};
 ghost use Rattle.oth_search.specs.Entries.{Bounded, IsTrueEntry, raised, words_of, joined};
@@ -7,7 +8,7 @@ use oth_rules::{Board, Scoring};
 use std::marker::Model;
 
 /// A canonical board with bounds that enclose its value, as a table keeps it. No untrue entry can be made.
-#[derive(Clone, Copy)]
+#[derive(Clone, Copy, Debug)]
 pub struct Entry {
     board: Board,
     scoring: Scoring,
@@ -22,7 +23,8 @@ impl Model for Entry {
 
     ghost view = { λ e. record { board = e.board; scoring = e.scoring; lower = e.lower; upper = e.upper } };
 
-    ghost invariant = { λ e. IsTrueEntry (record { board = e.board; scoring = e.scoring; lower = e.lower; upper = e.upper }) };
+    ghost invariant = { λ e. IsTrueEntry
+        (record { board = e.board; scoring = e.scoring; lower = e.lower; upper = e.upper }) };
 
     ghost inverse = { λ x. record { board = x.board; scoring = x.scoring; lower = x.lower; upper = x.upper } };
 }
@@ -151,7 +153,7 @@ impl Entry {
     }
 }
 
-/// A bound as a number from 0 to 128.
+// A bound as a number from 0 to 128.
 fn raised(bound: i8) -> u64
     requires { neg_ℤ (pos 64) ≤ℤ bound }
     ensures { result ≡ raised bound }
@@ -159,7 +161,7 @@ fn raised(bound: i8) -> u64
     (i16::from(bound) + 64) as u64
 }
 
-/// The bound that is raised so.
+// The bound that is raised so.
 fn lowered(raised: u64) -> i8
     requires { raised ≤ 128 }
     ensures { result ≡ pos raised -ℤ pos 64 }

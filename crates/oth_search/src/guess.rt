@@ -10,19 +10,19 @@ use crate::ordering::order;
 use crate::searching::{greater, lesser};
 use oth_rules::{Board, Scoring};
 
-/// Boards with no more empty squares are searched in full.
+// Boards with no more empty squares are searched in full.
 const FEW_EMPTIES: u8 = 8;
 
-/// No board has more moves.
+// No board has more moves.
 const ALL: usize = 64;
 
-/// Of each board but the first so many moves are tried.
+// Of each board but the first so many moves are tried.
 const WIDTH: usize = 2;
 
-/// The most rounds of a guess.
+// The most rounds of a guess.
 const ROUNDS: u8 = 12;
 
-/// How much a glance sees: so many plies, and so many moves of the first board.
+// How much a glance sees: so many plies, and so many moves of the first board.
 #[derive(Clone, Copy)]
 struct Sight {
     plies: u8,
@@ -56,7 +56,7 @@ pub fn guess<C: Cells>(replies: &mut [Solved], cells: &mut C) -> i8
     high
 }
 
-/// The next step beyond a bound.
+// The next step beyond a bound.
 fn wider(step: i8) -> i8
     requires low { pos 0 ≤ℤ step }
     requires high { step ≤ℤ pos 64 }
@@ -66,7 +66,7 @@ fn wider(step: i8) -> i8
     if step < 32 { 2 * step } else { 64 }
 }
 
-/// Where to ask next: in the middle, or so far beyond the bound that is known.
+// Where to ask next: in the middle, or so far beyond the bound that is known.
 fn between(low: i8, high: i8, step: i8) -> i8
     requires low { IsScore low }
     requires high { IsScore high }
@@ -84,8 +84,8 @@ fn between(low: i8, high: i8, step: i8) -> i8
     lesser(63, greater(-64, at))
 }
 
-/// A value of at most `at` that a reply seems to have, which comes to the front, or else the least of them. `seen` keeps what
-/// they seem to have at least.
+// A value of at most `at` that a reply seems to have, which comes to the front, or else the least of them. `seen` keeps
+// what they seem to have at least.
 fn least_seen<C: Cells>(
     replies: &mut [Solved],
     seen: &mut [Interval; 64],
@@ -116,7 +116,7 @@ fn least_seen<C: Cells>(
     least
 }
 
-/// The value that a reply seems to have: a bound on its side of `alpha`.
+// The value that a reply seems to have: a bound on its side of `alpha`.
 fn glance_at<C: Cells>(reply: &Solved, alpha: i8, cells: &mut C) -> i8
     requires { IsThreshold alpha }
     ensures score { IsScore result }
@@ -129,7 +129,7 @@ fn glance_at<C: Cells>(reply: &Solved, alpha: i8, cells: &mut C) -> i8
     glance(reply.board, alpha, sight, cells, reply.scoring)
 }
 
-/// The same of any board.
+// The same of any board.
 #[cycle(glancing)]
 fn glance<C: Cells>(board: Board, alpha: i8, sight: Sight, cells: &mut C, scoring: Scoring) -> i8
     requires { IsThreshold alpha }
@@ -153,7 +153,7 @@ fn glance<C: Cells>(board: Board, alpha: i8, sight: Sight, cells: &mut C, scorin
     board.final_score(scoring)
 }
 
-/// The same by the first moves.
+// The same by the first moves.
 #[cycle(glancing)]
 fn glance_at_moves<C: Cells>(
     board: &Board,

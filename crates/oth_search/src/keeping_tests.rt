@@ -2,7 +2,8 @@
 ghost use Rattle.std.specs.Prelude.{◌≡◌, IfSome};
 
 use crate::{Cells, Entry, Memo, NoCells, Solved, search, solve_with};
-use oth_rules::{Board, Scoring, Square};
+use oth_rules::samples::after_least_moves;
+use oth_rules::{Board, Scoring};
 use std::test::Fail;
 
 /// The board with row 1 `--OXOOO-` and all else `O`, seen by `X`. It is its own canonical form.
@@ -139,26 +140,10 @@ fn looks_up_no_finished_board(rt: HostRuntime) -> Result<(), Fail> {
     Ok(())
 }
 
-/// A board of a game with so many empty squares: at each turn the least-numbered legal move was played.
-fn least_line(empties: u8) -> Option<Board> {
-    let mut board = Board::of(1 << 28 | 1 << 35, 1 << 27 | 1 << 36).ok()?;
-    for _ in 0..100 {
-        if board.empties() <= empties || board.is_over() {
-            break;
-        }
-        if board.moves() == 0 {
-            board = board.pass();
-        }
-        let square = Square::of(board.moves().trailing_zeros() as u8)?;
-        board = board.play(square)?;
-    }
-    Some(board)
-}
-
 /// The boards with fewer empty squares are remembered and not kept, so a probe of nine makes one look and one put.
 #[test]
 fn keeps_what_a_probe_tells(rt: HostRuntime) -> Result<(), Fail> {
-    let Some(board) = least_line(9) else {
+    let Some(board) = after_least_moves(9) else {
         panic!(rt; "no line")
     };
     assert!(rt; board.empties() == 9 && board.moves() != 0);
@@ -179,8 +164,8 @@ fn keeps_what_a_probe_tells(rt: HostRuntime) -> Result<(), Fail> {
     Ok(())
 }
 
-/// Keeps no entry and remembers, and counts the boards that a search comes to: those that are looked up, of at least nine empty
-/// squares, and those that are recalled, of five to eight.
+/// Keeps no entry and remembers, and counts the boards that a search comes to: those that are looked up, of at least
+/// nine empty squares, and those that are recalled, of five to eight.
 #[derive(Drop)]
 struct Counted {
     memo: Memo,
@@ -213,7 +198,7 @@ impl Cells for Counted {
 /// A search that comes to many more boards than this one does has lost something: its order, its windows or its memory.
 #[test]
 fn comes_to_few_boards(rt: HostRuntime) -> Result<(), Fail> {
-    let Some(board) = least_line(14) else {
+    let Some(board) = after_least_moves(14) else {
         panic!(rt; "no line")
     };
     let mut cells = Counted {

@@ -1,7 +1,9 @@
 //! Searches of boards with at most four empty squares, square by square.
-ghost use Rattle.std.specs.Prelude.{◌≡◌, ◌<◌, ℕ, List, [], ◌∷◌, IfSome};
+ghost use Rattle.std.specs.Prelude.{◌≡◌, ◌<◌, ◌↔◌, ℕ, neg_ℤ, List, [], ◌∷◌, IfSome, IsSome};
 ghost use Rattle.oth_rules.specs.Square.{word_of};
 ghost use Rattle.oth_rules.specs.Position.{is_empty};
+ghost use Rattle.oth_rules.specs.Move.{after};
+ghost use Rattle.oth_rules.specs.Laws.{IsLegal};
 ghost use Rattle.oth_rules.specs.Score.{score_of};
 ghost use Rattle.oth_rules.specs.declared.scoring.Scoring.{Scoring as ScoringBy};
 ghost use Rattle.oth_rules.specs.Value.{value};
@@ -13,7 +15,7 @@ use crate::searching::greater;
 use crate::squares::{flips_at, preferred, without};
 use oth_rules::{Board, Scoring, Square};
 
-/// Less than each score: there is no move.
+// Less than each score: there is no move.
 const NO_MOVE: i8 = -65;
 
 /// A bound of the value, where at most four squares are empty. Those in `odd` are tried first.
@@ -47,38 +49,43 @@ pub fn probe_last(board: Board, odd: u64, alpha: i8, scoring: Scoring) -> Option
     None
 }
 
-/// Where the mover has no move, the score of the board as it is bounds the value from above: the opponent may still have one.
+// Where the mover has no move, the score of the board as it is bounds the value from above: the opponent may still have
+// one.
 #[inline(always)]
 fn last_one(board: Board, alpha: i8, a: Square, scoring: Scoring) -> i8
     requires on_board { a < 64 }
     requires last { Leaves board (a ∷ []) }
     ensures { BoundsAt (value (score_of scoring) board) alpha result }
 {
-    let flips = flips_at(&board, a);
-    if flips != 0 {
-        return -full_score(&board.play_flipped(a, flips));
+    if let Some(score) = last_reply(&board, a) {
+        return score;
     }
     let rest = board.final_score(scoring);
     if rest <= alpha {
         return rest;
     }
-    let passed = board.pass();
-    let flips = flips_at(&passed, a);
-    if flips != 0 {
-        return full_score(&passed.play_flipped(a, flips));
+    if let Some(score) = last_reply(&board.pass(), a) {
+        return -score;
     }
     rest
 }
 
-/// The score of a full board, which is the same by each scoring.
-fn full_score(board: &Board) -> i8
-    requires { Leaves board.now [] }
-    ensures { (g : ScoringBy) → result ≡ score_of g board.now }
+// What a move to the only empty square comes to, which is the same by each scoring; none where it is illegal.
+#[inline(always)]
+fn last_reply(board: &Board, a: Square) -> Option<i8>
+    requires { Leaves board.now (a ∷ []) }
+    ensures score { IfSome result (λ r. (g : ScoringBy) → r ≡ neg_ℤ (score_of g (after board.now a))) }
+    ensures legal { IsSome result ↔ IsLegal board.now a }
 {
-    let half = board.own().count_ones() as i8 - 32;
-    half + half
+    let flips = board.last_flips(a);
+    if flips == 0 {
+        return None;
+    }
+    let half = board.own().count_ones() as i8 + flips as i8 - 31;
+    Some(half + half)
 }
 
+// The value of a board with these two empty squares, against `alpha`.
 fn last_two(board: Board, alpha: i8, a: Square, b: Square, scoring: Scoring) -> i8
     requires threshold { IsThreshold alpha }
     requires a_on_board { a < 64 }
@@ -98,6 +105,7 @@ fn last_two(board: Board, alpha: i8, a: Square, b: Square, scoring: Scoring) -> 
     board.final_score(scoring)
 }
 
+// The best of the mover's moves to them, if there is a legal one.
 #[inline(always)]
 fn moves_two(board: Board, alpha: i8, a: Square, b: Square, scoring: Scoring) -> i8
     requires threshold { IsThreshold alpha }
@@ -113,7 +121,7 @@ fn moves_two(board: Board, alpha: i8, a: Square, b: Square, scoring: Scoring) ->
     greater(best, reply_one(board, alpha, b, a, scoring))
 }
 
-/// A move to `square`, with one more empty square.
+// A move to `square`, with one more empty square.
 #[inline(always)]
 fn reply_one(board: Board, alpha: i8, square: Square, a: Square, scoring: Scoring) -> i8
     requires threshold { IsThreshold alpha }
@@ -129,6 +137,7 @@ fn reply_one(board: Board, alpha: i8, square: Square, a: Square, scoring: Scorin
     -last_one(board.play_flipped(square, flips), -alpha - 1, a, scoring)
 }
 
+// The same, of three squares.
 fn last_three(board: Board, alpha: i8, a: Square, b: Square, c: Square, scoring: Scoring) -> i8
     requires threshold { IsThreshold alpha }
     requires a_on_board { a < 64 }
@@ -149,7 +158,7 @@ fn last_three(board: Board, alpha: i8, a: Square, b: Square, c: Square, scoring:
     board.final_score(scoring)
 }
 
-/// The same, where a square alone in its quarter is tried first. Who moves there moves last there.
+// The same, where a square alone in its quarter is tried first. Who moves there moves last there.
 #[inline(always)]
 fn last_three_by_quarters(
     board: Board,
@@ -175,6 +184,7 @@ fn last_three_by_quarters(
     last_three(board, alpha, a, b, c, scoring)
 }
 
+// The best of the moves to three squares.
 #[inline(always)]
 fn moves_three(board: Board, alpha: i8, a: Square, b: Square, c: Square, scoring: Scoring) -> i8
     requires threshold { IsThreshold alpha }
@@ -195,7 +205,7 @@ fn moves_three(board: Board, alpha: i8, a: Square, b: Square, c: Square, scoring
     greater(best, reply_two(board, alpha, c, a, b, scoring))
 }
 
-/// A move to `square`, with two more empty squares.
+// A move to `square`, with two more empty squares.
 #[inline(always)]
 fn reply_two(board: Board, alpha: i8, square: Square, a: Square, b: Square, scoring: Scoring) -> i8
     requires threshold { IsThreshold alpha }
@@ -212,6 +222,7 @@ fn reply_two(board: Board, alpha: i8, square: Square, a: Square, b: Square, scor
     -last_two(board.play_flipped(square, flips), -alpha - 1, a, b, scoring)
 }
 
+// The same, of four squares.
 fn last_four(
     board: Board,
     alpha: i8,
@@ -241,6 +252,7 @@ fn last_four(
     board.final_score(scoring)
 }
 
+// The best of the moves to four squares.
 #[inline(always)]
 fn moves_four(
     board: Board,
@@ -274,7 +286,7 @@ fn moves_four(
     greater(best, reply_three(board, alpha, d, a, b, c, scoring))
 }
 
-/// A move to `square`, with three more empty squares.
+// A move to `square`, with three more empty squares.
 #[inline(always)]
 fn reply_three(
     board: Board,

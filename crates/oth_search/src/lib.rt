@@ -39,8 +39,12 @@ pub use memo::Memo;
 pub use ordering::order;
 pub use root::{guessed_score, settle_moves};
 pub use searching::search;
-pub use solving::{TooManyEmpties, before_pass, ended, solve_alone, solve_moves, solve_with};
+pub use solving::{
+    MOST_EMPTIES, TooManyEmpties, before_pass, ended, solve_alone, solve_moves, solve_with,
+};
 
+#[cfg(test)]
+mod combining_tests;
 #[cfg(test)]
 mod keeping_tests;
 #[cfg(test)]

@@ -1,3 +1,4 @@
+//! Bounds of the board after a move, brought to the board before it.
 ghost use Rattle.std.specs.Prelude.{◌≡◌, ◌<◌, neg_ℤ, pos, IfOk, IsOk, IfErr, ◌↔◌};
 ghost use Rattle.oth_rules.specs.Move.{after};
 ghost use Rattle.oth_rules.specs.Laws.{IsLegal};

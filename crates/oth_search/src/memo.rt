@@ -6,10 +6,10 @@ use crate::cells::Cells;
 use crate::entry::Entry;
 use oth_rules::{Board, Scoring};
 
-/// So many boards are remembered at most: a power of two.
+// So many boards are remembered at most: a power of two.
 const PLACES: usize = 4096;
 
-/// A hash of a board has 64 bits, and the highest 12 of them are its place.
+// A hash of a board has 64 bits, and the highest 12 of them are its place.
 const SHIFT: u32 = 52;
 
 /// What was found of boards lately, each at the place of its hash, where a later one takes the place of an earlier one.
@@ -45,7 +45,7 @@ impl Memo {
     }
 }
 
-/// The place of a board.
+// The place of a board.
 fn place(board: &Board) -> usize
     ensures { result < 4096 }
 {

@@ -1,3 +1,4 @@
+//! A board with its moves, each worked out once.
 ghost use Rattle.std.specs.Prelude.{◌≡◌};
 ghost use Rattle.oth_rules.specs.Square.{word_of};
 ghost use Rattle.oth_rules.specs.Move.{is_legal};

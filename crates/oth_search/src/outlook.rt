@@ -8,13 +8,13 @@ use oth_rules::Board;
 /// The children of boards with fewer empty squares are not looked at.
 pub const FEWEST_EMPTIES_LOOKED: u8 = 11;
 
-/// Those of boards with fewer empty squares are looked at as they stand, and others a ply ahead.
+// Those of boards with fewer empty squares are looked at as they stand, and others a ply ahead.
 const FEWEST_EMPTIES_AHEAD: u8 = 12;
 
-/// The points above the least so far up to which a child is looked at closely.
+// The points above the least so far up to which a child is looked at closely.
 const MARGIN: i16 = 30;
 
-/// The points of a disc when the game is over.
+// The points of a disc when the game is over.
 const DISC: i16 = 100;
 
 /// How well a board seems to stand for its mover, -6,400 to 6,400 points.
@@ -26,19 +26,20 @@ pub struct Outlook {
 }
 
 impl Outlook {
-    /// The worst one.
+    // The worst one.
     const WORST: Outlook = Outlook { points: -6400 };
 
     /// The best one.
     pub const BEST: Outlook = Outlook { points: 6400 };
 
-    /// The same board as the opponent sees it.
+    // The same board as the opponent sees it.
     fn turned(self) -> Outlook {
         Outlook {
             points: -self.points,
         }
     }
 
+    // The one with more points.
     fn better(self, other: Outlook) -> Outlook {
         if other.points > self.points {
             other
@@ -71,8 +72,8 @@ impl Outlook {
     }
 }
 
-/// What a child with these moves seems to be worth for its mover, for the order of the children of a board with so many empty
-/// squares: after one more ply, or for few as it stands. Less exact from `enough` on.
+/// What a child with these moves seems to be worth for its mover, for the order of the children of a board with so many
+/// empty squares: after one more ply, or for few as it stands. Less exact from `enough` on.
 pub fn outlook_of(child: &Board, moves: u64, empties: u8, enough: Outlook) -> Outlook {
     if empties < FEWEST_EMPTIES_AHEAD {
         return standing(child, moves);
@@ -88,7 +89,7 @@ pub fn outlook_of(child: &Board, moves: u64, empties: u8, enough: Outlook) -> Ou
     by_discs(child)
 }
 
-/// The best standing after a move.
+// The best standing after a move.
 fn look_past_moves(board: &Board, moves: u64, enough: Outlook) -> Outlook {
     let mut best = Outlook::WORST;
     let mut rest = moves;
@@ -105,14 +106,14 @@ fn look_past_moves(board: &Board, moves: u64, enough: Outlook) -> Outlook {
     best
 }
 
-/// By the discs, when the game is over.
+// By the discs, when the game is over.
 fn by_discs(board: &Board) -> Outlook {
     Outlook {
         points: DISC * (count(board.own()) as i16 - count(board.opp()) as i16),
     }
 }
 
-/// By the strength of the mover, who has these moves, and the opponent's.
+// By the strength of the mover, who has these moves, and the opponent's.
 fn standing(board: &Board, moves: u64) -> Outlook {
     let passed = board.pass();
     Outlook {
@@ -120,7 +121,7 @@ fn standing(board: &Board, moves: u64) -> Outlook {
     }
 }
 
-/// How strong the mover is: moves, corners among them, squares beside opposing discs, and corners that are taken.
+// How strong the mover is: moves, corners among them, squares beside opposing discs, and corners that are taken.
 fn strength(board: &Board, moves: u64) -> u16
     ensures { result ≤ 4800 }
 {

@@ -1,3 +1,4 @@
+//! Probes of boards with few empty squares: odd quarters first, no rank, no cells.
 ghost use Rattle.std.specs.Prelude.{◌≡◌, ℕ, ◌<◌, neg_ℤ, pos, true};
 ghost use Rattle.oth_rules.specs.Square.{word_of};
 ghost use Rattle.oth_rules.specs.Move.{is_legal, can_move};
@@ -10,7 +11,7 @@ use crate::quarter::quarter_of;
 use crate::squares::{odd_quadrants, preferred, without};
 use oth_rules::{Board, Scoring};
 
-/// Boards with no more empty squares have bodies of their own.
+// Boards with no more empty squares have bodies of their own.
 const FEW_EMPTIES: u8 = 4;
 
 /// Whether the value of the board is above `alpha`: a bound of the value on its side of `alpha`.
@@ -21,7 +22,7 @@ pub fn probe(board: Board, alpha: i8, scoring: Scoring) -> i8
     probe_with_odd(board, odd_quadrants(board.empty_squares()), alpha, scoring)
 }
 
-/// The same, where moves to the squares of `odd` are tried first: the quarters with an odd number of empty squares.
+// The same, where moves to the squares of `odd` are tried first: the quarters with an odd number of empty squares.
 #[cycle(probing)]
 fn probe_with_odd(board: Board, odd: u64, alpha: i8, scoring: Scoring) -> i8
     requires { IsThreshold alpha }
@@ -44,7 +45,7 @@ fn probe_with_odd(board: Board, odd: u64, alpha: i8, scoring: Scoring) -> i8
     board.final_score(scoring)
 }
 
-/// The same, where the mover has the given moves.
+// The same, where the mover has the given moves.
 #[cycle(probing)]
 fn probe_moves(board: Board, moves: u64, odd: u64, alpha: i8, scoring: Scoring) -> i8
     requires threshold { IsThreshold alpha }

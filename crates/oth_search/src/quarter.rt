@@ -2,10 +2,10 @@
 
 use oth_rules::Square;
 
-/// The first quarter, of the rows 1 to 4 and the columns a to d.
+// The first quarter, of the rows 1 to 4 and the columns a to d.
 const FIRST: u64 = 0x0000_0000_0f0f_0f0f;
 
-/// The bits of a square's number that tell its quarter: its half of the columns and of the rows.
+// The bits of a square's number that tell its quarter: its half of the columns and of the rows.
 const HALVES: u8 = 0x24;
 
 /// The squares of the square's quarter.

@@ -12,13 +12,13 @@ use crate::searching::{greater, lesser};
 use arrayvec::ArrayVec;
 use oth_rules::{Board, Scoring};
 
-/// From so many empty squares on a guess tells where to start.
+// From so many empty squares on a guess tells where to start.
 const FEWEST_EMPTIES_GUESSED: u8 = 14;
 
-/// So often a start that no move reaches is lowered.
+// So often a start that no move reaches is lowered.
 const ROUNDS: u8 = 6;
 
-/// The widest step of a search for a value.
+// The widest step of a search for a value.
 const WIDEST: i8 = 63;
 
 impl Default for Solved {
@@ -28,8 +28,8 @@ impl Default for Solved {
     }
 }
 
-/// The boards after the root's moves, each with bounds of its value. One with the best score is searched to its value, and each
-/// other so far that it is exact or worse. Where `known` tells as much of a board, it is not searched.
+/// The boards after the root's moves, each with bounds of its value. One with the best score is searched to its value,
+/// and each other so far that it is exact or worse. Where `known` tells as much of a board, it is not searched.
 pub fn settle_moves<C: Cells>(
     root: &Solved,
     known: &[Solved],
@@ -43,7 +43,7 @@ pub fn settle_moves<C: Cells>(
     replies
 }
 
-/// The boards after the root's moves, in their order, with what is known of each.
+// The boards after the root's moves, in their order, with what is known of each.
 fn replies_of(root: &Solved, known: &[Solved]) -> ArrayVec<Solved, 64> {
     let mut replies = ArrayVec::new();
     let squares = order(&root.board);
@@ -55,7 +55,8 @@ fn replies_of(root: &Solved, known: &[Solved]) -> ArrayVec<Solved, 64> {
     replies
 }
 
-/// The score that the root seems to have, by a search of few moves where many squares are empty. No answer depends on it.
+/// The score that the root seems to have, by a search of few moves where many squares are empty. No answer depends on
+/// it.
 pub fn guessed_score<C: Cells>(root: &Board, cells: &mut C, scoring: Scoring) -> i8
     ensures score { IsScore result }
     ensures fixed { C.fixed cells.new ≡ C.fixed cells.old }
@@ -67,7 +68,7 @@ pub fn guessed_score<C: Cells>(root: &Board, cells: &mut C, scoring: Scoring) ->
     -guess(replies.as_mut_slice(), cells)
 }
 
-/// Narrows what is known of the replies, one of which is known to have at most the value `limit`.
+// Narrows what is known of the replies, one of which is known to have at most the value `limit`.
 fn settle<C: Cells>(replies: &mut [Solved], limit: i8, empties: u8, cells: &mut C)
     requires few { length replies.old ≤ 64 }
     requires limit { IsScore limit }
@@ -87,7 +88,7 @@ fn settle<C: Cells>(replies: &mut [Solved], limit: i8, empties: u8, cells: &mut 
     }
 }
 
-/// The value that a reply is first asked for: what is known to be reached, or else a guess.
+// The value that a reply is first asked for: what is known to be reached, or else a guess.
 fn start<C: Cells>(replies: &mut [Solved], limit: i8, empties: u8, cells: &mut C) -> i8
     requires few { length replies.old ≤ 64 }
     requires limit { IsScore limit }
@@ -107,7 +108,7 @@ fn start<C: Cells>(replies: &mut [Solved], limit: i8, empties: u8, cells: &mut C
     guess(replies, cells)
 }
 
-/// The place of a reply with at most the least value that is found to be reached, from `start` up to `limit`.
+// The place of a reply with at most the least value that is found to be reached, from `start` up to `limit`.
 fn leader<C: Cells>(replies: &mut [Solved], start: i8, limit: i8, cells: &mut C) -> Option<usize>
     requires start { IsScore start }
     requires limit { IsScore limit }
@@ -127,7 +128,7 @@ fn leader<C: Cells>(replies: &mut [Solved], start: i8, limit: i8, cells: &mut C)
     reaching(replies, limit, cells)
 }
 
-/// A start so much above the least lower bound, and at most the limit.
+// A start so much above the least lower bound, and at most the limit.
 fn lowered(least: i8, step: i8, limit: i8) -> i8
     requires least { IsScore least }
     requires shortest { pos 1 ≤ℤ step }
@@ -139,7 +140,7 @@ fn lowered(least: i8, step: i8, limit: i8) -> i8
     if start < limit { start } else { limit }
 }
 
-/// The least lower bound of the replies.
+// The least lower bound of the replies.
 fn least_lower(replies: &[Solved]) -> i8
     ensures { IsScore result }
 {
@@ -150,7 +151,7 @@ fn least_lower(replies: &[Solved]) -> i8
     least
 }
 
-/// The place of a reply whose value is at most `most`: one that is known, or else the first that is found.
+// The place of a reply whose value is at most `most`: one that is known, or else the first that is found.
 fn reaching<C: Cells>(replies: &mut [Solved], most: i8, cells: &mut C) -> Option<usize>
     requires { IsScore most }
     ensures within { IfSome result (λ place. place < length replies.new) }
@@ -163,7 +164,7 @@ fn reaching<C: Cells>(replies: &mut [Solved], most: i8, cells: &mut C) -> Option
     }
     for place in 0..replies.len() {
         let known = replies[place];
-        let reply = known.asked(most, cells);
+        let reply = known.decided_at(most, cells);
         let upper = reply.interval.upper;
         replies[place] = reply;
         if upper <= most {
@@ -173,7 +174,7 @@ fn reaching<C: Cells>(replies: &mut [Solved], most: i8, cells: &mut C) -> Option
     None
 }
 
-/// The place of a reply whose value is below `most`. Where there is none, each is exact or above `most`.
+// The place of a reply whose value is below `most`. Where there is none, each is exact or above `most`.
 fn better<C: Cells>(replies: &mut [Solved], most: i8, cells: &mut C) -> Option<usize>
     requires { IsScore most }
     ensures within { IfSome result (λ place. place < length replies.new) }
@@ -192,8 +193,8 @@ fn better<C: Cells>(replies: &mut [Solved], most: i8, cells: &mut C) -> Option<u
 }
 
 impl Solved {
-    /// The board with bounds that tell whether its value is above `alpha`, by a search unless they are known.
-    fn asked<C: Cells>(&self, alpha: i8, cells: &mut C) -> Solved
+    // The board with bounds that tell whether its value is above `alpha`, by a search unless they are known.
+    fn decided_at<C: Cells>(&self, alpha: i8, cells: &mut C) -> Solved
         requires low { negsuc 64 ≤ℤ alpha }
         requires high { alpha ≤ℤ pos 64 }
         ensures board { result.board ≡ self.now.board }
@@ -210,7 +211,7 @@ impl Solved {
         self.joined(&found)
     }
 
-    /// The board with bounds that tell whether its value is above `most`, below it, or which number it is.
+    // The board with bounds that tell whether its value is above `most`, below it, or which number it is.
     fn against<C: Cells>(&self, most: i8, cells: &mut C) -> Solved
         requires { IsScore most }
         ensures board { result.board ≡ self.now.board }
@@ -218,14 +219,14 @@ impl Solved {
         ensures decides { Decides result.interval.lower result.interval.upper (most -ℤ pos 1) (most +ℤ pos 1) }
         ensures fixed { C.fixed cells.new ≡ C.fixed cells.old }
     {
-        let reply = self.asked(most, cells);
+        let reply = self.decided_at(most, cells);
         if reply.interval.lower > most {
             return reply;
         }
-        reply.asked(most - 1, cells)
+        reply.decided_at(most - 1, cells)
     }
 
-    /// The board with its value, by questions ever further below what it is known to reach.
+    // The board with its value, by questions ever further below what it is known to reach.
     fn exact<C: Cells>(&self, cells: &mut C) -> Solved
         ensures board { result.board ≡ self.now.board }
         ensures scoring { result.scoring ≡ self.now.scoring }
@@ -236,7 +237,7 @@ impl Solved {
         let mut step = 1;
         while reply.interval.lower < reply.interval.upper {
             let alpha = greater(reply.interval.lower, reply.interval.upper - step);
-            reply = reply.asked(alpha, cells);
+            reply = reply.decided_at(alpha, cells);
             step = if reply.interval.upper <= alpha {
                 wider(step)
             } else {
@@ -247,7 +248,7 @@ impl Solved {
     }
 }
 
-/// The next step after one that was reached.
+// The next step after one that was reached.
 fn wider(step: i8) -> i8
     requires low { pos 1 ≤ℤ step }
     requires high { step ≤ℤ pos 63 }

@@ -1,3 +1,4 @@
+//! Searches over all scores, over a window, and of one threshold.
 ghost use Rattle.std.specs.Prelude.{◌≡◌, ℕ, ℤ, ◌<◌, neg_ℤ, pos, true, ◌⊎◌, ◌≤ℤ◌, ◌<ℤ◌, ◌+ℤ◌};
 ghost use Rattle.oth_rules.specs.Position.{pass};
 ghost use Rattle.oth_rules.specs.Move.{can_move};
@@ -14,9 +15,9 @@ use crate::entry::Entry;
 use crate::window::search_window;
 use oth_rules::{Board, Scoring};
 
-/// Bounds of the value of the board that decide the window `alpha..beta`, `-65 <= alpha < beta <= 65`: they are one number, or
-/// the lower is at least `beta`, or the upper at most `alpha`. Unless the board is over it is first looked up in its canonical
-/// form, and what was found is put unless the entry decided.
+/// Bounds of the value of the board that decide the window `alpha..beta`, `-65 <= alpha < beta <= 65`: they are one
+/// number, or the lower is at least `beta`, or the upper at most `alpha`. Unless the board is over it is first looked
+/// up in its canonical form, and what was found is put unless the entry decided.
 pub fn search<C: Cells>(
     board: &Board,
     alpha: i8,
@@ -92,7 +93,7 @@ impl Solved {
     }
 }
 
-/// Narrows what is known of the canonical image until it decides the window, by a search of the board.
+// Narrows what is known of the canonical image until it decides the window, by a search of the board.
 fn narrow<C: Cells>(board: Board, known: Solved, alpha: i8, beta: i8, cells: &mut C) -> Solved
     requires window { IsWindow alpha beta }
     requires open { IsOpen known.interval.lower known.interval.upper alpha beta }

@@ -31,7 +31,7 @@ pub struct TooManyEmpties {
 /// The most empty squares of a board that is solved.
 pub const MOST_EMPTIES: u8 = 30;
 
-/// From so many empty squares on a memory for boards of few empty squares pays.
+// From so many empty squares on a memory for boards of few empty squares pays.
 const FEWEST_EMPTIES_REMEMBERED: u8 = 10;
 
 /// The score and all best moves of a board of at most 30 empty squares, by the caller's thread alone.
@@ -48,7 +48,7 @@ pub fn solve_alone(board: &Board, scoring: Scoring) -> Result<Answer, TooManyEmp
     Ok(solve_without_table(*board, scoring))
 }
 
-/// The answer of a board, by a search without a table.
+// The answer of a board, by a search without a table.
 fn solve_without_table(board: Board, scoring: Scoring) -> Answer
     ensures board { result.board ≡ board }
     ensures scoring { result.scoring ≡ scoring }
@@ -60,7 +60,7 @@ fn solve_without_table(board: Board, scoring: Scoring) -> Answer
     }
 }
 
-/// The same, with a memory for boards of few empty squares, which takes time to make.
+// The same, with a memory for boards of few empty squares, which takes time to make.
 fn solve_remembering(board: Board, scoring: Scoring) -> Answer
     ensures board { result.board ≡ board }
     ensures scoring { result.scoring ≡ scoring }
@@ -116,8 +116,8 @@ pub fn before_pass(board: Board, passed: Answer) -> Answer
     }
 }
 
-/// The answer of a root whose mover has a move. `known` may tell of the boards after the root's moves: such a board is searched
-/// only where that leaves open whether its move is exact or worse than the score.
+/// The answer of a root whose mover has a move. `known` may tell of the boards after the root's moves: such a board is
+/// searched only where that leaves open whether its move is exact or worse than the score.
 pub fn solve_moves<C: Cells>(root: Solved, known: &[Solved], cells: &mut C) -> Answer
     requires { can_move root.board ≡ true }
     ensures board { result.board ≡ root.board }
@@ -129,7 +129,7 @@ pub fn solve_moves<C: Cells>(root: Solved, known: &[Solved], cells: &mut C) -> A
     best_moves(closer, replies.as_slice(), cells)
 }
 
-/// The root with the greatest lower bound that a reply gives it.
+// The root with the greatest lower bound that a reply gives it.
 fn raised(root: Solved, replies: &[Solved]) -> Solved
     ensures board { result.board ≡ root.board }
     ensures scoring { result.scoring ≡ root.scoring }
@@ -147,8 +147,8 @@ fn raised(root: Solved, replies: &[Solved]) -> Solved
     closer
 }
 
-/// The score of a root and the moves that reach it. The score starts at the root's lower bound, and only moves that reach it
-/// and of which too little is known are searched to the end.
+// The score of a root and the moves that reach it. The score starts at the root's lower bound, and only moves that
+// reach it and of which too little is known are searched to the end.
 fn best_moves<C: Cells>(root: Solved, replies: &[Solved], cells: &mut C) -> Answer
     requires { can_move root.board ≡ true }
     ensures board { result.board ≡ root.board }
@@ -180,7 +180,7 @@ fn best_moves<C: Cells>(root: Solved, replies: &[Solved], cells: &mut C) -> Answ
     }
 }
 
-/// The value of a board, or a lower bound of it above the limit: by what is known, or else by a search.
+// The value of a board, or a lower bound of it above the limit: by what is known, or else by a search.
 fn reply_below<C: Cells>(
     board: &Board,
     limit: i8,
@@ -218,7 +218,8 @@ impl Solved {
     }
 }
 
-/// The value of a board, or a lower bound of it above the limit: at most two probes, and a search only where it is below.
+// The value of a board, or a lower bound of it above the limit: at most two probes, and a search only where it is
+// below.
 fn at_most<C: Cells>(board: &Board, limit: i8, cells: &mut C, scoring: Scoring) -> Interval
     requires { IsScore limit }
     ensures encloses { Encloses result.lower result.upper (value (score_of scoring) board.now) }
@@ -242,7 +243,7 @@ fn at_most<C: Cells>(board: &Board, limit: i8, cells: &mut C, scoring: Scoring) 
     exact_below(board, below.upper, cells, scoring)
 }
 
-/// The value of a board that is at most `most`.
+// The value of a board that is at most `most`.
 fn exact_below<C: Cells>(board: &Board, most: i8, cells: &mut C, scoring: Scoring) -> Interval
     requires score { IsScore most }
     requires most { value (score_of scoring) board.now ≤ℤ most }

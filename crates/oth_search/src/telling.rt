@@ -55,7 +55,7 @@ impl Solved {
     }
 }
 
-/// The same bounds as the opponent sees them.
+// The same bounds as the opponent sees them.
 fn turned(interval: Interval) -> Interval
     ensures lower { result.lower ≡ neg_ℤ interval.upper }
     ensures upper { result.upper ≡ neg_ℤ interval.lower }

@@ -5,7 +5,8 @@ use crate::{
     Cells, Entry, Kind, Memo, NoCells, Solved, TooManyEmpties, known_below, search, solve_alone,
     solve_with,
 };
-use oth_rules::{Board, Scoring, Square};
+use oth_rules::samples::after_least_moves;
+use oth_rules::{Board, Scoring};
 use std::test::Fail;
 
 /// The board with row 1 `--OXOOO-` and all else `O`, seen by `X`.
@@ -94,25 +95,9 @@ fn refuses_31_empties(rt: HostRuntime) -> Result<(), Fail> {
     Ok(())
 }
 
-/// From the start the least-numbered legal move is played, with passes where forced, until so few squares are empty.
-fn least_line(empties: u8) -> Option<Board> {
-    let mut board = Board::of(1 << 28 | 1 << 35, 1 << 27 | 1 << 36).ok()?;
-    for _ in 0..100 {
-        if board.empties() <= empties || board.is_over() {
-            break;
-        }
-        if board.moves() == 0 {
-            board = board.pass();
-        }
-        let square = Square::of(board.moves().trailing_zeros() as u8)?;
-        board = board.play(square)?;
-    }
-    Some(board)
-}
-
 #[test]
 fn agrees_with_the_whole_tree(rt: HostRuntime) -> Result<(), Fail> {
-    let Some(board) = least_line(10) else {
+    let Some(board) = after_least_moves(10) else {
         panic!(rt; "no line")
     };
     for scoring in [Scoring::Winner, Scoring::Discs] {
@@ -126,7 +111,7 @@ fn agrees_with_the_whole_tree(rt: HostRuntime) -> Result<(), Fail> {
 
 #[test]
 fn ends_at_16_empties(rt: HostRuntime) -> Result<(), Fail> {
-    let Some(board) = least_line(16) else {
+    let Some(board) = after_least_moves(16) else {
         panic!(rt; "no line")
     };
     assert!(rt; board.empties() == 16);
@@ -251,7 +236,7 @@ impl Cells for Remembering {
 
 #[test]
 fn agrees_with_the_whole_tree_while_it_remembers(rt: HostRuntime) -> Result<(), Fail> {
-    let Some(board) = least_line(10) else {
+    let Some(board) = after_least_moves(10) else {
         panic!(rt; "no line")
     };
     let mut cells = Remembering {

@@ -35,6 +35,7 @@ pub fn search_window<C: Cells>(
     board.final_score(scoring)
 }
 
+// The same, where the mover has a move.
 #[cycle(window)]
 fn search_moves<C: Cells>(board: Board, alpha: i8, beta: i8, cells: &mut C, scoring: Scoring) -> i8
     requires window { IsInner alpha beta }
@@ -63,7 +64,7 @@ fn search_moves<C: Cells>(board: Board, alpha: i8, beta: i8, cells: &mut C, scor
     best
 }
 
-/// What a move to this board gives: a later move is opened only where a probe lies inside the window.
+// What a move to this board gives: a later move is opened only where a probe lies inside the window.
 #[cycle(window)]
 fn search_reply<C: Cells>(
     child: Board,

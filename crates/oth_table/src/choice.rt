@@ -1,16 +1,17 @@
 //! The two cells of a board, and which of them takes a store.
 ghost use Rattle.std.specs.Prelude.{◌≡◌, ◌<◌};
 ghost use Rattle.oth_rules.specs.Symmetry.{IsCanonical};
-ghost use Rattle.oth_table.specs.Choices.{IsLawful, place_of, second_of, is_whole_of, entry_in, is_better, picks_second, picked_of};
+ghost use Rattle.oth_table.specs.Choices.{IsLawful, place_of, second_of, is_whole_of, entry_in, is_better};
+ghost use Rattle.oth_table.specs.Choices.{picks_second, picked_of};
 
 use crate::table::Look;
 use oth_rules::Board;
 use oth_search::Entry;
 
-/// The factor of the mover's discs in a board's hash.
+// The factor of the mover's discs in a board's hash.
 const OWN_FACTOR: u64 = 0x9e37_79b9_7f4a_7c15;
 
-/// The factor of the opposing discs.
+// The factor of the opposing discs.
 const OPPOSING_FACTOR: u64 = 0xc2b2_ae3d_27d4_eb4f;
 
 /// The first cell of a canonical board in a table of `cells` cells, below `cells`. `cells` is 1, 2, 4 .. 262,144.

@@ -1,4 +1,5 @@
-//! What the proofs say of a table: its history, and what each seat knows. No value of these types is made.
+//! What the proofs say of a table: its history, and what each seat knows. Of these types only `Terms` and `Limits` have
+//! values.
 use oth_rules::Scoring;
 use oth_search::Entry;
 use std::collections::LinkedList;

@@ -16,7 +16,8 @@ pub fn alone()
     ensures stores { StoresAlone }
 {}
 
-/// No cell was published more often than the table's wear says: what [`crate::SharedTable::published`] tells is at most the wear.
+/// No cell was published more often than the table's wear says: what [`crate::SharedTable::published`] tells is at most
+/// the wear.
 pub fn published_within_the_wear()
     ensures { (terms : AnyTerms) (c : ℕ) (h : List AnyEvent) → IsLegal terms h → publishes c h ≤ terms.wear }
 {}

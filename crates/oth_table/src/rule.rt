@@ -15,36 +15,36 @@ impl TableRule<Entry, View, Limits> for OneHistory {
 }
 
 /// The first load of a look.
-pub(crate) struct Glance;
+pub(crate) struct LoadVersionToLook;
 
-impl Play<Entry, View> for Glance {
+impl Play<Entry, View> for LoadVersionToLook {
     ghost use Rattle.oth_table.specs.Steps.{glance};
 
     ghost then = { glance };
 }
 
 /// The load of an entry's word.
-pub(crate) struct Read;
+pub(crate) struct LoadWord;
 
-impl Play<Entry, View> for Read {
+impl Play<Entry, View> for LoadWord {
     ghost use Rattle.oth_table.specs.Steps.{read_word};
 
     ghost then = { read_word };
 }
 
 /// The second load of the version.
-pub(crate) struct Check;
+pub(crate) struct ReloadVersion;
 
-impl Play<Entry, View> for Check {
+impl Play<Entry, View> for ReloadVersion {
     ghost use Rattle.oth_table.specs.Steps.{check};
 
     ghost then = { check };
 }
 
 /// The first load of a put.
-pub(crate) struct Aim;
+pub(crate) struct LoadVersionToPut;
 
-impl Play<Entry, View> for Aim {
+impl Play<Entry, View> for LoadVersionToPut {
     ghost use Rattle.oth_table.specs.Steps.{aim};
 
     ghost then = { aim };
@@ -60,18 +60,18 @@ impl Play<Entry, View> for Claim {
 }
 
 /// The load of an entry's word under the claim.
-pub(crate) struct ReadClaimed;
+pub(crate) struct LoadWordUnderClaim;
 
-impl Play<Entry, View> for ReadClaimed {
+impl Play<Entry, View> for LoadWordUnderClaim {
     ghost use Rattle.oth_table.specs.Steps.{read_under};
 
     ghost then = { read_under };
 }
 
 /// The store of an entry's word under the claim.
-pub(crate) struct Store;
+pub(crate) struct StoreWordUnderClaim;
 
-impl Play<Entry, View> for Store {
+impl Play<Entry, View> for StoreWordUnderClaim {
     ghost use Rattle.oth_table.specs.Steps.{store_word};
 
     ghost then = { store_word };
@@ -87,45 +87,45 @@ impl Play<Entry, View> for Publish {
 }
 
 /// The load before a seat is made.
-pub(crate) struct Make;
+pub(crate) struct LoadVersionToMake;
 
-impl Play<Entry, View> for Make {
+impl Play<Entry, View> for LoadVersionToMake {
     ghost use Rattle.oth_table.specs.Steps.{make};
 
     ghost then = { make };
 }
 
 /// A load that sees all events so far.
-pub(crate) struct CatchUp;
+pub(crate) struct SeeAll;
 
-impl Play<Entry, View> for CatchUp {
+impl Play<Entry, View> for SeeAll {
     ghost use Rattle.oth_table.specs.Steps.{catch_up};
 
     ghost then = { catch_up };
 }
 
 /// A load that sees just what the seat was told of.
-pub(crate) struct Follow;
+pub(crate) struct SeeTold;
 
-impl Play<Entry, View> for Follow {
+impl Play<Entry, View> for SeeTold {
     ghost use Rattle.oth_table.specs.Steps.{follow};
 
     ghost then = { follow };
 }
 
 /// A load that sees how often a cell was published.
-pub(crate) struct Count;
+pub(crate) struct CountPublishes;
 
-impl Play<Entry, View> for Count {
+impl Play<Entry, View> for CountPublishes {
     ghost use Rattle.oth_table.specs.Steps.{count};
 
     ghost then = { count };
 }
 
 /// Gives the seat that is about to be made its own view.
-pub(crate) struct Cut;
+pub(crate) struct SplitSeat;
 
-impl Split<View> for Cut {
+impl Split<View> for SplitSeat {
     ghost use Rattle.oth_table.specs.Cells.{resting, new_seat};
 
     ghost left = { resting };
@@ -134,9 +134,9 @@ impl Split<View> for Cut {
 }
 
 /// Writes down what a seat has seen.
-pub(crate) struct Tell;
+pub(crate) struct SendSeen;
 
-impl Split<View> for Tell {
+impl Split<View> for SendSeen {
     ghost use Rattle.oth_table.specs.Cells.{note_of};
 
     ghost left = { λ v. v };
@@ -145,9 +145,9 @@ impl Split<View> for Tell {
 }
 
 /// Reads what another seat has seen.
-pub(crate) struct Hear;
+pub(crate) struct TakeSeen;
 
-impl Join<View> for Hear {
+impl Join<View> for TakeSeen {
     ghost use Rattle.std.specs.Prelude.{[]};
     ghost use Rattle.oth_table.specs.Cells.{hearing, note_of};
 

@@ -1,8 +1,11 @@
 //! The table, which threads share, and the seats through which they use it.
-ghost use Rattle.std.specs.Prelude.{◌≡◌, ℕ, MatchBool, Option, ◌+◌, ◌*◌, ◌/◌, ◌%◌, ◌^◌, ◌<◌, ◌≤◌, List, [], Some, IfOk, IfErr, IsTrue, ◌↔◌, ◌-◌};
+ghost use Rattle.std.specs.Prelude.{◌≡◌, ℕ, MatchBool, Option, ◌+◌, ◌*◌, ◌/◌, ◌%◌, ◌^◌, ◌<◌, ◌≤◌, List, [], Some, IfOk};
+ghost use Rattle.std.specs.Prelude.{IfErr, IsTrue, ◌↔◌, ◌-◌};
 ghost use Rattle.oth_search.specs.Entries.{Bounded, joined, words_of};
 ghost use Rattle.oth_table.specs.History.{Ends, IsLegal, Since, publishes};
-ghost use Rattle.oth_table.specs.Steps.{glanced, read, checked, aimed, claimed, found_under, stored, published, IsSameSeat, IsReading, IsClaimed, Stays, Did, WentAway, Claims, WillKeep, MayReadClaimed, MayStore, MayPublish};
+ghost use Rattle.oth_table.specs.Steps.{glanced, read, checked, aimed, claimed, found_under, stored, published};
+ghost use Rattle.oth_table.specs.Steps.{IsSameSeat, IsReading, IsClaimed, Stays, Did, WentAway, Claims, WillKeep};
+ghost use Rattle.oth_table.specs.Steps.{MayReadClaimed, MayStore, MayPublish};
 ghost use Rattle.oth_table.specs.Choices.{IsLawful};
 ghost use Rattle.oth_table.specs.Calls.{IsWear, Refuses, Opens, IsSeatOf, IsSame, IsFoundBy, Looks, Puts, Makes, Meet};
 ghost use Rattle.oth_table.specs.declared.history.Stage.TheVariants.{Idle, Reading};
@@ -12,8 +15,9 @@ ghost use Rattle.oth_table.specs.declared.history.Why.TheVariants as why;
 
 use crate::history::{Limits, Terms, View};
 use crate::rule::{
-    Aim, CatchUp, Check, Claim, Count, Cut, Follow, Glance, Hear, Make, OneHistory, Publish, Read,
-    ReadClaimed, Store, Tell,
+    Claim, CountPublishes, LoadVersionToLook, LoadVersionToMake, LoadVersionToPut, LoadWord,
+    LoadWordUnderClaim, OneHistory, Publish, ReloadVersion, SeeAll, SeeTold, SendSeen, SplitSeat,
+    StoreWordUnderClaim, TakeSeen,
 };
 use atomic_table::{Seat, Table};
 use oth_rules::Scoring;
@@ -80,7 +84,7 @@ impl Model for TableSeat {
 }
 
 /// What a look found in a cell.
-#[derive(Clone, Copy)]
+#[derive(Clone, Copy, Debug)]
 pub enum Look {
     /// Nothing was ever stored there.
     Empty,
@@ -168,14 +172,18 @@ impl SharedTable {
         if wear == 0 || wear > MOST_WEAR {
             return Err(TableError::Wear);
         }
-        match SharedTable::laid(alloc, cells, Terms { wear, scoring }) {
+        match SharedTable::with_terms(alloc, cells, Terms { wear, scoring }) {
             Ok(made) => Ok(made),
             Err(_) => Err(TableError::Memory),
         }
     }
 
     // The table in memory, all words zero, and its first seat.
-    fn laid(alloc: Global, cells: u32, terms: Terms) -> Result<(SharedTable, TableSeat), AllocError>
+    fn with_terms(
+        alloc: Global,
+        cells: u32,
+        terms: Terms,
+    ) -> Result<(SharedTable, TableSeat), AllocError>
         requires some { 0 < cells }
         requires cells { IsLawful cells }
         requires wear { IsWear terms.wear }
@@ -244,8 +252,8 @@ impl SharedTable {
             }) }
     {
         let seat = &mut seat.seat;
-        self.table.shared.load::<Make>(seat, 0);
-        self.table.shared.split_seat::<Cut>(seat)
+        self.table.shared.load::<LoadVersionToMake>(seat, 0);
+        self.table.shared.split_seat::<SplitSeat>(seat)
     }
 
     /// Afterwards both seats have seen the same legal history, which begins with what each had seen and adds no
@@ -260,10 +268,10 @@ impl SharedTable {
         let first = &mut first.seat;
         let second = &mut second.seat;
         let shared = &self.table.shared;
-        shared.join_seat::<Hear>(first, shared.split_seat::<Tell>(second));
-        shared.load::<CatchUp>(first, 0);
-        shared.join_seat::<Hear>(second, shared.split_seat::<Tell>(first));
-        shared.load::<Follow>(second, 0);
+        shared.join_seat::<TakeSeen>(first, shared.split_seat::<SendSeen>(second));
+        shared.load::<SeeAll>(first, 0);
+        shared.join_seat::<TakeSeen>(second, shared.split_seat::<SendSeen>(first));
+        shared.load::<SeeTold>(second, 0);
     }
 
     /// How often the cell was published, in the legal history that the seat has then seen. `cell` is below
@@ -277,7 +285,7 @@ impl SharedTable {
     {
         self.table
             .shared
-            .load::<Count>(&mut seat.seat, word_at(cell, 0))
+            .load::<CountPublishes>(&mut seat.seat, word_at(cell, 0))
             / 2
     }
 
@@ -327,7 +335,9 @@ impl SharedTable {
         ensures table { seat.new.table_id ≡ seat.old.table_id }
         ensures told { glanced cell seat.old.me.0 result seat.new.me.0 }
     {
-        self.table.shared.load::<Glance>(seat, word_at(cell, 0))
+        self.table
+            .shared
+            .load::<LoadVersionToLook>(seat, word_at(cell, 0))
     }
 
     // The load of the entry's word `i`.
@@ -339,7 +349,9 @@ impl SharedTable {
         ensures table { seat.new.table_id ≡ seat.old.table_id }
         ensures told { read i seat.old.me.0 seat.old.me.0.stage result seat.new.me.0 }
     {
-        self.table.shared.load::<Read>(seat, word_at(cell, 1 + i))
+        self.table
+            .shared
+            .load::<LoadWord>(seat, word_at(cell, 1 + i))
     }
 
     // The second load of the version.
@@ -350,7 +362,9 @@ impl SharedTable {
         ensures table { seat.new.table_id ≡ seat.old.table_id }
         ensures told { checked seat.old.me.0 seat.old.me.0.stage result seat.new.me.0 }
     {
-        self.table.shared.load::<Check>(seat, word_at(cell, 0))
+        self.table
+            .shared
+            .load::<ReloadVersion>(seat, word_at(cell, 0))
     }
 
     /// Stores an entry in a cell. If the cell holds the same board, the greater lower and the lesser upper bound
@@ -400,7 +414,9 @@ impl SharedTable {
         ensures table { seat.new.table_id ≡ seat.old.table_id }
         ensures told { aimed cell seat.old.me.0 result seat.new.me.0 }
     {
-        self.table.shared.load::<Aim>(seat, word_at(cell, 0))
+        self.table
+            .shared
+            .load::<LoadVersionToPut>(seat, word_at(cell, 0))
     }
 
     // One attempt to claim the cell at this version: whether the seat has the claim now.
@@ -469,7 +485,7 @@ impl SharedTable {
     {
         self.table
             .shared
-            .load::<ReadClaimed>(seat, word_at(cell, 1 + i))
+            .load::<LoadWordUnderClaim>(seat, word_at(cell, 1 + i))
     }
 
     // The store of the entry's word `i` under the claim.
@@ -483,7 +499,7 @@ impl SharedTable {
     {
         self.table
             .shared
-            .store::<Store>(seat, word_at(cell, 1 + i), bits);
+            .store::<StoreWordUnderClaim>(seat, word_at(cell, 1 + i), bits);
     }
 
     // The store of the next version, which ends the claim.

@@ -1,35 +1,18 @@
 -- The lines of a board, from its words.
-use Rattle.std.proofs.Common.{◌≡◌, ℕ, ℤ, List, [], ◌∷◌, ◌++◌, true, false, refl, sym, ap, ◌∙◌, append_assoc, to_z, of_z, w8}
+use Rattle.std.proofs.Common.{◌≡◌, ℕ, ℤ, List, [], ◌∷◌, ◌++◌, ap, ◌∙◌, append_assoc, to_z, of_z, w8}
 use Rattle.oth_rules.specs.Square.{word_of}
-use Rattle.oth_rules.specs.Position.{Position, pass}
-use Rattle.oth_rules.specs.Move.{can_move, is_legal, legal_squares}
+use Rattle.oth_rules.specs.Position.{Position}
+use Rattle.oth_rules.specs.Move.{is_legal, legal_squares}
 use Rattle.oth_rules.specs.Laws.{IsScore}
 use Rattle.oth_rules.specs.Score.{score_of}
 use Rattle.oth_rules.specs.Value.{value, is_best}
 use Rattle.oth_rules.specs.declared.scoring.Scoring.{Scoring}
-use Rattle.oth_rules.proofs.Scores.{cannot_move, does_move, kept}
+use Rattle.oth_rules.proofs.Scores.{kept}
 use Rattle.oth_rules.proofs.SearchLaws.{IsScore-value}
 use Rattle.oth_search.specs.Answers.{kind_of}
 use Rattle.oth_search.specs.declared.kind.Kind.{Kind}
-use Rattle.oth_search.specs.declared.kind.Kind.TheVariants.{Move, Pass, End}
 use Rattle.oth_text.specs.Report.{best_squares, moves_line_of, moves_or_word, report_line_of, score_text, squares_of}
 use Rattle.oth_text.proofs.SquareLemmas.{squares_of-word_of}
-
-pub kind-move : (b : Position) (w : ℕ) → w ≡ word_of (is_legal b) → (w ≡ 0 → ⊥) → Move ≡ kind_of b
-unfolding kind_of
-kind-move b w is some = rw (does_move b w is some) refl
-
-pub kind-pass : (b p : Position) (w v : ℕ) → w ≡ word_of (is_legal b) → w ≡ 0 → p ≡ pass b → v ≡ word_of (is_legal p) → (v ≡ 0 → ⊥) → Pass ≡ kind_of b
-unfolding kind_of
-kind-pass b p w v is none passed is_other some =
-    let other : can_move (pass b) ≡ true = ap can_move (sym passed) ∙ does_move p v is_other some in
-    rw (cannot_move b w is none, other) refl
-
-pub kind-end : (b p : Position) (w v : ℕ) → w ≡ word_of (is_legal b) → w ≡ 0 → p ≡ pass b → v ≡ word_of (is_legal p) → v ≡ 0 → End ≡ kind_of b
-unfolding kind_of
-kind-end b p w v is none passed is_other no_other =
-    let other : can_move (pass b) ≡ false = ap can_move (sym passed) ∙ cannot_move p v is_other no_other in
-    rw (cannot_move b w is none, other) refl
 
 pub moves_line_is : (b : Position) (before line : List ℕ) (k : Kind) (w : ℕ) → before ≡ [] → k ≡ kind_of b → w ≡ word_of (is_legal b) → line ≡ before ++ moves_or_word k (squares_of w) → line ≡ moves_line_of b
 unfolding moves_line_of legal_squares

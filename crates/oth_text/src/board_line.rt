@@ -3,19 +3,18 @@
 ghost use Rattle.std.specs.Prelude.{◌≡◌, ◌<◌, ◌↔◌, ℕ, List, IfOk, IfErr, Ok, Err, bit_and, length};
 ghost use Rattle.oth_text.specs.declared.position.Position.{Position as PositionShown};
 ghost use Rattle.oth_text.specs.declared.fault.LineFault.{LineFault as Fault};
-ghost use Rattle.oth_text.specs.BoardLine.{IsBoardLine, IsFirstFault, IsSolvableFault, IsSolvableLine, board_line, if_solvable, reading, side_byte, solvable_reading};
+ghost use Rattle.oth_text.specs.BoardLine.{IsBoardLine, IsFirstFault, IsSolvableFault, IsSolvableLine, board_line};
+ghost use Rattle.oth_text.specs.BoardLine.{if_solvable, reading, side_byte, solvable_reading};
 ghost use Rattle.oth_text.specs.OneLine.{IsOneLine};
 ghost use Rattle.oth_text.specs.Discs.{IsCellFault, ShowsDiscs, disc_byte};
 
 use crate::fault::LineFault;
 use crate::position::{Position, Side};
 use arrayvec::ArrayVec;
+use oth_search::MOST_EMPTIES;
 
 /// The number of bytes of a board line.
 pub const BOARD_LINE_LEN: usize = 66;
-
-/// The most empty squares of a board that is solved.
-const MOST_EMPTIES: u8 = 30;
 
 /// The position of a board line. Another text is refused with its first fault: its length, else its leftmost bad cell,
 /// else byte 65, else the mover. The number of empty squares isn't limited.
@@ -49,6 +48,7 @@ fn if_solvable(read: Result<Position, LineFault>) -> Result<Position, LineFault>
     Ok(position)
 }
 
+// The position of a board line, whatever its number of empty squares.
 fn parsed(text: &[u8]) -> Result<Position, LineFault>
     ensures line { IfOk result (λ p. IsBoardLine text.now p) }
     ensures fault { IfErr result (λ f. IsFirstFault text.now f) }
@@ -107,6 +107,7 @@ pub fn write_board(position: &Position) -> ArrayVec<u8, BOARD_LINE_LEN>
     line
 }
 
+// The byte of the side to move.
 fn side_byte(side: Side) -> u8
     ensures { result ≡ side_byte side }
 {
@@ -116,6 +117,7 @@ fn side_byte(side: Side) -> u8
     }
 }
 
+// The byte of a cell.
 fn disc_byte(black: u64, white: u64, n: u8) -> u8
     requires { n < 64 }
     ensures { result ≡ disc_byte black white n }

@@ -34,8 +34,10 @@ impl<'a> BrokenSource<'a> {
     /// The same source, which gives at most `step` bytes at a time.
     pub fn in_steps(self, step: usize) -> Self
         requires { 0 < step }
-        ensures remaining { ⟦<BrokenSource<'a> as Source>⟧.remaining result ≡ ⟦<BrokenSource<'a> as Source>⟧.remaining self.entry }
-        ensures failed { ⟦<BrokenSource<'a> as Source>⟧.failed result ≡ ⟦<BrokenSource<'a> as Source>⟧.failed self.entry }
+        ensures remaining { ⟦<BrokenSource<'a> as Source>⟧.remaining result
+            ≡ ⟦<BrokenSource<'a> as Source>⟧.remaining self.entry }
+        ensures failed { ⟦<BrokenSource<'a> as Source>⟧.failed result
+            ≡ ⟦<BrokenSource<'a> as Source>⟧.failed self.entry }
     {
         BrokenSource {
             rest: self.rest,

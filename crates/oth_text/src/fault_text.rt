@@ -40,6 +40,7 @@ pub fn transcript_fault_line(fault: &TranscriptFault) -> ArrayVec<u8, FAULT_LINE
     }
 }
 
+// A fault line that names no place.
 fn plain_line(text: &[u8]) -> ArrayVec<u8, FAULT_LINE_LEN>
     requires short { length text.now ≤ 24 }
     requires one_line { IsOneLine text.now }
@@ -51,6 +52,7 @@ fn plain_line(text: &[u8]) -> ArrayVec<u8, FAULT_LINE_LEN>
     line
 }
 
+// A fault line that ends with a number.
 fn numbered_line(text: &[u8], number: u8) -> ArrayVec<u8, FAULT_LINE_LEN>
     requires short { length text.now ≤ 11 }
     requires one_line { IsOneLine text.now }

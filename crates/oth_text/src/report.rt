@@ -3,9 +3,9 @@
 ghost use Rattle.std.specs.Prelude.{◌≡◌, ◌+◌, ◌≤◌, if◌then◌else◌, ◌++◌, [], ◌∷◌, ◌<◌, length, ℕ, IsTrue};
 ghost use Rattle.arrayvec.specs.ArrayVec.{array_vec_len};
 ghost use Rattle.oth_rules.specs.Square.{has};
-ghost use Rattle.oth_search.specs.Answers.{kind_of};
 ghost use Rattle.oth_text.specs.OneLine.{IsOneLine};
-ghost use Rattle.oth_text.specs.Report.{moves_line_of, moves_or_word, names, report_line_of, score_text, square_name, squares_of};
+ghost use Rattle.oth_text.specs.Report.{moves_line_of, moves_or_word, names, report_line_of, score_text, square_name};
+ghost use Rattle.oth_text.specs.Report.{squares_of};
 
 use arrayvec::ArrayVec;
 use itoa::Buffer;
@@ -24,7 +24,7 @@ pub fn moves_line(board: &Board) -> ArrayVec<u8, MOVES_LINE_LEN>
     ensures one_line { IsOneLine result.items }
 {
     let mut line = ArrayVec::new();
-    push_moves(&mut line, kind(board), board.moves());
+    push_moves(&mut line, Kind::of(board), board.moves());
     line
 }
 
@@ -41,19 +41,7 @@ pub fn report_line(answer: &Answer) -> ArrayVec<u8, REPORT_LINE_LEN>
     line
 }
 
-// What the mover does.
-fn kind(board: &Board) -> Kind
-    ensures { result ≡ kind_of board.now }
-{
-    if board.moves() != 0 {
-        Kind::Move
-    } else if board.pass().moves() != 0 {
-        Kind::Pass
-    } else {
-        Kind::End
-    }
-}
-
+// A sign and the score.
 fn push_score(line: &mut ArrayVec<u8, REPORT_LINE_LEN>, score: i8)
     requires { line.old.items ≡ [] }
     ensures text { line.new.items ≡ score_text score }
@@ -63,6 +51,7 @@ fn push_score(line: &mut ArrayVec<u8, REPORT_LINE_LEN>, score: i8)
     push_text(line, Buffer::new().format(score.unsigned_abs()).as_bytes());
 }
 
+// The names of the moves, or `pass`, or `end`.
 fn push_moves<const CAPACITY: usize>(line: &mut ArrayVec<u8, CAPACITY>, kind: Kind, moves: u64)
     requires { array_vec_len line.old + 191 ≤ CAPACITY }
     ensures { line.new.items ≡ line.old.items ++ moves_or_word kind (squares_of moves) }
@@ -88,6 +77,7 @@ fn push_names<const CAPACITY: usize>(line: &mut ArrayVec<u8, CAPACITY>, squares:
     }
 }
 
+// Whether the square of this number is in the set.
 fn has(word: u64, n: u8) -> bool
     requires { n < 64 }
     ensures { result ≡ has word n }
@@ -108,6 +98,7 @@ fn push_name<const CAPACITY: usize>(line: &mut ArrayVec<u8, CAPACITY>, n: u8, is
     line.push(b'1' + n / 8);
 }
 
+/// Adds the text. There has to be room for it.
 pub(crate) fn push_text<const CAPACITY: usize>(line: &mut ArrayVec<u8, CAPACITY>, text: &[u8])
     requires { array_vec_len line.old + length text.now ≤ CAPACITY }
     ensures { line.new.items ≡ line.old.items ++ text.now }

@@ -1,3 +1,4 @@
+//! Board lines, transcripts, reports and devices.
 use crate::fakes::{BrokenSource, ByteSink};
 use crate::{
     BoardReader, Failed, FromRead, LineFault, Position, Sink, Source, ToWrite, TranscriptFault,
@@ -69,14 +70,14 @@ fn fails(transcript: &[u8], refusal: &[u8]) -> bool {
 }
 
 #[test]
-fn board_lines(rt: HostRuntime) {
+fn a_board_line_is_written_back_as_it_was(rt: HostRuntime) {
     assert!(rt; write_board(&Position::start()).as_slice() == START);
     assert!(rt; shown(&rt, START) == Position::start());
     assert!(rt; write_board(&shown(&rt, CORNERS_TURNED)).as_slice() == CORNERS_TURNED);
 }
 
 #[test]
-fn moves(rt: HostRuntime) {
+fn all_legal_moves_are_listed(rt: HostRuntime) {
     assert!(rt; has_moves(&rt, START, b"d3 c4 f5 e6"));
     assert!(rt; has_moves(&rt, CORNERS, b"b1 h1"));
     assert!(rt; has_moves(&rt, CORNERS_TURNED, b"pass"));
@@ -84,7 +85,7 @@ fn moves(rt: HostRuntime) {
 }
 
 #[test]
-fn reports(rt: HostRuntime) {
+fn a_report_has_the_score_and_all_best_moves(rt: HostRuntime) {
     assert!(rt; is_reported(&rt, TWO_BEST, Scoring::Winner, b"+64 a1 h1"));
     assert!(rt; is_reported(&rt, DRAWN, Scoring::Winner, b"+0 end"));
     assert!(rt; is_reported(&rt, PASSING, Scoring::Winner, b"-64 pass"));
@@ -92,7 +93,7 @@ fn reports(rt: HostRuntime) {
 }
 
 #[test]
-fn refused_lines(rt: HostRuntime) {
+fn a_refused_line_has_its_first_fault(rt: HostRuntime) {
     assert!(rt; is_refused(b"", b"error 1"));
     assert!(rt;
         is_refused(
@@ -131,7 +132,7 @@ fn refused_lines(rt: HostRuntime) {
 }
 
 #[test]
-fn transcripts(rt: HostRuntime) {
+fn a_transcript_leads_to_its_position(rt: HostRuntime) {
     assert!(rt; leads_to(b"", START));
     assert!(rt;
         leads_to(
@@ -159,7 +160,7 @@ fn transcripts(rt: HostRuntime) {
 }
 
 #[test]
-fn lines_in_parts(rt: HostRuntime) {
+fn a_line_in_parts_is_read_as_a_whole_one(rt: HostRuntime) {
     let mut line = BoardReader::new();
     assert!(rt; line.is_empty());
     line.push(&START[..20]);
@@ -183,7 +184,7 @@ fn lines_in_parts(rt: HostRuntime) {
 }
 
 #[test]
-fn devices(rt: HostRuntime) {
+fn a_reader_and_a_writer_are_devices(rt: HostRuntime) {
     let mut source = FromRead::new(b"ab".as_slice());
     let mut buffer = [0u8; 4];
     assert!(rt; source.read(&mut buffer) == Ok(2));
@@ -195,7 +196,7 @@ fn devices(rt: HostRuntime) {
 }
 
 #[test]
-fn devices_that_fail(rt: HostRuntime) {
+fn a_device_fails_after_so_many_bytes(rt: HostRuntime) {
     let mut source = BrokenSource::new(b"abc", 3).in_steps(2);
     let mut buffer = [0u8; 4];
     assert!(rt; source.read(&mut buffer) == Ok(2));
@@ -212,7 +213,7 @@ fn devices_that_fail(rt: HostRuntime) {
 }
 
 #[test]
-fn refusals_in_words(rt: HostRuntime) -> Result<(), std::test::Fail> {
+fn each_refusal_has_its_words(rt: HostRuntime) -> Result<(), std::test::Fail> {
     let fault = LineFault::Empties(31);
     let text = format!(in rt.alloc(); "{fault}")?;
     assert_eq!(rt;
@@ -243,7 +244,7 @@ impl Write for Flushed {
 }
 
 #[test]
-fn flushes_the_writer(rt: HostRuntime) {
+fn a_flush_reaches_the_writer(rt: HostRuntime) {
     let mut sink = ToWrite::new(Flushed { times: 0 });
     assert!(rt; sink.flush() == Ok(()));
     assert!(rt; sink.into_inner().times == 1);

@@ -1,10 +1,13 @@
 //! Transcripts: the names of moves, one after the other, from the start of a game.
 
-ghost use Rattle.std.specs.Prelude.{◌≡◌, ◌+◌, ◌≤◌, ◌<◌, ◌↔◌, ℕ, List, [], ◌∷◌, ◌++◌, Option, None, Some, Ok, Err, IfOk, IfErr, SomeIff, IsTrue};
+ghost use Rattle.std.specs.Prelude.{◌≡◌, ◌+◌, ◌≤◌, ◌<◌, ◌↔◌, ℕ, List, [], ◌∷◌, ◌++◌, Option, None, Some, Ok, Err, IfOk};
+ghost use Rattle.std.specs.Prelude.{IfErr, SomeIff, IsTrue};
 ghost use Rattle.oth_rules.specs.Position.{empty_count};
 ghost use Rattle.oth_text.specs.declared.position.Position.{Position as PositionReached};
 ghost use Rattle.oth_text.specs.declared.fault.TranscriptFault.{TranscriptFault as Fault};
-ghost use Rattle.oth_text.specs.Transcript.{IsTranscript, IsTranscriptFault, MovesUnlessOver, Reached, StandsFor, after_move, is_nil, is_square_name, pair_fault, square_of, transcript_reading, with_forced_pass};
+ghost use Rattle.oth_text.specs.Transcript.{IsTranscript, IsTranscriptFault, MovesUnlessOver, Reached, StandsFor};
+ghost use Rattle.oth_text.specs.Transcript.{after_move, is_nil, is_square_name, pair_fault, square_of};
+ghost use Rattle.oth_text.specs.Transcript.{transcript_reading, with_forced_pass};
 
 use crate::fault::TranscriptFault;
 use crate::position::Position;
@@ -29,12 +32,24 @@ impl Model for TranscriptReader {
 
     ghost Value = { Reached };
 
-    ghost view = { λ r. record { position = r.position; next_pair = r.next_pair; fault = r.fault; pending = r.pending; is_empty = r.is_empty } };
+    ghost view = { λ r. record {
+      position = r.position;
+      next_pair = r.next_pair;
+      fault = r.fault;
+      pending = r.pending;
+      is_empty = r.is_empty;
+    } };
 
     // Each move takes an empty square.
     ghost invariant = { λ r. r.next_pair + empty_count r.position.board ≤ 61 };
 
-    ghost inverse = { λ v. record { position = v.position; next_pair = v.next_pair; fault = v.fault; pending = v.pending; is_empty = v.is_empty } };
+    ghost inverse = { λ v. record {
+      position = v.position;
+      next_pair = v.next_pair;
+      fault = v.fault;
+      pending = v.pending;
+      is_empty = v.is_empty;
+    } };
 }
 
 impl TranscriptReader {
@@ -87,6 +102,7 @@ impl TranscriptReader {
         }
     }
 
+    // One more byte: the first of a pair waits for the second.
     fn push_byte(&mut self, byte: u8)
         ensures { (text : List ℕ) → StandsFor self.old text → StandsFor self.new (text ++ byte ∷ []) }
     {
@@ -128,7 +144,8 @@ fn after_pair(
     letter: u8,
     digit: u8,
 ) -> Result<Position, TranscriptFault>
-    ensures ok { IfOk result (λ p. (pair_fault k position.now letter digit ≡ None) × (p ≡ after_move position.now (square_of letter digit))) }
+    ensures ok { IfOk result (λ p. (pair_fault k position.now letter digit ≡ None)
+        × (p ≡ after_move position.now (square_of letter digit))) }
     ensures fewer { IfOk result (λ p. empty_count p.board + 1 ≡ empty_count position.now.board) }
     ensures err { IfErr result (λ f. pair_fault k position.now letter digit ≡ Some f) }
 {

@@ -7,8 +7,8 @@ use oth_rules::{Board, Scoring};
 use oth_search::{Cells, Entry, Solved};
 use oth_table::TableCells;
 
-/// Bounds of the board's value, true by their type: those that the table has, where they tell whether the value is above
-/// `alpha`, -64 to 63, and else those that a search over it finds, which are then offered to the table.
+/// Bounds of the board's value, true by their type: those that the table has, where they tell whether the value is
+/// above `alpha`, -64 to 63, and else those that a search over it finds, which are then offered to the table.
 pub fn bounds_about<'t>(
     cells: &mut TableCells<'t>,
     board: &Board,

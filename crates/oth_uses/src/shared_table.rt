@@ -36,7 +36,7 @@ pub fn solve_both<R: Threads>(
     ))
 }
 
-/// The answer of the board by a search over the table, from this seat of it.
+// The answer of the board by a search over the table, from this seat of it.
 fn solve_from(table: &SharedTable, seat: TableSeat, board: Board) -> Answer
     requires { IsSeatOf table.now seat }
     ensures { IsFullMinimax board Scoring.Winner result }

@@ -17,8 +17,8 @@ pub enum Unsolved {
     Empties,
 }
 
-/// The score of these discs of the mover and of the opponent, bit `n` for square `n`, and all best moves, with the empty
-/// squares given to the winner.
+/// The score of these discs of the mover and of the opponent, bit `n` for square `n`, and all best moves, with the
+/// empty squares given to the winner.
 pub fn best_moves(own: u64, opp: u64) -> Result<Answer, Unsolved>
     ensures full { IfOk result (IsFullMinimax (record { own = own; opp = opp }) Scoring.Winner) }
     ensures overlap { (result ≡ Err Unsolved.Overlap) ↔ (0 < bit_and own opp) }

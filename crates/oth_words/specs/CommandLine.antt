@@ -68,8 +68,12 @@ verify_app = with_rule (new_app (codes "book-verify")) file_rule
 abbrev pub add_app : App
 add_app = with_rule (with_rule (with_rule (new_app (codes "book-add")) workers_rule) cells_rule) file_rule
 
+-- the program's name, and that it has a version
+abbrev pub titled : App
+titled = let a = new_app (codes "othsolve") in record a { top = record a.top { has_version = true } }
+
 abbrev pub program : App
-program = let a = new_app (codes "othsolve") in record a { top = record a.top { subcommand_required = true } }
+program = record titled { top = record titled.top { subcommand_required = true } }
 
 -- the command with its five subcommands
 unfoldable pub othsolve : ScoringWords → App

@@ -1,9 +1,14 @@
 //! The command line, read by clap.
 
-ghost use Rattle.std.specs.Prelude.{◌≡◌, ◌≤◌, ◌+◌, ℕ, List, Option, Some, None, IfOk, IfErr, MatchOption, codes, false, map, option_map, true};
-ghost use Rattle.clap.specs.Words.{app_of, first_of, found_of, kind_of, new_app, one_text, rows_of, rule_of, subcommand_of, subcommand_rows_of, takes};
+ghost use Rattle.std.specs.Prelude.{◌≡◌, ◌≤◌, ◌+◌, ℕ, List, Option, Some, None, IfOk, IfErr, MatchOption, codes, false};
+ghost use Rattle.std.specs.Prelude.{map, option_map, true};
+ghost use Rattle.clap.specs.Words.{app_of, first_of, found_of, kind_of, new_app, one_text, rows_of, rule_of};
+ghost use Rattle.clap.specs.Words.{subcommand_of, subcommand_rows_of, takes};
 ghost use Rattle.clap.specs.declared.builder.command.Command.TheViews.{out-Command};
-ghost use Rattle.oth_words.specs.CommandLine.{AreScorings, HasNumbers, IsNumber, IsPlain, IsReading, Meaning, Means, ScoringWords, add_app, book_rule, cells_rule, file_rule, meaning_of, othsolve, run, scoring_rule, scoring_word, solve_app, verify_app, workers_rule};
+ghost use Rattle.oth_words.specs.CommandLine.{AreScorings, HasNumbers, IsNumber, IsPlain, IsReading, Meaning, Means};
+ghost use Rattle.oth_words.specs.CommandLine.{ScoringWords, add_app, book_rule, cells_rule, file_rule, meaning_of};
+ghost use Rattle.oth_words.specs.CommandLine.{othsolve, run, scoring_rule, scoring_word, solve_app, titled, verify_app};
+ghost use Rattle.oth_words.specs.CommandLine.{workers_rule};
 ghost use Rattle.oth_words.specs.Plans.{plan_meaning};
 ghost use Rattle.oth_words.specs.declared.settings.Command.TheVariants.{Solve};
 ghost use Rattle.clap.specs.declared.error.kind.ErrorKind.TheVariants.{OutOfMemory};
@@ -17,6 +22,9 @@ use std::alloc::{AllocError, Global};
 
 // The words of `--scoring`.
 const SCORINGS: [&str; 2] = ["winner", "discs"];
+
+// What `--version` prints behind the program's name.
+const VERSION: &str = "0.1.0";
 
 // What stands behind the help of each command.
 
@@ -77,8 +85,9 @@ Faults of a transcript, whose pairs of bytes are counted from 1:
     error 3 at K  the move of pair K is illegal";
 
 const VERIFY_NOTES: &str = "\
-Each entry is solved anew, by one thread. Prints 'book ok N' with the number of entries and ends
-with status 0, or ends with status 3 and one of these on standard error:
+Each entry is solved anew, by as many threads as there are processors, at most 16. Prints 'book ok N'
+with the number of entries and ends with status 0, or ends with status 3 and one of these on standard
+error:
     book error 1       the header
     book error 2 at K  line K behind the header is no entry and no end line
     book error 3 at K  the board of line K isn't above the one before
@@ -109,6 +118,7 @@ On standard error:
                           is written, and the status is 3
     book error N, book wrong N: FILE is no book, or no true one (see book-verify --help)";
 
+// The option `--workers N`.
 fn workers_option<'a>(alloc: Global) -> Arg<'a>
     ensures rule { rule_of result ≡ workers_rule }
     ensures local { result.global ≡ false }
@@ -122,6 +132,7 @@ fn workers_option<'a>(alloc: Global) -> Arg<'a>
         .help("Threads that search one board together, 1 to 16")
 }
 
+// The option `--cells N`.
 fn cells_option<'a>(alloc: Global) -> Arg<'a>
     ensures rule { rule_of result ≡ cells_rule }
     ensures local { result.global ≡ false }
@@ -135,6 +146,7 @@ fn cells_option<'a>(alloc: Global) -> Arg<'a>
         .help("Cells of 32 bytes of the table that they share: 0, or a power of two up to 262144")
 }
 
+// The option `--scoring`, with its two words.
 fn scoring_option<'a>(alloc: Global, scorings: &'a [&'a str]) -> Arg<'a>
     ensures rule { rule_of result ≡ scoring_rule scorings.entry }
     ensures local { result.global ≡ false }
@@ -150,6 +162,7 @@ fn scoring_option<'a>(alloc: Global, scorings: &'a [&'a str]) -> Arg<'a>
         )
 }
 
+// The option `--book FILE`.
 fn book_option<'a>(alloc: Global) -> Arg<'a>
     ensures rule { rule_of result ≡ book_rule }
     ensures local { result.global ≡ false }
@@ -159,10 +172,11 @@ fn book_option<'a>(alloc: Global) -> Arg<'a>
         .value_name("FILE")
         .action(ArgAction::Set)
         .help(
-            "The file of a book that is asked first; each of its entries is solved anew before the first line",
+            "The file of a book that is asked first, if it is by this scoring; each entry is solved anew beforehand",
         )
 }
 
+// The argument `FILE` of the commands of the book.
 fn file_argument<'a>(alloc: Global) -> Arg<'a>
     ensures rule { rule_of result ≡ file_rule }
     ensures local { result.global ≡ false }
@@ -184,6 +198,7 @@ fn titled_solve<'a>(alloc: Global) -> App<'a>
         .after_help(SOLVE_NOTES)
 }
 
+// The subcommand `solve` with its options.
 fn solve_command<'a>(alloc: Global, scorings: &'a [&'a str]) -> Result<App<'a>, AllocError>
     ensures app { IfOk result (λ c. app_of c ≡ solve_app scorings.entry) }
     ensures local { IfOk result (λ c. (out-Command c).has_globals ≡ false) }
@@ -195,6 +210,7 @@ fn solve_command<'a>(alloc: Global, scorings: &'a [&'a str]) -> Result<App<'a>, 
         .arg(book_option(alloc))
 }
 
+// The subcommand `moves`.
 fn moves_command<'a>(alloc: Global) -> App<'a>
     ensures app { app_of result ≡ new_app (codes "moves") }
     ensures local { (out-Command result).has_globals ≡ false }
@@ -204,6 +220,7 @@ fn moves_command<'a>(alloc: Global) -> App<'a>
         .after_help(MOVES_NOTES)
 }
 
+// The subcommand `transcript`.
 fn transcript_command<'a>(alloc: Global) -> App<'a>
     ensures app { app_of result ≡ new_app (codes "transcript") }
     ensures local { (out-Command result).has_globals ≡ false }
@@ -213,6 +230,7 @@ fn transcript_command<'a>(alloc: Global) -> App<'a>
         .after_help(TRANSCRIPT_NOTES)
 }
 
+// The subcommand `book-verify`.
 fn verify_command<'a>(alloc: Global) -> Result<App<'a>, AllocError>
     ensures app { IfOk result (λ c. app_of c ≡ verify_app) }
     ensures local { IfOk result (λ c. (out-Command c).has_globals ≡ false) }
@@ -223,6 +241,7 @@ fn verify_command<'a>(alloc: Global) -> Result<App<'a>, AllocError>
         .arg(file_argument(alloc))
 }
 
+// The subcommand `book-add`.
 fn add_command<'a>(alloc: Global) -> Result<App<'a>, AllocError>
     ensures app { IfOk result (λ c. app_of c ≡ add_app) }
     ensures local { IfOk result (λ c. (out-Command c).has_globals ≡ false) }
@@ -237,16 +256,18 @@ fn add_command<'a>(alloc: Global) -> Result<App<'a>, AllocError>
         .arg(file_argument(alloc))
 }
 
-// The program and its help, without subcommands.
+// The program with its version and its help, without subcommands.
 fn titled_program<'a>(alloc: Global) -> App<'a>
-    ensures app { app_of result ≡ new_app (codes "othsolve") }
+    ensures app { app_of result ≡ titled }
     ensures local { (out-Command result).has_globals ≡ false }
 {
     App::new(alloc, "othsolve")
+        .version(VERSION)
         .about("Exact scores and best moves of Othello boards of at most 30 empty squares")
         .after_help(PROGRAM_NOTES)
 }
 
+// The program with its subcommands.
 fn command<'a>(alloc: Global, scorings: &'a [&'a str]) -> Result<App<'a>, AllocError>
     ensures { IfOk result (λ c. app_of c ≡ othsolve scorings.entry) }
 {
@@ -299,6 +320,7 @@ fn text<'a>(matches: &ArgMatches<'a>, id: &str) -> Option<&'a str>
     matches.get_str(id)
 }
 
+// The value of `--scoring`.
 fn scoring(matches: &ArgMatches<'_>) -> Option<Scoring>
     ensures { MatchOption result
         ((s : Scoring) → first_of (codes "scoring") (rows_of (found_of matches.now)) ≡ Some (scoring_word s) → ⊥)
@@ -340,6 +362,7 @@ fn add_plan<'a>(matches: &ArgMatches<'a>) -> Option<Plan<'a>>
     Some(Plan::Add(settings, text(matches, "file")?))
 }
 
+// What the commands without options ask for.
 fn plain<'a>(command: Command) -> Plan<'a>
     ensures { (s : Settings) × (plan_meaning result ≡ run s None) × (s.command ≡ command) × IsPlain s }
 {
@@ -380,6 +403,7 @@ fn chosen<'a>(matches: &ArgMatches<'a>) -> Option<Plan<'a>>
     }
 }
 
+// The plan with texts of its own.
 fn copied(alloc: Global, plan: Plan<'_>) -> Result<Words, AllocError>
     ensures { IfOk result (λ w. meaning_of w ≡ plan_meaning plan.entry) }
 {
@@ -417,10 +441,10 @@ fn read_with<'a>(
 /// - `book-verify FILE`
 /// - `book-add [--workers N] [--cells N] FILE`: it solves by `winner`
 ///
-/// There are 1 to 16 workers, or 1 by default, and 0 to 262,144 cells, or 65,536. The default scoring is `winner`.
-/// The subcommand and each value are those that clap's exact meaning gives for the words. Where that meaning takes
-/// the words, want of memory is the only error. Where clap finds a fault in the words, the error is of that fault's kind, or
-/// memory is wanting. A call for help is such a fault, with the text as clap writes it.
+/// There are 1 to 16 workers, or 1 by default, and 0 to 262,144 cells, or 65,536. The default scoring is `winner`. The
+/// subcommand and each value are those that clap's exact meaning gives for the words. Where that meaning takes the
+/// words, want of memory is the only error. Where clap finds a fault in the words, the error is of that fault's kind,
+/// or memory is wanting. A call for help or for the version is such a fault, with the text as clap writes it.
 pub fn read_words(alloc: Global, words: &[&str]) -> Result<Words, Error>
     ensures { (scorings : ScoringWords) × AreScorings scorings
         × IsReading (othsolve scorings) (map (λ w. w.now) words.entry.now) result }

@@ -1,3 +1,4 @@
+//! Command lines, what is asked by them, and the kinds of their faults.
 use crate::command_line::read_words;
 use crate::settings::{Command, Settings, Words};
 use clap::Error;
@@ -20,7 +21,7 @@ const DEFAULTS: Settings = Settings {
 };
 
 #[test]
-fn solve(rt: HostRuntime) {
+fn solve_has_defaults_and_takes_values(rt: HostRuntime) {
     let words = ["othsolve", "solve"];
     match read_words(rt.alloc(), words.as_slice()).expect(&rt, "words") {
         Words::Run(settings, None) => assert!(rt; settings == DEFAULTS),
@@ -55,7 +56,7 @@ fn solve(rt: HostRuntime) {
 }
 
 #[test]
-fn books(rt: HostRuntime) {
+fn the_words_of_a_book_name_its_file(rt: HostRuntime) {
     let words = ["othsolve", "book-verify", "a.book"];
     match read_words(rt.alloc(), words.as_slice()).expect(&rt, "words") {
         Words::Verify(file) => assert!(rt; file.as_str() == "a.book"),
@@ -80,7 +81,7 @@ fn books(rt: HostRuntime) {
 }
 
 #[test]
-fn faults(rt: HostRuntime) {
+fn each_refused_line_has_its_kind_of_fault(rt: HostRuntime) {
     let words = ["othsolve", "solve", "--workers", "17"];
     assert!(rt; kind_of_error(rt.alloc(), words.as_slice()) == Some(ErrorKind::ValueValidation));
     let words = ["othsolve", "solve", "--scoring", "stones"];
@@ -95,4 +96,6 @@ fn faults(rt: HostRuntime) {
     assert!(rt; kind_of_error(rt.alloc(), words.as_slice()) == Some(ErrorKind::MissingSubcommand));
     let words = ["othsolve", "help"];
     assert!(rt; kind_of_error(rt.alloc(), words.as_slice()) == Some(ErrorKind::DisplayHelp));
+    let words = ["othsolve", "--version"];
+    assert!(rt; kind_of_error(rt.alloc(), words.as_slice()) == Some(ErrorKind::DisplayVersion));
 }

@@ -19,12 +19,16 @@ use std::sync::Wait;
 use std::thread::Threads;
 use std::{env, io};
 
+// Status 0: all was done.
 const DONE: u8 = 0;
 
+// Status 1: a device failed.
 const DEVICE_FAULT: u8 = 1;
 
+// Status 2: the words of the command line can't be obeyed.
 const COMMAND_LINE_FAULT: u8 = 2;
 
+// Obeys the words of the command line.
 fn main(rt: HostRuntime) -> ExitCode {
     let mut reader = FromRead::new(rt.stdin());
     let mut writer = ToWrite::new(rt.stdout());
@@ -56,7 +60,7 @@ fn obey<T: Wait + Threads + Sync + Files + AllocGlobal, R: Source, W: Sink, E: S
             }
         }
         Words::Verify(name) => match file_of(rt, name.as_str(), errors) {
-            Ok(file) => book_verify(rt.alloc(), file.as_slice(), writer, errors),
+            Ok(file) => book_verify(rt, rt.alloc(), file.as_slice(), writer, errors),
             Err(status) => status,
         },
         Words::Add(settings, name) => {
@@ -95,14 +99,20 @@ fn report<T: Wait + Threads + Sync + AllocGlobal, R: Source, W: Sink, E: Sink>(
 }
 
 // The book of a file, or the status where there is none. The settings are tested before the file is read.
-fn book_of<T: Files + AllocGlobal, E: Sink>(
+fn book_of<T: Threads + Sync + Files + AllocGlobal, E: Sink>(
     rt: &T,
     settings: &Settings,
     name: &str,
     errors: &mut E,
 ) -> Result<Book, u8> {
     let file = tested_file_of(rt, settings, name, errors)?;
-    match open_book(rt.alloc(), file.as_slice()) {
+    match open_book(
+        rt,
+        rt.alloc(),
+        file.as_slice(),
+        settings.workers,
+        settings.cells,
+    ) {
         Ok(book) => Ok(book),
         Err(refusal) => {
             print_refusal(&refusal, errors);
@@ -172,6 +182,7 @@ fn words<R: Env + AllocGlobal + Print + Eprint>(rt: &R) -> Result<Words, u8> {
     }
 }
 
+// The words of the command line, but for the program's name.
 fn arguments<R: Env + AllocGlobal>(rt: &R) -> io::Result<Vec<String>> {
     Ok(env::args(rt)?.collect(rt.alloc())?)
 }

@@ -6,8 +6,9 @@ use oth_rules::Scoring;
 use oth_search::Solved;
 use std::alloc::Global;
 
-// A board with the mover's disc on d1 alone, and with the number's 17 bits as the other side's discs on the last squares; all squares
-// between have discs of the other side. It is canonical, and greater numbers give boards later in the order of cells.
+// A board with the mover's disc on d1 alone, and with the number's 17 bits as the other side's discs on the last
+// squares; all squares between have discs of the other side. It is canonical, and greater numbers give boards later in
+// the order of cells.
 fn numbered(number: u32) -> [u64; 2] {
     [
         8,

@@ -1,11 +1,12 @@
-//! Lines that wait together, whose boards are solved side by side: the report is the same for any number of workers, however the
-//! bytes come and wherever a device fails.
+//! Lines that wait together, whose boards are solved side by side: the report is the same for any number of workers,
+//! however the bytes come and wherever a device fails.
 
 use super::{NO_FAILURE, settings};
 use crate::fault::RunFault;
 use crate::running::run;
 use oth_pool::Open;
-use oth_rules::{Board, Scoring, Square, Sym};
+use oth_rules::samples::after_least_moves;
+use oth_rules::{Board, Scoring, Sym};
 use oth_search::solve_alone;
 use oth_text::fakes::{BrokenSource, ByteSink};
 use oth_text::{Position, Side, report_line, write_board};
@@ -45,23 +46,6 @@ impl Lines {
             Err(_) => Ok(()),
         }
     }
-}
-
-/// The start of a game, and from there the least-numbered legal moves, until so few squares are empty.
-fn after_least_moves(most_empties: u8) -> Option<Board> {
-    let mut board = Position::start().board;
-    for _ in 0..120 {
-        if board.empties() <= most_empties || board.is_over() {
-            break;
-        }
-        let moves = board.moves();
-        board = if moves == 0 {
-            board.pass()
-        } else {
-            board.play(Square::first_of(moves))?
-        };
-    }
-    Some(board)
 }
 
 /// The eight images of a board of a game with ten empty squares at most, with faulty lines among them.

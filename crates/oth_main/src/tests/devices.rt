@@ -1,4 +1,5 @@
-//! Devices: how the bytes are cut changes nothing, and where one fails, just so much was written, and none is called again.
+//! Devices: how the bytes are cut changes nothing, and where one fails, just so much was written, and none is called
+//! again.
 
 use super::{NO_FAILURE, by_two_workers, settings, walk};
 use crate::fault::RunFault;
@@ -19,8 +20,8 @@ use std::thread::Threads;
 type Walk = (Settings, &'static [u8], &'static [u8]);
 
 // A board with too many empty squares, a blank line, and a last line without byte 10: 67, 1 and 66 bytes.
-const THREE_LINES: &[u8] =
-    b"---------------------------OX------XO--------------------------- X\n\n--OXOOO-OOOOOOOOOOOOOOOOOOOOOOOOOOOOOOOOOOOOOOOOOOOOOOOOOOOOOOOO X";
+const THREE_LINES: &[u8] = b"---------------------------OX------XO--------------------------- X\n\n\
+      --OXOOO-OOOOOOOOOOOOOOOOOOOOOOOOOOOOOOOOOOOOOOOOOOOOOOOOOOOOOOOO X";
 
 const SOLVED: &[u8] = b"error 5 60\nerror 1\n-50 h1\n";
 
@@ -29,12 +30,13 @@ const MOVED: &[u8] = b"d3 c4 f5 e6\nerror 1\nb1 h1\n";
 // Transcripts in its place.
 const THREE_GAMES: &[u8] = b"f5d6c3d3c4\n\nF5";
 
-const FOLLOWED: &[u8] =
-    b"------------------XO------XXX------OXX-----O-------------------- O\n---------------------------OX------XO--------------------------- X\nerror 2 at 1\n";
+const FOLLOWED: &[u8] = b"------------------XO------XXX------OXX-----O-------------------- O\n\
+      ---------------------------OX------XO--------------------------- X\nerror 2 at 1\n";
 
 // Two lines of 67 bytes.
 pub(super) const TWO_LINES: &[u8] =
-    b"---------------------------OX------XO--------------------------- X\n--OXOOO-OOOOOOOOOOOOOOOOOOOOOOOOOOOOOOOOOOOOOOOOOOOOOOOOOOOOOOOO X\n";
+    b"---------------------------OX------XO--------------------------- X\n\
+      --OXOOO-OOOOOOOOOOOOOOOOOOOOOOOOOOOOOOOOOOOOOOOOOOOOOOOOOOOOOOOO X\n";
 
 pub(super) const SOLVED_TWO: &[u8] = b"error 5 60\n-50 h1\n";
 
@@ -82,7 +84,8 @@ fn reported<'r>(input: &[u8], report: &'r [u8], read: usize) -> &'r [u8] {
     first_lines(report, ended_lines(front(input, read)))
 }
 
-// How often a byte is asked for until more than so many bytes of the report can be written. At the end of the input that is all.
+// How often a byte is asked for until more than so many bytes of the report can be written. At the end of the input
+// that is all.
 fn reads_until(input: &[u8], report: &[u8], written: usize) -> u64 {
     for read in 1..input.len() {
         if reported(input, report, read).len() > written {

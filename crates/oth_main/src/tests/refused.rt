@@ -1,5 +1,5 @@
-//! Want of memory. Each of these tests holds whichever one of its requests for memory is refused; `hostile/refusals.py` runs each of
-//! them once for each request, thread starts among them.
+//! Want of memory. Each of these tests holds whichever one of its requests for memory is refused; `hostile/refusals.py`
+//! runs each of them once for each request, thread starts among them.
 
 use super::books::{BOOK_OF_A, BOOK_OF_TWO, EMPTY_BOOK, TWO_LINES as NEW_LINES, add};
 use super::devices::{SOLVED_TWO, TWO_LINES};
@@ -23,7 +23,7 @@ const WANTING: [&[u8]; 2] = [b"book error 7\n", b"book wrong 4\n"];
 fn a_file_is_verified_or_memory_is_wanting(rt: HostRuntime) {
     let mut writer = ByteSink::<64>::new(NO_FAILURE);
     let mut errors = ByteSink::<64>::new(NO_FAILURE);
-    let status = book_verify(rt.alloc(), BOOK_OF_A, &mut writer, &mut errors);
+    let status = book_verify(&rt, rt.alloc(), BOOK_OF_A, &mut writer, &mut errors);
     if status == 0 {
         assert!(rt; writer.taken() == b"book ok 1\n".as_slice() && errors.taken().is_empty());
         return;

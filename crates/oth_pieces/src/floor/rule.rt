@@ -1,10 +1,12 @@
-// The rule of a floor, and its kinds of step.
-ghost use Rattle.oth_pieces.specs.Floor.{IsKept, newcomer, Looked, Raised, Named, Learned, parent_of, child_of, messenger_of, told_by, spent};
+//! The rule of a floor, and its kinds of step.
+ghost use Rattle.oth_pieces.specs.Floor.{IsKept, newcomer, Looked, Raised, Named, Learned, parent_of, child_of};
+ghost use Rattle.oth_pieces.specs.Floor.{messenger_of, told_by, spent};
 
 use super::root::Root;
 use super::view::View;
 use atomic_table::{Join, Play, Split, TableRule};
 
+/// The words of a floor are those of one legal history, which every seat's view begins.
 pub struct TheFloor;
 
 impl TableRule<u8, View, Root> for TheFloor {
@@ -20,6 +22,7 @@ impl Play<u8, View> for Looking {
     ghost then = { Looked };
 }
 
+/// Raises the floor, or finds it as high already.
 pub struct Raising;
 
 impl Play<u8, View> for Raising {
@@ -40,6 +43,7 @@ impl Play<u8, View> for Learning {
     ghost then = { Learned };
 }
 
+/// A seat makes another.
 pub struct Children;
 
 impl Split<View> for Children {
@@ -48,6 +52,7 @@ impl Split<View> for Children {
     ghost right = { child_of };
 }
 
+/// A seat lends what it has seen to a messenger.
 pub struct Messengers;
 
 impl Split<View> for Messengers {
@@ -56,6 +61,7 @@ impl Split<View> for Messengers {
     ghost right = { messenger_of };
 }
 
+/// A messenger tells what it carries.
 pub struct Tellings;
 
 impl Join<View> for Tellings {

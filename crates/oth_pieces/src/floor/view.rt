@@ -1,3 +1,4 @@
+//! What the proofs say that a seat of a floor knows.
 use super::event::Event;
 use super::root::Root;
 use std::collections::LinkedList;

@@ -1,7 +1,8 @@
+//! The items of a frontier.
 use oth_rules::{Board, Square};
 
 /// A board of a frontier, with what it has to do with the root.
-#[derive(Clone, Copy, Default)]
+#[derive(Clone, Copy, Debug, Default)]
 pub struct Item {
     pub board: Board,
     /// The root's move that leads to it.

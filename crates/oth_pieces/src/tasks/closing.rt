@@ -9,7 +9,8 @@ use arrayvec::ArrayVec;
 
 /// What all hands hold, in the room of the last one.
 pub fn parts_of(mut hands: Vec<Hand>) -> Parts
-    requires rooms { (i : ℕ) (h : Hand) → i < length hands.items → HasRoom (vec_len hands) (slice_index_or hands.items i h).room }
+    requires rooms { (i : ℕ) (h : Hand) → i < length hands.items
+        → HasRoom (vec_len hands) (slice_index_or hands.items i h).room }
     requires some { 0 < vec_len hands }
     ensures owners { result.owners.items ≡ map (λ h. h.owner) hands.items }
     ensures piles { result.piles.items ≡ map (λ h. h.passes) hands.items }

@@ -1,6 +1,7 @@
 //! How tasks are made: the deques with their numbers, and a hand for each.
 ghost use Rattle.std.specs.Prelude.{◌≡◌, ◌<◌, ◌≤◌, IfOk, All, length, vec_len};
-ghost use Rattle.oth_pieces.specs.Hands.{IsDealt, AreDealt, AreThievesOf, AreTokensOf, StayOwners, KnowTheirs, OwnerFits, OwnersFit, PileFits, IsNewHand, AreHandsOf, HasRoom, count_of};
+ghost use Rattle.oth_pieces.specs.Hands.{IsDealt, AreDealt, AreThievesOf, AreTokensOf, StayOwners, KnowTheirs};
+ghost use Rattle.oth_pieces.specs.Hands.{OwnerFits, OwnersFit, PileFits, IsNewHand, AreHandsOf, HasRoom, count_of};
 
 use super::rule::{Puts, Thieves};
 use super::state::{Hand, Owner, Parts, Tasks, Thief, Token};
@@ -36,7 +37,8 @@ fn room_of(alloc: Global, hands: usize) -> Result<Parts, AllocError>
 
 // The deques of so many hands, with the numbers in the order of their turns.
 fn deques(alloc: Global, turns: &Turns, hands: usize) -> Result<Vec<Owner>, AllocError>
-    ensures { IfOk result (λ owners. (length owners.items ≡ hands) × AreDealt hands (length turns.now.numbers.items) owners.items) }
+    ensures { IfOk result (λ owners. (length owners.items ≡ hands)
+        × AreDealt hands (length turns.now.numbers.items) owners.items) }
 {
     let mut owners = Vec::with_capacity(alloc, hands)?;
     for deque in 0..hands {
@@ -45,6 +47,7 @@ fn deques(alloc: Global, turns: &Turns, hands: usize) -> Result<Vec<Owner>, Allo
     Ok(owners)
 }
 
+// A handle of each deque, for those who steal from it.
 fn thieves_of(alloc: Global, owners: &[Owner]) -> Result<Vec<Thief>, AllocError>
     ensures { IfOk result (λ thieves. AreThievesOf owners.now thieves) }
 {
@@ -85,6 +88,7 @@ fn piles_of(
     Ok(piles)
 }
 
+// A pass of each deque, for one hand.
 fn pile_of(alloc: Global, tasks: &Tasks, owners: &mut [Owner]) -> Result<Vec<Token>, AllocError>
     requires { OwnersFit tasks.now owners.old }
     ensures owners { OwnersFit tasks.now owners.new }
@@ -94,6 +98,7 @@ fn pile_of(alloc: Global, tasks: &Tasks, owners: &mut [Owner]) -> Result<Vec<Tok
     passes_of(alloc, owners)
 }
 
+// The hands: each has its deque and its pile of passes.
 fn hands_of(
     alloc: Global,
     tasks: &Tasks,
@@ -116,6 +121,7 @@ fn hands_of(
     Ok(hands)
 }
 
+// The hand of this number, with room for all that hands hold.
 fn hand_of(
     alloc: Global,
     tasks: &Tasks,

@@ -1,9 +1,10 @@
-// The rule of a deque of numbers, and its kinds of call.
+//! The rule of a deque of numbers, and its kinds of call.
 ghost use Rattle.oth_pieces.specs.Dealing.{Dealt, owner, stranger, puts, takes, owner_of, thief_of, both, IsFair};
 
 use super::share::Share;
 use crossbeam_deque::protocol::{Join, Lesson, Outcome, Protocol, Split};
 
+/// Each number that was pushed is taken at most once.
 pub struct Deal;
 
 impl Protocol<u32, Share> for Deal {

@@ -1,3 +1,4 @@
+//! The tasks, the hands that draw them, and what all hands hold.
 ghost use Rattle.std.specs.Prelude.{◌≤◌};
 
 use super::rule::Deal;
@@ -7,10 +8,13 @@ use arrayvec::ArrayVec;
 use crossbeam_deque::{Pass, Stealer, Worker};
 use std::alloc::Global;
 
+/// A pass of a deque, which knows what its holder took there.
 pub(crate) type Token = Pass<u32, Share>;
 
+/// The end of a deque at which its own hand draws.
 pub(crate) type Owner = Worker<u32, Global, Share, Deal>;
 
+/// The end of a deque at which other hands steal.
 pub(crate) type Thief = Stealer<u32, Global, Share, Deal>;
 
 /// What the hands hold, each kind by itself.

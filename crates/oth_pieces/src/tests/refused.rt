@@ -1,5 +1,5 @@
-//! Want of memory. Each of these tests holds whichever one of its requests for memory is refused; `hostile/refusals.py` runs each of
-//! them once for each request.
+//! Want of memory. Each of these tests holds whichever one of its requests for memory is refused; `hostile/refusals.py`
+//! runs each of them once for each request.
 
 use super::{A, board, drawn, lifted};
 use crate::{Floor, Frontier, Tasks};

@@ -1,6 +1,7 @@
-// The rule of the words of hints: they may hold anything, since nothing rests on them.
+//! The rule of the words of hints: they may hold anything, since nothing rests on them.
 use atomic_table::{Play, TableRule};
 
+/// Any word may stand there.
 pub struct Anything;
 
 impl TableRule<u8, (), ()> for Anything {

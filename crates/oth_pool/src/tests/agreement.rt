@@ -1,27 +1,10 @@
 //! The parallel solver, the solver alone and plain minimax answer alike.
 
 use crate::{Open, solve};
-use oth_rules::{Board, Scoring, Square};
+use oth_rules::Scoring;
+use oth_rules::samples::after_least_moves;
 use oth_search::solve_alone;
 use std::test::Fail;
-
-// The start of a game, and from there the least-numbered legal moves, with passes where they are forced, until so few squares are
-// empty or the game is over.
-fn after_least_moves(most_empties: u8) -> Option<Board> {
-    let mut board = Board::of(0x0000_0008_1000_0000, 0x0000_0010_0800_0000).ok()?;
-    for _ in 0..120 {
-        if board.empties() <= most_empties || board.is_over() {
-            break;
-        }
-        let moves = board.moves();
-        board = if moves == 0 {
-            board.pass()
-        } else {
-            board.play(Square::first_of(moves))?
-        };
-    }
-    Some(board)
-}
 
 #[test]
 fn all_solvers_agree_where_the_least_moves_lead(rt: HostRuntime) -> Result<(), Fail> {

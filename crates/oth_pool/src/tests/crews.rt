@@ -81,7 +81,8 @@ fn crews_agree_with_one_over_a_table(rt: HostRuntime) {
     check_boards(&rt, 65_536, Scoring::Discs);
 }
 
-// One worker that keeps nothing settles each move, by a search of its own and as one of several, and comes to the value.
+// One worker that keeps nothing settles each move, by a search of its own and as one of several, and comes to the
+// value.
 fn check_settled<R: AllocGlobal + Abort>(rt: &R, words: [u64; 2]) {
     check_settled_by(rt, words, true);
     check_settled_by(rt, words, false);

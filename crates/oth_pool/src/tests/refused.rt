@@ -1,5 +1,5 @@
-//! Want of memory. Each of these tests holds whichever one of its requests for memory is refused; `hostile/refusals.py` runs each of
-//! them once for each request, thread starts among them.
+//! Want of memory. Each of these tests holds whichever one of its requests for memory is refused; `hostile/refusals.py`
+//! runs each of them once for each request, thread starts among them.
 
 use super::crews::BOARDS;
 use super::gate::Hearing;

@@ -10,5 +10,5 @@ invariant_of-result c =
     record {
       is_value = kept entry.lower scores.0 ∙ exact_value c.args.scoring entry c.args.board.now c.args.symmetry c.requires.holds c.requires.exact c.requires.image c.requires.valid;
       are_best = c.unmap.ensures.value ∙ exact_best c.args.scoring entry c.args.board.now c.args.symmetry c.requires.holds c.requires.exact c.requires.image c.requires.valid;
-      fits = c.kind.ensures;
+      fits = c.of.ensures;
     }

@@ -13,12 +13,12 @@ pub known_below-known_by_moves-requires-then-moves-ne0-2 : goal.known_below-know
 known_below-known_by_moves-requires-then-moves-ne0-2 t c =
     (omega (arith, c.decreases), can_move-from_moves c.pass-passed.result _ c.moves-2.ensures c.if-moves-ne0-2.true)
 
-pub known_below-turned-requires-clause-none : goal.known_below-turned-requires-clause-none
-known_below-turned-requires-clause-none t c =
+pub known_below-before_pass-requires-clause-none : goal.known_below-before_pass-requires-clause-none
+known_below-before_pass-requires-clause-none t c =
     can_move-from_none c.args.board _ c.moves.ensures c.if-moves-ne0.false
 
-pub known_below-turned-requires-clause-some : goal.known_below-turned-requires-clause-some
-known_below-turned-requires-clause-some t c =
+pub known_below-before_pass-requires-clause-some : goal.known_below-before_pass-requires-clause-some
+known_below-before_pass-requires-clause-some t c =
     can_move-passed c.args.board c.pass-passed.result _ c.pass-passed.ensures c.moves-2.ensures c.if-moves-ne0-2.true
 
 pub known_by_moves-loop-rest-init : goal.known_by_moves-loop-rest-init

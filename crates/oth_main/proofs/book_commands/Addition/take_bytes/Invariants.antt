@@ -4,6 +4,6 @@ use Rattle.oth_book.specs.Contents.{Contents}
 use Rattle.oth_main.specs.Addition.{IsAdding}
 use Rattle.oth_main.proofs.book_commands.Addition.take_bytes.Given as goal
 
-abbrev pub invariant-loop-byte : goal.invariant-loop-byte
-invariant-loop-byte g l = (before : Contents) (input : List ℕ) → IsAdding before l.fn.self.book l.fn.self.line input
-    → IsAdding before l.self.book l.self.line (input ++ take l.byte-index l.bytes)
+abbrev pub invariant-loop-place : goal.invariant-loop-place
+invariant-loop-place g l = (before : Contents) (input : List ℕ) → IsAdding before l.fn.self.book l.fn.self.line input
+    → IsAdding before l.self.book l.self.line (input ++ take l.place l.bytes)

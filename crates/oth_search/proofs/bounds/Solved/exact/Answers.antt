@@ -6,8 +6,8 @@ use Rattle.oth_search.proofs.bounds.Solved.exact.Goals as goal
 pub loop-reply-smaller-then-reply-alpha : goal.loop-reply-smaller-then-reply-alpha
 loop-reply-smaller-then-reply-alpha g c =
     let old = c.loop-reply.reply.interval in
-    let new = c.asked-reply.result.interval in
+    let new = c.decided_at-reply.result.interval in
     fewer old.lower old.upper new.lower new.upper c.greater-alpha.result _ _ new.is_interval
     (omega (arith, ints, c.greater-alpha.ensures.left))
     (between old.lower old.upper _ _ _ (omega (arith, ints)) (omega (arith, ints, c.loop-reply-test.true)) (omega (arith, ints)) c.greater-alpha.ensures.one)
-    (omega (arith, ints, c.asked-reply.ensures.lower)) (omega (arith, ints, c.asked-reply.ensures.upper)) (omega (arith, ints)) (omega (arith, ints)) c.asked-reply.ensures.decides
+    (omega (arith, ints, c.decided_at-reply.ensures.lower)) (omega (arith, ints, c.decided_at-reply.ensures.upper)) (omega (arith, ints)) (omega (arith, ints)) c.decided_at-reply.ensures.decides

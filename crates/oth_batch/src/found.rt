@@ -1,0 +1,19 @@
+//! An answer among those that were found ahead.
+
+ghost use Rattle.std.specs.Prelude.{◌≡◌, IfSome};
+
+use oth_rules::{Board, Scoring};
+use oth_search::Answer;
+
+/// The answer of the board by the scoring, if it is one of these.
+pub fn answer_among(answers: &[Answer], board: &Board, scoring: Scoring) -> Option<Answer>
+    ensures board { IfSome result (λ a. a.board ≡ board.now) }
+    ensures scoring { IfSome result (λ a. a.scoring ≡ scoring) }
+{
+    for answer in answers {
+        if answer.board == *board && answer.scoring == scoring {
+            return Some(*answer);
+        }
+    }
+    None
+}

@@ -1,0 +1,35 @@
+//! Boards for tests, of this crate and of those above it.
+ghost use Rattle.std.specs.Prelude.{◌≤◌, IfSome};
+ghost use Rattle.oth_rules.specs.Position.{empty_count};
+
+use crate::board::Board;
+use crate::square::Square;
+
+/// The board of these words, own discs first, if it is one with at most 30 empty squares.
+pub fn board(words: [u64; 2]) -> Option<Board>
+    ensures { IfSome result (λ b. empty_count b ≤ 30) }
+{
+    let board = Board::of(words[0], words[1]).ok()?;
+    if board.empties() > 30 {
+        return None;
+    }
+    Some(board)
+}
+
+/// The start of a game, and from there the least-numbered legal moves, with passes where they are forced, until at most
+/// so many squares are empty or the game is over.
+pub fn after_least_moves(most_empties: u8) -> Option<Board> {
+    let mut board = Board::of(0x0000_0008_1000_0000, 0x0000_0010_0800_0000).ok()?;
+    for _ in 0..120 {
+        if board.empties() <= most_empties || board.is_over() {
+            break;
+        }
+        let moves = board.moves();
+        board = if moves == 0 {
+            board.pass()
+        } else {
+            board.play(Square::first_of(moves))?
+        };
+    }
+    Some(board)
+}

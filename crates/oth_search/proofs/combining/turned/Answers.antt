@@ -1,9 +1,0 @@
-use Rattle.std.proofs.Common.{arith}
-use Rattle.std.proofs.lemmas.Int.{ints}
-use Rattle.oth_search.proofs.Enclosing.{Encloses-pass}
-use Rattle.oth_search.proofs.combining.turned.Goals as goal
-
-pub invariant_of-result-2 : goal.invariant_of-result-2
-invariant_of-result-2 c =
-    let s = c.args.passed in
-    record { encloses = Encloses-pass s.scoring c.args.board s.board s.interval.lower s.interval.upper _ _ c.requires.passed c.requires.none c.requires.some s.encloses (omega (arith, ints)) (omega (arith, ints)) }
