@@ -12,7 +12,7 @@ use Rattle.atomic_table.proofs.Lists.{exchanged}
 use Rattle.oth_rules.specs.declared.scoring.Scoring.{Scoring}
 use Rattle.oth_search.specs.Entries.{Bounded, words_of, joined}
 use Rattle.oth_table.specs.History.{IsTrueBy, author, content, owner, publishes, IsSeat, Fits, IsLegal, Ends}
-use Rattle.oth_table.specs.Cells.{version, word, held, HasWords, IsSeated, Knows, IsFit, IsKept}
+use Rattle.oth_table.specs.Cells.{first_word, version, word, held, HasWords, IsSeated, Knows, IsFit, IsKept}
 use Rattle.oth_table.specs.Steps.{Sat, Did, WentAway, IsReading, IsOld, Claims, MayReadClaimed, MayStore, MayPublish, glanced, read, checked, aimed, found_under, stored, published, glance, read_word, check, aim, claim, read_under, store_word, publish}
 use Rattle.oth_table.specs.declared.history.Why.{Why}
 use Rattle.oth_table.specs.declared.history.Why.TheVariants.{Busy, Skipped, Worn}
@@ -171,39 +171,39 @@ module _ (about : Limits) (s : St) (r : IsKept about s) (id : ℕ) (v : View) (a
 
   -- the next word is stored, which is the k-th
   store_at : (cs : List (ℕ × Bounded)) (c k bits : ℕ) → k < 3 → c < about.cells → (st : Stage) → MayStore c k bits st → Knows r.log s.words s.views v st
-      → (w : View) × IsKept about (stepped s (4 * c + (1 + k)) bits id cs w keeps) × stored v st w
+      → (w : View) × IsKept about (stepped s (first_word c + (1 + k)) bits id cs w keeps) × stored v st w
   store_at cs c k bits low inside (Writing d a old given j) is known =
       let st : Stage = Writing d a old given (j + 1) in let w = went v v.seen st in let wide = r.wide in let cell = is.0 in let here = is.1 in
-      let ws : List ℕ = set s.words (4 * d + (1 + j)) bits in
+      let ws : List ℕ = set s.words (first_word d + (1 + j)) bits in
       let next : IsKept about (turned s ws id w) = kept about s r id v w at seated tt refl [] ws (stores_it about s r v.name d (omega arith) j bits (omega arith) known.1)
       (still_fits ws (set s.views id w) st (
-        get_or-set_other s.words (4 * d + (1 + j)) (4 * d) bits 0 (λ e. absurd (omega arith)) ∙ known.0,
+        get_or-set_other s.words (first_word d + (1 + j)) (first_word d) bits 0 (λ e. absurd (omega arith)) ∙ known.0,
         known.1,
         known.2,
         known.3,
         omega arith,
         (λ m lo hi. dite (ℕ_discrete m j)
-            (λ e. ap (λ z. get_or ws (4 * d + (1 + z)) 0) e ∙ (get_or-set_same s.words (4 * d + (1 + j)) bits 0 (omega arith) ∙ (is.2 ∙ ap (λ z. slice_index (words_of (joined old given)) z) (sym (e ∙ here)))))
-            (λ other. get_or-set_other s.words (4 * d + (1 + j)) (4 * d + (1 + m)) bits 0 (λ e. other (omega arith)) ∙ known.5 m lo (omega arith))),
-        (λ x e m lo hi. get_or-set_other s.words (4 * d + (1 + j)) (4 * d + (1 + m)) bits 0 (λ f. absurd (omega arith)) ∙ known.6 x e m (omega arith) hi),
+            (λ e. ap (λ z. get_or ws (first_word d + (1 + z)) 0) e ∙ (get_or-set_same s.words (first_word d + (1 + j)) bits 0 (omega arith) ∙ (is.2 ∙ ap (λ z. slice_index (words_of (joined old given)) z) (sym (e ∙ here)))))
+            (λ other. get_or-set_other s.words (first_word d + (1 + j)) (first_word d + (1 + m)) bits 0 (λ e. other (omega arith)) ∙ known.5 m lo (omega arith))),
+        (λ x e m lo hi. get_or-set_other s.words (first_word d + (1 + j)) (first_word d + (1 + m)) bits 0 (λ f. absurd (omega arith)) ∙ known.6 x e m (omega arith) hi),
       )) in
-      (w, subst (λ (z : ℕ × ℕ). IsKept about (turned s (set s.words (4 * z.0 + (1 + z.1)) bits) id w)) (λ i. (cell i, here i)) next, (((refl, refl), refl), refl))
+      (w, subst (λ (z : ℕ × ℕ). IsKept about (turned s (set s.words (first_word z.0 + (1 + z.1)) bits) id w)) (λ i. (cell i, here i)) next, (((refl, refl), refl), refl))
   store_at cs c k bits low inside (Reading d a last x) is known = absurd is
   store_at cs c k bits low inside Idle is known = absurd is
   store_at cs c k bits low inside (Making t) is known = absurd is
   store_at cs c k bits low inside Note is known = absurd is
 
   publish_at : (cs : List (ℕ × Bounded)) (c next : ℕ) → c < about.cells → (st : Stage) → MayPublish v.terms.scoring c next st → Knows r.log s.words s.views v st
-      → (w : View) × IsKept about (stepped s (4 * c) next id cs w keeps) × published v st w
+      → (w : View) × IsKept about (stepped s (first_word c) next id cs w keeps) × published v st w
   publish_at cs c next inside (Writing d a old given j) is known =
       let x : Bounded = joined old given in let e : Event = Publish v.name d given x in let w = went v (e ∷ r.log) Idle in let wide = r.wide in let cell = is.0 in let all = is.1 in let up = is.2 in let now = known.0 in
       let joins : x ≡ joined (content d r.log) given = ap (λ o. joined o given) (sym known.2) in
       let words : HasWords s.words d 0 3 x = subst (λ z. HasWords s.words d 0 z x) all known.5 in
-      let after : IsKept about (turned s (set s.words (4 * d) (version s.words d + 1)) id w) = kept about s r id v w at seated tt refl (e ∷ []) (set s.words (4 * d) (version s.words d + 1))
+      let after : IsKept about (turned s (set s.words (first_word d) (version s.words d + 1)) id w) = kept about s r id v w at seated tt refl (e ∷ []) (set s.words (first_word d) (version s.words d + 1))
       (publishes_it about s r v.name d (omega arith) given x known.1 joins (its_truth given known.3) (its_truth x is.3) (fit.seat seated) words)
-      (ended_fits e (set s.words (4 * d) (version s.words d + 1)) (set s.views id w) Idle tt) in
+      (ended_fits e (set s.words (first_word d) (version s.words d + 1)) (set s.views id w) Idle tt) in
       let value : version s.words d + 1 ≡ next = omega arith in
-      (w, subst (λ (z : ℕ × ℕ). IsKept about (turned s (set s.words (4 * z.0) z.1) id w)) (λ i. (cell i, value i)) after, did e refl (known.1, joins, its_truth given known.3, its_truth x is.3))
+      (w, subst (λ (z : ℕ × ℕ). IsKept about (turned s (set s.words (first_word z.0) z.1) id w)) (λ i. (cell i, value i)) after, did e refl (known.1, joins, its_truth given known.3, its_truth x is.3))
   publish_at cs c next inside (Reading d a last x) is known = absurd is
   publish_at cs c next inside Idle is known = absurd is
   publish_at cs c next inside (Making t) is known = absurd is
@@ -218,22 +218,22 @@ module _ (about : Limits) (s : St) (r : IsKept about s) (id : ℕ) (v : View) (a
 
   -- the version is the one expected, and the cell is claimed
   claim_at : (cs : List (ℕ × Bounded)) (c : ℕ) (given : Bounded) → c < about.cells → version s.words c % 2 ≡ 0 → version s.words c / 2 < about.terms.wear → IsTrueBy v.terms.scoring given
-      → (w : View) × IsKept about (stepped s (4 * c) (version s.words c + 1) id cs w keeps) × Claims c (version s.words c) given v w
+      → (w : View) × IsKept about (stepped s (first_word c) (version s.words c + 1) id cs w keeps) × Claims c (version s.words c) given v w
   claim_at cs c given inside even room right =
       let n : ℕ = version s.words c in let count = r.counted c in let low = held_low (owner c r.log) in let wide = r.wide in let free = held_none (owner c r.log) (omega arith) in
       let old : Option Bounded = content c r.log in let e : Event = Claim v.name c in let st : Stage = Writing c (n + 1) old given 0 in let w = went v (e ∷ r.log) st in
-      let ws : List ℕ = set s.words (4 * c) (n + 1) in let fits : Fits about.terms r.log e = (free, omega arith) in
+      let ws : List ℕ = set s.words (first_word c) (n + 1) in let fits : Fits about.terms r.log e = (free, omega arith) in
       let twice : 2 * publishes c r.log ≡ n = omega arith in (
         w,
         kept about s r id v w at seated tt refl (e ∷ []) ws (claims_it about s r v.name c (omega arith) free fits.1 (fit.seat seated))
             (ended_fits e ws (set s.views id w) st (
-              get_or-set_same s.words (4 * c) (n + 1) 0 (omega arith),
+              get_or-set_same s.words (first_word c) (n + 1) 0 (omega arith),
               tested c c (λ b. (if b then Some v.name else owner c r.log) ≡ Some v.name) (λ _. refl) (λ no_way. absurd (no_way refl)),
               refl,
               right,
               omega arith,
               (λ m lo hi. absurd (omega arith)),
-              (λ x is m lo hi. get_or-set_other s.words (4 * c) (4 * c + (1 + m)) (n + 1) 0 (λ f. absurd (omega arith)) ∙ r.stored c x free is m lo hi),
+              (λ x is m lo hi. get_or-set_other s.words (first_word c) (first_word c + (1 + m)) (n + 1) 0 (λ f. absurd (omega arith)) ∙ r.stored c x free is m lo hi),
             )),
         ((refl, refl), (old, subst (λ z. IsOld v.terms.scoring z old) twice (is_old c old refl), refl, joined_true v.terms.scoring old given (λ x is. my_truth x (content_true about.terms c r.log x r.legal is)) right, right), ends e refl fits),
       )
@@ -246,24 +246,24 @@ reading_seated c (Making t) is = tt
 reading_seated c Note is = is
 
 -- the steps of a look
-pub glances : (about : Limits) (slots id : ℕ) (me : Sat) (c i : ℕ) → i ≡ 4 * c + 0 → me.0.stage ≡ Idle → Allows (IsKept about) slots id me i (λ n. n) (glance (step slots i 0 0 none) me)
+pub glances : (about : Limits) (slots id : ℕ) (me : Sat) (c i : ℕ) → i ≡ first_word c + 0 → me.0.stage ≡ Idle → Allows (IsKept about) slots id me i (λ n. n) (glance (step slots i 0 0 none) me)
 glances about slots id me c i is idle s r _ at _ = let g = glance_at about s r id me.0 at (seated_idle me.0.stage idle) i me.1 c in
-    let cell : c ≡ i / 4 = omega arith in let here : version s.words c ≡ get_or s.words i 0 = ap (λ z. get_or s.words z 0) (omega arith) in
+    let cell : c ≡ (i - first_word 0) / 4 = omega arith in let here : version s.words c ≡ get_or s.words i 0 = ap (λ z. get_or s.words z 0) (omega arith) in
     (g.0, keeps, tt, g.1, subst (λ (z : ℕ × ℕ). glanced z.0 me.0 z.1 g.0) (λ j. (cell j, here j)) g.2)
 
-pub aims : (about : Limits) (slots id : ℕ) (me : Sat) (c i : ℕ) → i ≡ 4 * c + 0 → me.0.stage ≡ Idle → Allows (IsKept about) slots id me i (λ n. n) (aim (step slots i 0 0 none) me)
+pub aims : (about : Limits) (slots id : ℕ) (me : Sat) (c i : ℕ) → i ≡ first_word c + 0 → me.0.stage ≡ Idle → Allows (IsKept about) slots id me i (λ n. n) (aim (step slots i 0 0 none) me)
 aims about slots id me c i is idle s r _ at _ = let g = aim_at about s r id me.0 at (seated_idle me.0.stage idle) i me.1 c in
-    let cell : c ≡ i / 4 = omega arith in let here : version s.words c ≡ get_or s.words i 0 = ap (λ z. get_or s.words z 0) (omega arith) in
+    let cell : c ≡ (i - first_word 0) / 4 = omega arith in let here : version s.words c ≡ get_or s.words i 0 = ap (λ z. get_or s.words z 0) (omega arith) in
     (g.0, keeps, tt, g.1, subst (λ (z : ℕ × ℕ). aimed z.0 me.0 z.1 g.0) (λ j. (cell j, here j)) g.2)
 
-pub reads : (about : Limits) (slots id : ℕ) (me : Sat) (c k i : ℕ) → i ≡ 4 * c + (1 + k) → k < 3 → IsReading c me.0.stage
+pub reads : (about : Limits) (slots id : ℕ) (me : Sat) (c k i : ℕ) → i ≡ first_word c + (1 + k) → k < 3 → IsReading c me.0.stage
     → Allows (IsKept about) slots id me i (λ n. n) (read_word (step slots i 0 0 none) me)
 reads about slots id me c k i is low reading s r _ at _ =
     let g = read_at about s r id me.0 at (reading_seated c me.0.stage reading) i me.1 c k low me.0.stage reading (r.each id me.0 at).knows in
-    let place : k ≡ i % 4 - 1 = omega arith in let here : word s.words c k ≡ get_or s.words i 0 = ap (λ z. get_or s.words z 0) (omega arith) in
+    let place : k ≡ (i - first_word 0) % 4 - 1 = omega arith in let here : word s.words c k ≡ get_or s.words i 0 = ap (λ z. get_or s.words z 0) (omega arith) in
     (g.0, keeps, tt, g.1, subst (λ (z : ℕ × ℕ). read z.0 me.0 me.0.stage z.1 g.0) (λ j. (place j, here j)) g.2)
 
-pub checks : (about : Limits) (slots id : ℕ) (me : Sat) (c i : ℕ) → i ≡ 4 * c + 0 → IsReading c me.0.stage → Allows (IsKept about) slots id me i (λ n. n) (check (step slots i 0 0 none) me)
+pub checks : (about : Limits) (slots id : ℕ) (me : Sat) (c i : ℕ) → i ≡ first_word c + 0 → IsReading c me.0.stage → Allows (IsKept about) slots id me i (λ n. n) (check (step slots i 0 0 none) me)
 checks about slots id me c i is reading s r _ at _ =
     let g = check_at about s r id me.0 at (reading_seated c me.0.stage reading) i me.1 c me.0.stage reading (r.each id me.0 at).knows in
     let here : version s.words c ≡ get_or s.words i 0 = ap (λ z. get_or s.words z 0) (omega arith) in
@@ -291,32 +291,32 @@ found_seated c Idle is = tt
 found_seated c (Making t) is = tt
 found_seated c Note is = is
 
-pub reads_claimed : (about : Limits) (slots id : ℕ) (me : Sat) (c k i : ℕ) → i ≡ 4 * c + (1 + k) → k < 3 → MayReadClaimed c me.0.stage
+pub reads_claimed : (about : Limits) (slots id : ℕ) (me : Sat) (c k i : ℕ) → i ≡ first_word c + (1 + k) → k < 3 → MayReadClaimed c me.0.stage
     → Allows (IsKept about) slots id me i (λ n. n) (read_under (step slots i 0 0 none) me)
 reads_claimed about slots id me c k i is low mine s r _ at _ =
     let g = found_at about s r id me.0 at (found_seated c me.0.stage mine) i me.1 c k low me.0.stage mine (r.each id me.0 at).knows refl in
-    let place : k ≡ i % 4 - 1 = omega arith in let here : word s.words c k ≡ get_or s.words i 0 = ap (λ z. get_or s.words z 0) (omega arith) in
+    let place : k ≡ (i - first_word 0) % 4 - 1 = omega arith in let here : word s.words c k ≡ get_or s.words i 0 = ap (λ z. get_or s.words z 0) (omega arith) in
     (g.0, keeps, tt, g.1, subst (λ (z : ℕ × ℕ). found_under z.0 me.0 me.0.stage z.1 g.0) (λ j. (place j, here j)) g.2)
 
-pub stores : (about : Limits) (slots id : ℕ) (me : Sat) (c k bits i : ℕ) → i ≡ 4 * c + (1 + k) → k < 3 → c < about.cells → MayStore c k bits me.0.stage
+pub stores : (about : Limits) (slots id : ℕ) (me : Sat) (c k bits i : ℕ) → i ≡ first_word c + (1 + k) → k < 3 → c < about.cells → MayStore c k bits me.0.stage
     → Allows (IsKept about) slots id me i (λ _. bits) (λ _. store_word (step slots i bits 0 none) me bits)
 stores about slots id me c k bits i is low inside mine s r _ at _ =
     let g = store_at about s r id me.0 at (writing_seated c k bits me.0.stage mine) me.1 c k bits low inside me.0.stage mine (r.each id me.0 at).knows in
     (g.0, keeps, tt, subst (λ z. IsKept about (stepped s z bits id me.1 g.0 keeps)) (sym is) g.1, g.2)
 
-pub publishes_next : (about : Limits) (slots id : ℕ) (me : Sat) (c next i : ℕ) → i ≡ 4 * c + 0 → c < about.cells → MayPublish me.0.terms.scoring c next me.0.stage
+pub publishes_next : (about : Limits) (slots id : ℕ) (me : Sat) (c next i : ℕ) → i ≡ first_word c + 0 → c < about.cells → MayPublish me.0.terms.scoring c next me.0.stage
     → Allows (IsKept about) slots id me i (λ _. next) (λ _. publish (step slots i next 0 none) me next)
 publishes_next about slots id me c next i is inside mine s r _ at _ =
     let g = publish_at about s r id me.0 at (publishing_seated me.0.terms.scoring c next me.0.stage mine) me.1 c next inside me.0.stage mine (r.each id me.0 at).knows in
-    let here : 4 * c ≡ i = omega arith in
+    let here : first_word c ≡ i = omega arith in
     (g.0, keeps, tt, subst (λ z. IsKept about (stepped s z next id me.1 g.0 keeps)) here g.1, g.2)
 
-pub claims_cell : (about : Limits) (slots id : ℕ) (me : Sat) (c old new : ℕ) (given : Bounded) (i : ℕ) → i ≡ 4 * c + 0 → c < about.cells → new ≡ old + 1 → old % 2 ≡ 0 → old / 2 < about.terms.wear
+pub claims_cell : (about : Limits) (slots id : ℕ) (me : Sat) (c old new : ℕ) (given : Bounded) (i : ℕ) → i ≡ first_word c + 0 → c < about.cells → new ≡ old + 1 → old % 2 ≡ 0 → old / 2 < about.terms.wear
     → (last : ℕ) (x : Option Bounded) → me.0.stage ≡ Reading c old last x → IsTrueBy me.0.terms.scoring given
     → Allows (IsKept about) slots id me i (λ n. either (eqb n old) new n) (claim (step slots i old new (some given)) me)
 claims_cell about slots id me c old new given i is inside up even room last x reading right s r _ at _ =
-    let v : View = me.0 in let seated : IsSeated v.stage = subst IsSeated (sym reading) tt in let here : i ≡ 4 * c = omega arith in let n : ℕ = get_or s.words i 0 in
-    let now : version s.words c ≡ n = ap (λ z. get_or s.words z 0) (sym here) in let cell : c ≡ i / 4 = omega arith in
+    let v : View = me.0 in let seated : IsSeated v.stage = subst IsSeated (sym reading) tt in let here : i ≡ first_word c = omega arith in let n : ℕ = get_or s.words i 0 in
+    let now : version s.words c ≡ n = ap (λ z. get_or s.words z 0) (sym here) in let cell : c ≡ (i - first_word 0) / 4 = omega arith in
     let known = subst (Knows r.log s.words s.views v) reading (r.each id v at).knows in
     let F : ℕ → Type 0 = λ m. (w : View) × (a : Act Bounded) × Valid s.homes me.1 a × IsKept about (stepped s i m id me.1 w a) × claim (step slots i old new (some given)) me n (w, carried_after me.1 a) in
     exchanged n old new F

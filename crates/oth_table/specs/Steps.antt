@@ -11,6 +11,7 @@ use mathlib.Core.Option.{some}
 use Rattle.atomic_table.specs.Table.{Step, Me}
 use Rattle.oth_rules.specs.declared.scoring.Scoring.{Scoring}
 use Rattle.oth_search.specs.Entries.{Bounded, words_of, joined}
+use Rattle.oth_table.specs.Cells.{first_word}
 use Rattle.oth_table.specs.History.{Name, IsTrueBy, makes, publishes, IsLegal, Begins, Since, Ends, GoesAway}
 use Rattle.oth_table.specs.declared.history.Why.{Why}
 use Rattle.oth_table.specs.declared.history.Why.TheVariants.{Busy, Skipped, Worn}
@@ -129,10 +130,10 @@ counted c v r w = Sees v w × (publishes c w.seen ≡ r / 2)
 
 module _ (st : Step Bounded) (m : Sat) (r : ℕ) (m' : Sat) where
   abbrev pub cell_of : ℕ
-  cell_of = st.word / 4
+  cell_of = (st.word - first_word 0) / 4
 
   abbrev pub place_of : ℕ
-  place_of = st.word % 4 - 1
+  place_of = (st.word - first_word 0) % 4 - 1
 
   abbrev pub glance : Type 0
   glance = glanced cell_of m.0 r m'.0

@@ -2,6 +2,7 @@
 ghost use Rattle.std.specs.Prelude.{◌≡◌, ℕ, MatchBool, Option, ◌+◌, ◌*◌, ◌/◌, ◌%◌, ◌^◌, ◌<◌, ◌≤◌, List, [], Some, IfOk};
 ghost use Rattle.std.specs.Prelude.{IfErr, IsTrue, ◌↔◌, ◌-◌};
 ghost use Rattle.oth_search.specs.Entries.{Bounded, joined, words_of};
+ghost use Rattle.oth_table.specs.Cells.{first_word};
 ghost use Rattle.oth_table.specs.History.{Ends, IsLegal, Since, publishes};
 ghost use Rattle.oth_table.specs.Steps.{glanced, read, checked, aimed, claimed, found_under, stored, published};
 ghost use Rattle.oth_table.specs.Steps.{IsSameSeat, IsReading, IsClaimed, Stays, Did, WentAway, Claims, WillKeep};
@@ -26,8 +27,12 @@ use std::alloc::{AllocError, Global};
 use std::marker::Model;
 use thiserror::Error;
 
-// The words of a cell. They lie side by side from the first word on, so that a cell is 32 bytes.
+// The words of a cell. They lie side by side, so that a cell is 32 bytes.
 const WORDS: usize = 4;
+
+// The words in front of the cells, where nothing is ever stored. glibc begins a large block 16 bytes behind a page:
+// behind these 48 bytes the two cells of a board are then one line of 64 bytes.
+const WORDS_IN_FRONT: usize = 6;
 
 // With it the last version of a cell is 2^64 - 2.
 const MOST_WEAR: u64 = 0x7fff_ffff_ffff_ffff;
@@ -43,7 +48,8 @@ pub struct SharedTable {
 }
 
 impl Model for SharedTable {
-    ghost use Rattle.std.specs.Prelude.{◌≡◌, ◌*◌, ◌^◌, ◌<◌};
+    ghost use Rattle.std.specs.Prelude.{◌≡◌, ◌^◌, ◌<◌};
+    ghost use Rattle.oth_table.specs.Cells.{first_word};
     ghost use Rattle.oth_table.specs.Choices.{IsLawful};
     ghost use Rattle.oth_table.specs.Parts.{Shape};
 
@@ -53,7 +59,7 @@ impl Model for SharedTable {
 
     ghost invariant = { λ t.
         (t.table.shared.key ≡ record { cells = t.cells; terms = t.terms })
-        × (t.table.shared.table_id.words ≡ 4 * t.cells)
+        × (t.table.shared.table_id.words ≡ first_word t.cells)
         × (0 < t.cells) × IsLawful t.cells × (t.terms.wear < 2 ^ 63) };
 }
 
@@ -123,9 +129,9 @@ pub enum TableError {
 // The number of a cell's word: its version first, then the words of its entry.
 fn word_at(cell: u32, word: usize) -> usize
     requires { word < 4 }
-    ensures { result ≡ 4 * cell + word }
+    ensures { result ≡ first_word cell + word }
 {
-    WORDS * cell as usize + word
+    WORDS_IN_FRONT + WORDS * cell as usize + word
 }
 
 // Whether there may be so many cells.
@@ -191,7 +197,8 @@ impl SharedTable {
         ensures seat { IfOk result (λ t. IsSeatOf t.0 t.1 × (t.1.name ≡ []) × (t.1.seen ≡ [])) }
     {
         let mark = Box::new(alloc, 0)?;
-        let words = vec![in alloc; 0u64; WORDS * cells as usize]?;
+        // As many words as stand before a cell that would come next.
+        let words = vec![in alloc; 0u64; word_at(cells, 0)]?;
         let limits = Limits {
             cells: u64::from(cells),
             terms,
@@ -252,8 +259,9 @@ impl SharedTable {
             }) }
     {
         let seat = &mut seat.seat;
-        self.table.shared.load::<LoadVersionToMake>(seat, 0);
-        self.table.shared.split_seat::<SplitSeat>(seat)
+        let shared = &self.table.shared;
+        shared.load::<LoadVersionToMake>(seat, word_at(0, 0));
+        shared.split_seat::<SplitSeat>(seat)
     }
 
     /// Afterwards both seats have seen the same legal history, which begins with what each had seen and adds no
@@ -269,9 +277,9 @@ impl SharedTable {
         let second = &mut second.seat;
         let shared = &self.table.shared;
         shared.join_seat::<TakeSeen>(first, shared.split_seat::<SendSeen>(second));
-        shared.load::<SeeAll>(first, 0);
+        shared.load::<SeeAll>(first, word_at(0, 0));
         shared.join_seat::<TakeSeen>(second, shared.split_seat::<SendSeen>(first));
-        shared.load::<SeeTold>(second, 0);
+        shared.load::<SeeTold>(second, word_at(0, 0));
     }
 
     /// How often the cell was published, in the legal history that the seat has then seen. `cell` is below
