@@ -1,14 +1,15 @@
 //! Boards that wait to be solved together.
 
-ghost use Rattle.std.specs.Prelude.{◌≡◌, ◌⊎◌, ◌++◌, ◌∷◌, []};
+ghost use Rattle.std.specs.Prelude.{◌≡◌, ◌≤◌, ◌<◌, ◌++◌, ◌∷◌, [], length};
+ghost use Rattle.oth_rules.specs.Position.{empty_count};
 
 use crate::effort::{MOST_EMPTIES_FOR_ONE, effort};
 use arrayvec::ArrayVec;
 use oth_rules::Board;
 use std::marker::Model;
 
-// The most boards of a batch.
-const MOST_BOARDS: usize = 1_024;
+/// The most boards of a batch.
+pub const MOST_BOARDS: usize = 1_024;
 
 // No more boards are taken from so much work on: some ten seconds of one worker, so that answers don't wait long for
 // each other.
@@ -46,9 +47,12 @@ impl Boards {
         self.list.is_full() || self.effort >= MOST_EFFORT
     }
 
-    /// Lets the board wait too, if there is room and one worker is enough for it.
+    /// Lets the board wait too, behind the others, if fewer than 1,024 wait and one worker is enough for it.
     pub fn push(&mut self, board: Board)
-        ensures { (self.new ≡ self.old) ⊎ (self.new ≡ self.old ++ board ∷ []) }
+        ensures waits { empty_count board ≤ MOST_EMPTIES_FOR_ONE → length self.old < MOST_BOARDS
+            → self.new ≡ self.old ++ board ∷ [] }
+        ensures large { MOST_EMPTIES_FOR_ONE < empty_count board → self.new ≡ self.old }
+        ensures full { MOST_BOARDS ≤ length self.old → self.new ≡ self.old }
     {
         if board.empties() <= MOST_EMPTIES_FOR_ONE && self.list.try_push(board).is_ok() {
             self.effort = self.effort.saturating_add(effort(&board));

@@ -10,6 +10,7 @@ mod tests;
 mod verifying;
 
 pub use batch::Batch;
-pub use boards::Boards;
+pub use boards::{Boards, MOST_BOARDS};
+pub use effort::MOST_EMPTIES_FOR_ONE;
 pub use found::answer_among;
 pub use verifying::verify_by;

@@ -28,7 +28,7 @@ use oth_book::{AddError, Book, write};
 use oth_pool::Open;
 use oth_search::Answer;
 use oth_text::{BoardReader, LineFault, Sink, Source, fault_line};
-use oth_words::{Command, Settings};
+use oth_words::{Command, DEFAULT_CELLS, Settings};
 use std::alloc::Global;
 use std::sync::Wait;
 use std::thread::{Threads, available_parallelism};
@@ -38,9 +38,6 @@ const BUFFER_LEN: usize = 16_384;
 
 // Status 0: all was done.
 const DONE: u8 = 0;
-
-// The cells of each table where nobody asks for a number.
-const CELLS: u32 = 65_536;
 
 // The workers where nobody asks for a number and nobody knows how many processors there are.
 const WORKERS: u8 = 4;
@@ -66,7 +63,7 @@ pub fn book_verify<T: Threads + Sync, W: Sink, E: Sink>(
     ensures verdict { IsVerdict file.now result (W.failed writer.new) }
     ensures works { result ≡ 0 → (W.failed writer.new ≡ false) × (W.flushed writer.new ≡ true) }
 {
-    match open_book(rt, alloc, file, processors(rt), CELLS) {
+    match open_book(rt, alloc, file, processors(rt), DEFAULT_CELLS) {
         Ok(book) => {
             let ok = Message::of(b"book ok ").number(book.len() as u64);
             if !writer.failed() && ok.write_to(writer) && writer.flush().is_ok() {

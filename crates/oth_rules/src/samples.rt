@@ -1,5 +1,5 @@
 //! Boards for tests, of this crate and of those above it.
-ghost use Rattle.std.specs.Prelude.{◌≤◌, IfSome};
+ghost use Rattle.std.specs.Prelude.{◌≡◌, ◌≤◌, IfSome, slice_index_or};
 ghost use Rattle.oth_rules.specs.Position.{empty_count};
 
 use crate::board::Board;
@@ -7,7 +7,8 @@ use crate::square::Square;
 
 /// The board of these words, own discs first, if it is one with at most 30 empty squares.
 pub fn board(words: [u64; 2]) -> Option<Board>
-    ensures { IfSome result (λ b. empty_count b ≤ 30) }
+    ensures words { IfSome result (λ b. b ≡ record { own = slice_index_or words 0 0; opp = slice_index_or words 1 0 }) }
+    ensures empties { IfSome result (λ b. empty_count b ≤ 30) }
 {
     let board = Board::of(words[0], words[1]).ok()?;
     if board.empties() > 30 {

@@ -8,4 +8,4 @@ mod settings;
 mod tests;
 
 pub use command_line::read_words;
-pub use settings::{Command, Settings, Words};
+pub use settings::{Command, DEFAULT_CELLS, Settings, Words};

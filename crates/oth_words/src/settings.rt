@@ -13,6 +13,9 @@ pub enum Command {
     Transcript,
 }
 
+/// The cells of the table where no number is asked for.
+pub const DEFAULT_CELLS: u32 = 65_536;
+
 /// How an input is worked on.
 #[derive(Clone, Copy, Debug, PartialEq, Eq, Drop)]
 pub struct Settings {
