@@ -15,6 +15,7 @@ BOARDS = 1000
 MOST_EMPTIES = 12
 GAMES = 200
 PATIENCE = 300
+BUILD_PATIENCE = 1_800
 MOST_REQUESTS = 6
 TOP = os.path.dirname(os.path.dirname(os.path.abspath(__file__)))
 VALGRIND = ["valgrind", "-q", "--error-exitcode=99", "--leak-check=full", "--show-leak-kinds=all", "--errors-for-leak-kinds=all"]
@@ -29,7 +30,7 @@ def steps(crates):
     """A step for each build and run: its name, and what is wrong with it, if anything."""
     with tempfile.TemporaryDirectory() as folder, tempfile.TemporaryDirectory() as tests:
         program = os.path.abspath(f"{crates}/othsolve/out/othsolve")
-        unmade = ran_wrong([f"{TOP}/examples/c/library.sh", folder, crates])
+        unmade = ran_wrong([f"{TOP}/examples/c/library.sh", folder, crates], patience=BUILD_PATIENCE)
         yield "the C library is made", unmade
         if unmade:
             return
@@ -51,10 +52,10 @@ def steps(crates):
             yield from under_valgrind(program, calls, lines[:50])
 
 
-def ran_wrong(words, given="", wanted="", **how):
+def ran_wrong(words, given="", wanted="", patience=PATIENCE, **how):
     """What is wrong with a run that is to print just this with status 0, if anything."""
     try:
-        ran = subprocess.run(words, input=given, stdout=subprocess.PIPE, stderr=subprocess.PIPE, text=True, timeout=PATIENCE, **how)
+        ran = subprocess.run(words, input=given, stdout=subprocess.PIPE, stderr=subprocess.PIPE, text=True, timeout=patience, **how)
     except (OSError, subprocess.TimeoutExpired) as error:
         return f"{words[0]}: {error}"
     for at, (found, want) in enumerate(zip(ran.stdout.splitlines(), wanted.splitlines())):

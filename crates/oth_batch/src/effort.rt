@@ -25,7 +25,7 @@ pub struct Split {
 }
 
 impl Split {
-    /// As many workers as pay, at most as many as are asked for.
+    /// As many workers as pay, at most as many as are asked for, and no more than there are boards for one worker.
     pub fn of(boards: &[Board], workers: u8) -> Split
         ensures { result.crew ≤ workers }
     {
@@ -34,9 +34,10 @@ impl Split {
             total = total.saturating_add(effort(board));
         }
         let crew = (total / EFFORT_OF_A_THREAD).min(workers as u64);
+        let most = total / crew.max(1);
         Split {
-            crew: crew as usize,
-            most: total / crew.max(1),
+            crew: count_to(boards, most).min(crew as usize),
+            most,
         }
     }
 
@@ -45,4 +46,15 @@ impl Split {
     pub fn is_for_one(&self, board: &Board) -> bool {
         effort(board) <= self.most
     }
+}
+
+// How many of the boards take at most so long.
+fn count_to(boards: &[Board], most: u64) -> usize {
+    let mut count = 0usize;
+    for board in boards {
+        if effort(board) <= most {
+            count = count.saturating_add(1);
+        }
+    }
+    count
 }

@@ -1,2 +1,3 @@
+pub mod Crews
 pub mod Workings
 pub mod Lendings

@@ -1,3 +1,4 @@
+pub mod Crew
 pub mod Working
 pub mod Solving
 pub mod Lending

@@ -64,7 +64,7 @@ impl<'t> TableAccess<'t> {
 #[derive(Drop)]
 pub struct WorkerCells<'t> {
     cells: Option<TableCells<'t>>,
-    memo: Option<Box<Memo>>,
+    memory: Memory,
 }
 
 impl<'t> WorkerCells<'t> {
@@ -76,20 +76,59 @@ impl<'t> WorkerCells<'t> {
     ) -> WorkerCells<'t>
         ensures lends { LendsTable access.old access.new }
     {
-        let memo = if plan.remembers { memo(alloc) } else { None };
+        let memory = Memory::of(alloc, plan);
         match access {
             Some(access) => WorkerCells {
                 cells: access.cells(alloc),
-                memo,
+                memory,
             },
-            None => WorkerCells { cells: None, memo },
+            None => WorkerCells {
+                cells: None,
+                memory,
+            },
         }
     }
 }
 
-// A memory that is empty; none where there is no room for it.
-fn memo(alloc: Global) -> Option<Box<Memo>> {
-    Box::new(alloc, Memo::new()).ok()
+// A worker's own memory. It is made when the first board is to be remembered, so by the worker's own thread.
+#[derive(Drop)]
+struct Memory {
+    alloc: Global,
+    memo: Option<Box<Memo>>,
+    // Whether it is still to be made.
+    is_wanted: bool,
+}
+
+impl Memory {
+    // Nothing is remembered yet.
+    fn of(alloc: Global, plan: Plan) -> Memory {
+        Memory {
+            alloc,
+            memo: None,
+            is_wanted: plan.remembers,
+        }
+    }
+
+    // What is remembered of the board by this scoring.
+    fn recall(&self, board: &Board, scoring: Scoring) -> Option<Solved>
+        ensures asked { IfSome result (λ s. (s.board ≡ board.now) × (s.scoring ≡ scoring)) }
+    {
+        match &self.memo {
+            Some(memo) => memo.recall(board, scoring),
+            None => None,
+        }
+    }
+
+    // Remembers these bounds, if there is room for a memory.
+    fn remember(&mut self, solved: &Solved) {
+        if self.is_wanted {
+            self.is_wanted = false;
+            self.memo = Box::new(self.alloc, Memo::new()).ok();
+        }
+        if let Some(memo) = &mut self.memo {
+            memo.remember(solved);
+        }
+    }
 }
 
 impl<'t> Cells for WorkerCells<'t> {
@@ -111,15 +150,10 @@ impl<'t> Cells for WorkerCells<'t> {
     }
 
     fn recall(&mut self, board: &Board, scoring: Scoring) -> Option<Solved> {
-        match &self.memo {
-            Some(memo) => memo.recall(board, scoring),
-            None => None,
-        }
+        self.memory.recall(board, scoring)
     }
 
     fn remember(&mut self, solved: &Solved) {
-        if let Some(memo) = &mut self.memo {
-            memo.remember(solved);
-        }
+        self.memory.remember(solved);
     }
 }

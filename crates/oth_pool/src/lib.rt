@@ -3,6 +3,7 @@
 #![tactic(auto)]
 
 mod access;
+mod crew;
 mod drawn;
 mod gate;
 mod glance;

@@ -3,6 +3,7 @@ ghost use Rattle.std.specs.Prelude.{◌≡◌, ℕ, ◌<◌, length, slice_index
 ghost use Rattle.oth_pieces.specs.Hands.{number_of};
 ghost use Rattle.oth_pool.specs.Working.{CanWork};
 
+use crate::crew::for_each_at_once;
 use crate::drawn::{search_item, settle_all};
 use crate::gate::Gate;
 use crate::scene::Scene;
@@ -10,7 +11,6 @@ use crate::walk::Walk;
 use crate::work::{Job, Work};
 use oth_pieces::{Reply, Tasks};
 use oth_search::Cells;
-use std::thread;
 use std::thread::Threads;
 
 /// Lets each job search items until no number is left and no move of the root is open, in a thread of its own where one
@@ -29,20 +29,15 @@ pub(crate) fn work_all<'w, R: Threads + Sync, G: Gate, C: Cells + Send>(
     ensures numbers { (i : ℕ) (d : Job C) → i < length jobs.old
         → number_of (slice_index_or jobs.new i d).work.hand ≡ number_of (slice_index_or jobs.old i d).work.hand }
 {
-    if jobs.is_empty() {
-        return;
-    }
-    let threads = jobs.len();
-    thread::for_each_mut(
+    for_each_at_once(
         rt,
-        jobs,
-        threads,
-        &|_, job: &mut Job<C>|
+        &|job: &mut Job<C>|
             requires { CanWork scene.now.frontier.now scene.now.plan.scoring tasks.now job.old.work }
             ensures works { CanWork scene.entry.now.frontier.now scene.entry.now.plan.scoring
                 tasks.entry.now job.new.work }
             ensures number { number_of job.new.work.hand ≡ number_of job.old.work.hand }
         { search_all(scene, tasks, gate, &mut job.work, &mut job.walk) },
+        jobs,
     );
 }
 
