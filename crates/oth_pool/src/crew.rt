@@ -6,8 +6,8 @@ ghost use Rattle.oth_pool.specs.Crew.{AcceptsEach, ChangesEach};
 use std::thread::{Threads, join_mut};
 
 /// Calls f at each job, in a thread of its own where one can be made; the last one in this thread. All threads are
-/// started by this one, and first one that does nothing: some systems let the first thread that a thread starts wait for
-/// milliseconds for the processor of that one, while others are idle.
+/// started by this one, and first one that does nothing: some systems let the first thread that a thread starts wait
+/// milliseconds for its processor, while others are idle.
 pub(crate) fn for_each_at_once<R: Threads + Sync, T: Send, F: Fn(&mut T) + Sync>(
     rt: &R,
     f: &F,
