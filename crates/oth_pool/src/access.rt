@@ -119,11 +119,19 @@ impl Memory {
         }
     }
 
+    // Makes the memory, if there is room for it. It stands apart since a memory takes 96 KB of the stack before it has its
+    // place, and the search calls itself.
+    #[cold]
+    #[inline(never)]
+    fn make(&mut self) {
+        self.is_wanted = false;
+        self.memo = Box::new(self.alloc, Memo::new()).ok();
+    }
+
     // Remembers these bounds, if there is room for a memory.
     fn remember(&mut self, solved: &Solved) {
         if self.is_wanted {
-            self.is_wanted = false;
-            self.memo = Box::new(self.alloc, Memo::new()).ok();
+            self.make();
         }
         if let Some(memo) = &mut self.memo {
             memo.remember(solved);
