@@ -1,3 +1,3 @@
-pub mod Crews
+pub mod AtOnce
 pub mod Workings
 pub mod Lendings

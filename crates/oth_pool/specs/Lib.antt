@@ -1,4 +1,4 @@
-pub mod Crew
+pub mod AtOnce
 pub mod Working
 pub mod Solving
 pub mod Lending

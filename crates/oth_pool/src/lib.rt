@@ -3,7 +3,7 @@
 #![tactic(auto)]
 
 mod access;
-mod crew;
+mod at_once;
 mod drawn;
 mod gate;
 mod glance;

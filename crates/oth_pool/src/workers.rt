@@ -3,7 +3,7 @@ ghost use Rattle.std.specs.Prelude.{◌≡◌, ℕ, ◌<◌, length, slice_index
 ghost use Rattle.oth_pieces.specs.Hands.{number_of};
 ghost use Rattle.oth_pool.specs.Working.{CanWork};
 
-use crate::crew::for_each_at_once;
+use crate::at_once::for_each_at_once;
 use crate::drawn::{search_item, settle_all};
 use crate::gate::Gate;
 use crate::scene::Scene;

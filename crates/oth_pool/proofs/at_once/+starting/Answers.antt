@@ -1,9 +1,9 @@
 use borrow.Author.Rules.{rules}
 use Rattle.std.proofs.Common.{◌≡◌, ◌<◌, get_or, length, arith}
 use Rattle.std.proofs.lemmas.List.{get_or_default}
-use Rattle.oth_pool.specs.Crew.{Changes}
-use Rattle.oth_pool.proofs.Crews.{by_both, by_one}
-use Rattle.oth_pool.proofs.crew.+starting.Goals as goal
+use Rattle.oth_pool.specs.AtOnce.{Changes}
+use Rattle.oth_pool.proofs.AtOnce.{by_both, by_one}
+use Rattle.oth_pool.proofs.at_once.+starting.Goals as goal
 
 pub start_from-f-requires : goal.start_from-f-requires
 start_from-f-requires g t c =

@@ -1,7 +1,7 @@
 //! Jobs that are worked on at once, each in a thread of its own.
 ghost use Rattle.std.specs.Prelude.{◌≤◌, length};
 ghost use denote.Param.Send.{IsSend, IsSync};
-ghost use Rattle.oth_pool.specs.Crew.{AcceptsEach, ChangesEach};
+ghost use Rattle.oth_pool.specs.AtOnce.{AcceptsEach, ChangesEach};
 
 use std::thread::{Threads, join_mut};
 

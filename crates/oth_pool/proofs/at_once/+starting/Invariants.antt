@@ -1,5 +1,5 @@
 use Rattle.std.proofs.Common.{◌+◌, ◌*◌, ◌≡◌, length}
-use Rattle.oth_pool.proofs.crew.+starting.Given as goal
+use Rattle.oth_pool.proofs.at_once.+starting.Given as goal
 
 abbrev pub decreases-start_from : goal.decreases-start_from
 decreases-start_from g l = 8 * length l.jobs.now
