@@ -2,8 +2,9 @@
 
 ghost use Rattle.std.specs.Prelude.{◌≡◌, ◌↔◌, IsTrue, ℕ, List, [], false, true, OnOk};
 ghost use Rattle.std.specs.Io.KnownBytes.{Appends, Consumes, IsAtEnd};
+ghost use Rattle.oth_table.specs.Sizes.{IsSizeOrNone};
 ghost use Rattle.oth_main.specs.Reply.{reply};
-ghost use Rattle.oth_main.specs.Run.{AreCells, AreLawful, AreWorkers, FailsBy, IsPastTests, OnRefusal, RefusesBy};
+ghost use Rattle.oth_main.specs.Run.{AreLawful, AreWorkers, FailsBy, IsPastTests, OnRefusal, RefusesBy};
 ghost use Rattle.oth_main.specs.Run.{Writes};
 
 use crate::engine::Engine;
@@ -11,6 +12,7 @@ use crate::fault::RunFault;
 use crate::solver::Solver;
 use oth_book::Book;
 use oth_pool::Gate;
+use oth_table::is_size;
 use oth_text::{Sink, Source};
 use oth_words::Settings;
 use std::alloc::Global;
@@ -73,17 +75,9 @@ pub fn are_workers(workers: u8) -> bool
 
 /// Whether a table can have so many cells.
 pub fn are_cells(cells: u32) -> bool
-    ensures { IsTrue result ↔ AreCells cells }
+    ensures { IsTrue result ↔ IsSizeOrNone cells }
 {
-    if cells == 0 {
-        return true;
-    }
-    for k in 0..19u32 {
-        if cells == 1 << k {
-            return true;
-        }
-    }
-    false
+    cells == 0 || is_size(cells)
 }
 
 // The run by settings that were tested.

@@ -1,8 +1,8 @@
 //! The whole search of a board.
-ghost use Rattle.std.specs.Prelude.{◌≡◌, ◌↔◌, ◌<◌, ◌≤◌, ◌≤ℤ◌, true, IsTrue, IfOk, IfErr, length};
+ghost use Rattle.std.specs.Prelude.{◌≡◌, ◌<◌, ◌≤◌, ◌≤ℤ◌, true, IfOk, IfErr, length};
 ghost use Rattle.oth_rules.specs.Position.{empty_count};
 ghost use Rattle.oth_rules.specs.Move.{can_move};
-ghost use Rattle.oth_pool.specs.Solving.{IsPower, IsSolvable, Refuses, Accepts};
+ghost use Rattle.oth_pool.specs.Solving.{IsSolvable, Refuses, Accepts};
 ghost use Rattle.oth_search.specs.Full.{IsFullMinimax};
 ghost use Rattle.oth_pieces.specs.Hands.{IsCrew};
 ghost use Rattle.oth_pieces.specs.Watch.{IsSeatOf};
@@ -22,7 +22,7 @@ use oth_search::{
     Answer, Cells, MOST_EMPTIES, Solved, before_pass, ended, known_below, known_of, order,
     solve_moves,
 };
-use oth_table::SharedTable;
+use oth_table::{SharedTable, is_size};
 use std::alloc::Global;
 use std::thread::Threads;
 use thiserror::Error;
@@ -69,7 +69,7 @@ pub fn solve<R: Threads + Sync, G: Gate>(
     if workers < 1 || workers > 16 {
         return Err(SolveError::Workers);
     }
-    if cells != 0 && !is_power(cells) {
+    if cells != 0 && !is_size(cells) {
         return Err(SolveError::Cells);
     }
     if let Some(answer) = answer_in(book, board, scoring) {
@@ -83,18 +83,6 @@ pub fn solve<R: Threads + Sync, G: Gate>(
         workers: crew(workers, empties),
     };
     Ok(answer(&means, &told, cells))
-}
-
-// Whether a table can have so many cells: 1, 2, 4 .. 262,144.
-fn is_power(cells: u32) -> bool
-    ensures { IsTrue result ↔ IsPower cells }
-{
-    for k in 0..19u32 {
-        if cells == 1 << k {
-            return true;
-        }
-    }
-    false
 }
 
 // So many of the workers as pay for a board with so many empty squares.
