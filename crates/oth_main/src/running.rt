@@ -4,13 +4,14 @@ ghost use Rattle.std.specs.Prelude.{◌≡◌, ◌↔◌, IsTrue, ℕ, List, [],
 ghost use Rattle.std.specs.Io.KnownBytes.{Appends, Consumes, IsAtEnd};
 ghost use Rattle.oth_table.specs.Sizes.{IsSizeOrNone};
 ghost use Rattle.oth_main.specs.Reply.{reply};
-ghost use Rattle.oth_main.specs.Run.{AreLawful, AreWorkers, FailsBy, IsPastTests, OnRefusal, RefusesBy};
+ghost use Rattle.oth_main.specs.Run.{AreLawful, FailsBy, IsPastTests, OnRefusal, RefusesBy};
 ghost use Rattle.oth_main.specs.Run.{Writes};
 
 use crate::engine::Engine;
 use crate::fault::RunFault;
 use crate::solver::Solver;
 use oth_book::Book;
+use oth_pieces::is_crew;
 use oth_pool::Gate;
 use oth_table::is_size;
 use oth_text::{Sink, Source};
@@ -51,7 +52,7 @@ pub fn run<T: Wait + Threads + Sync, R: Source, W: Sink, G: Gate>(
     ensures refused { RefusesBy settings.now.workers settings.now.cells result }
     ensures untouched { OnRefusal result ((reader.new ≡ reader.old) × (writer.new ≡ writer.old)) }
 {
-    if !are_workers(settings.workers) {
+    if !is_crew(settings.workers) {
         return Err(RunFault::Workers);
     }
     if !are_cells(settings.cells) {
@@ -64,13 +65,6 @@ pub fn run<T: Wait + Threads + Sync, R: Source, W: Sink, G: Gate>(
         book,
     };
     run_lines(&solver, reader, writer, settings)
-}
-
-/// Whether there can be so many workers.
-pub fn are_workers(workers: u8) -> bool
-    ensures { IsTrue result ↔ AreWorkers workers }
-{
-    (1..=16).contains(&workers)
 }
 
 /// Whether a table can have so many cells.

@@ -16,7 +16,7 @@ use crate::scene::{Plan, Scene};
 use crate::told::{answer_in, bounds_in};
 use crate::walk::Walk;
 use oth_book::Book;
-use oth_pieces::{Collector, Floor, Frontier, Reply};
+use oth_pieces::{Collector, Floor, Frontier, Reply, is_crew};
 use oth_rules::{Board, Scoring, Square};
 use oth_search::{
     Answer, Cells, MOST_EMPTIES, Solved, before_pass, ended, known_below, known_of, order,
@@ -66,7 +66,7 @@ pub fn solve<R: Threads + Sync, G: Gate>(
     if empties > MOST_EMPTIES {
         return Err(SolveError::TooManyEmpties(empties));
     }
-    if workers < 1 || workers > 16 {
+    if !is_crew(workers) {
         return Err(SolveError::Workers);
     }
     if cells != 0 && !is_size(cells) {
