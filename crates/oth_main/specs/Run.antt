@@ -1,11 +1,12 @@
 -- A run over an input.
 --     Writes reply result input written      what a run wrote of what it read, by how it ended
 --     FailsBy result reader writer      a device has failed exactly where the run says so
---     AreWorkers, AreCells      the numbers that are not refused
---     AreLawful settings      both numbers of the settings are such
+--     AreLawful settings      neither number of the settings is refused
 --     RefusesBy workers cells result      the workers are refused, else the cells, exactly where they are no lawful number
-use Rattle.std.specs.Prelude.{◌≡◌, ◌≤◌, ◌^◌, ◌⊎◌, ⊤, ℕ, Bool, true, false, List, [], Result, Ok, Err}
+use Rattle.std.specs.Prelude.{◌≡◌, ⊤, ℕ, Bool, true, false, List, [], Result, Ok, Err}
 use Rattle.oth_text.specs.Device.{IsBeginning}
+use Rattle.oth_pieces.specs.Hands.{IsCrew}
+use Rattle.oth_table.specs.Sizes.{IsSizeOrNone}
 use Rattle.oth_words.specs.declared.settings.Settings.{Settings}
 use Rattle.oth_main.specs.declared.fault.RunFault.{RunFault}
 use Rattle.oth_main.specs.declared.fault.RunFault.TheVariants.{Read, Write, Workers, Cells}
@@ -27,24 +28,17 @@ FailsBy (Err Cells) reader writer = (reader ≡ false) × (writer ≡ false)
 
 -- ---- the settings
 
-abbrev pub AreWorkers : ℕ → Type 0
-AreWorkers workers = (1 ≤ workers) × (workers ≤ 16)
-
--- no table, or a power of two
-abbrev pub AreCells : ℕ → Type 0
-AreCells cells = (cells ≡ 0) ⊎ ((k : ℕ) × (k ≤ 18) × (cells ≡ 2 ^ k))
-
--- both numbers of the settings are such
+-- 1 to 16 workers, and the size of a table or 0 for none
 pub record AreLawful (settings : Settings) : Type 0 where
-  pub workers : AreWorkers settings.workers
-  pub cells : AreCells settings.cells
+  pub workers : IsCrew settings.workers
+  pub cells : IsSizeOrNone settings.cells
 
 abbrev pub RefusesBy : ℕ → ℕ → Result (Unit {0}) RunFault → Type 0
-RefusesBy workers cells (Ok done) = AreWorkers workers × AreCells cells
-RefusesBy workers cells (Err Read) = AreWorkers workers × AreCells cells
-RefusesBy workers cells (Err Write) = AreWorkers workers × AreCells cells
-RefusesBy workers cells (Err Workers) = ¬ AreWorkers workers
-RefusesBy workers cells (Err Cells) = AreWorkers workers × (¬ AreCells cells)
+RefusesBy workers cells (Ok done) = IsCrew workers × IsSizeOrNone cells
+RefusesBy workers cells (Err Read) = IsCrew workers × IsSizeOrNone cells
+RefusesBy workers cells (Err Write) = IsCrew workers × IsSizeOrNone cells
+RefusesBy workers cells (Err Workers) = ¬ IsCrew workers
+RefusesBy workers cells (Err Cells) = IsCrew workers × (¬ IsSizeOrNone cells)
 
 -- a fact, where the settings are refused
 abbrev pub OnRefusal : Result (Unit {0}) RunFault → Type 0 → Type 0

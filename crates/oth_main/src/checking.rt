@@ -4,7 +4,8 @@ ghost use Rattle.std.specs.Prelude.{◌↔◌, IsOk};
 ghost use Rattle.oth_main.specs.Run.{AreLawful, RefusesBy};
 
 use crate::fault::RunFault;
-use crate::running::{are_cells, are_workers};
+use crate::running::are_cells;
+use oth_pieces::is_crew;
 use oth_words::Settings;
 
 /// Whether the numbers of workers and of cells are lawful: else the fault with which `run` refuses them.
@@ -12,7 +13,7 @@ pub fn check_settings(settings: &Settings) -> Result<(), RunFault>
     ensures lawful { IsOk result ↔ AreLawful settings.now }
     ensures refused { RefusesBy settings.now.workers settings.now.cells result }
 {
-    if !are_workers(settings.workers) {
+    if !is_crew(settings.workers) {
         return Err(RunFault::Workers);
     }
     if !are_cells(settings.cells) {

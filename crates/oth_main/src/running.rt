@@ -2,15 +2,18 @@
 
 ghost use Rattle.std.specs.Prelude.{◌≡◌, ◌↔◌, IsTrue, ℕ, List, [], false, true, OnOk};
 ghost use Rattle.std.specs.Io.KnownBytes.{Appends, Consumes, IsAtEnd};
+ghost use Rattle.oth_table.specs.Sizes.{IsSizeOrNone};
 ghost use Rattle.oth_main.specs.Reply.{reply};
-ghost use Rattle.oth_main.specs.Run.{AreCells, AreLawful, AreWorkers, FailsBy, IsPastTests, OnRefusal, RefusesBy};
+ghost use Rattle.oth_main.specs.Run.{AreLawful, FailsBy, IsPastTests, OnRefusal, RefusesBy};
 ghost use Rattle.oth_main.specs.Run.{Writes};
 
 use crate::engine::Engine;
 use crate::fault::RunFault;
 use crate::solver::Solver;
 use oth_book::Book;
+use oth_pieces::is_crew;
 use oth_pool::Gate;
+use oth_table::is_size;
 use oth_text::{Sink, Source};
 use oth_words::Settings;
 use std::alloc::Global;
@@ -49,7 +52,7 @@ pub fn run<T: Wait + Threads + Sync, R: Source, W: Sink, G: Gate>(
     ensures refused { RefusesBy settings.now.workers settings.now.cells result }
     ensures untouched { OnRefusal result ((reader.new ≡ reader.old) × (writer.new ≡ writer.old)) }
 {
-    if !are_workers(settings.workers) {
+    if !is_crew(settings.workers) {
         return Err(RunFault::Workers);
     }
     if !are_cells(settings.cells) {
@@ -64,26 +67,11 @@ pub fn run<T: Wait + Threads + Sync, R: Source, W: Sink, G: Gate>(
     run_lines(&solver, reader, writer, settings)
 }
 
-/// Whether there can be so many workers.
-pub fn are_workers(workers: u8) -> bool
-    ensures { IsTrue result ↔ AreWorkers workers }
-{
-    (1..=16).contains(&workers)
-}
-
 /// Whether a table can have so many cells.
 pub fn are_cells(cells: u32) -> bool
-    ensures { IsTrue result ↔ AreCells cells }
+    ensures { IsTrue result ↔ IsSizeOrNone cells }
 {
-    if cells == 0 {
-        return true;
-    }
-    for k in 0..19u32 {
-        if cells == 1 << k {
-            return true;
-        }
-    }
-    false
+    cells == 0 || is_size(cells)
 }
 
 // The run by settings that were tested.

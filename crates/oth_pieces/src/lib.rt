@@ -2,6 +2,7 @@
 #![tactic(auto)]
 
 mod collector;
+mod crew;
 pub mod floor;
 mod frontier;
 mod reply;
@@ -10,6 +11,7 @@ pub mod tasks;
 mod tests;
 
 pub use collector::Collector;
+pub use crew::is_crew;
 pub use floor::{Floor, FloorError, FloorSeat, Stranger};
 pub use frontier::{Frontier, Item, MOST_ITEMS, can_move};
 pub use reply::{Refusal, Reply};

@@ -1,17 +1,11 @@
 -- When a board is solved.
 --     Refuses p workers cells e      why it isn't solved: the first cause that holds
-use Rattle.std.specs.Prelude.{◌≡◌, ◌⊎◌, ℕ, ◌^◌, ◌<◌, ◌≤◌}
+use Rattle.std.specs.Prelude.{◌≡◌, ℕ, ◌<◌, ◌≤◌}
 use Rattle.oth_rules.specs.Position.{Position, empty_count}
 use Rattle.oth_pool.specs.declared.solving.SolveError.{SolveError}
 use Rattle.oth_pool.specs.declared.solving.SolveError.TheVariants.{TooManyEmpties, Workers, Cells}
+use Rattle.oth_table.specs.Sizes.{IsSizeOrNone}
 use Rattle.oth_pieces.specs.Hands.{IsCrew}
-
-abbrev pub IsPower : ℕ → Type 0
-IsPower cells = (k : ℕ) × (k ≤ 18) × (cells ≡ 2 ^ k)
-
--- no table, or one of a lawful size
-abbrev pub IsSize : ℕ → Type 0
-IsSize cells = (cells ≡ 0) ⊎ IsPower cells
 
 abbrev pub IsSolvable : Position → Type 0
 IsSolvable p = empty_count p ≤ 30
@@ -20,7 +14,7 @@ IsSolvable p = empty_count p ≤ 30
 abbrev pub Refuses : Position → ℕ → ℕ → SolveError → Type 0
 Refuses p workers cells (TooManyEmpties n) = (30 < empty_count p) × (n ≡ empty_count p)
 Refuses p workers cells Workers = IsSolvable p × ¬ IsCrew workers
-Refuses p workers cells Cells = IsSolvable p × IsCrew workers × ¬ IsSize cells
+Refuses p workers cells Cells = IsSolvable p × IsCrew workers × ¬ IsSizeOrNone cells
 
 abbrev pub Accepts : Position → ℕ → ℕ → Type 0
-Accepts p workers cells = IsSolvable p × IsCrew workers × IsSize cells
+Accepts p workers cells = IsSolvable p × IsCrew workers × IsSizeOrNone cells

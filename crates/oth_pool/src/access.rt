@@ -119,8 +119,8 @@ impl Memory {
         }
     }
 
-    // Makes the memory, if there is room for it. It stands apart since a memory takes 96 KB of the stack before it has its
-    // place, and the search calls itself.
+    // Makes the memory, if there is room for it. It stands apart, since a memory takes 96 KB of the stack before it has
+    // its place, and the search calls itself.
     #[cold]
     #[inline(never)]
     fn make(&mut self) {

@@ -1,8 +1,8 @@
 //! The whole search of a board.
-ghost use Rattle.std.specs.Prelude.{◌≡◌, ◌↔◌, ◌<◌, ◌≤◌, ◌≤ℤ◌, true, IsTrue, IfOk, IfErr, length};
+ghost use Rattle.std.specs.Prelude.{◌≡◌, ◌<◌, ◌≤◌, ◌≤ℤ◌, true, IfOk, IfErr, length};
 ghost use Rattle.oth_rules.specs.Position.{empty_count};
 ghost use Rattle.oth_rules.specs.Move.{can_move};
-ghost use Rattle.oth_pool.specs.Solving.{IsPower, IsSolvable, Refuses, Accepts};
+ghost use Rattle.oth_pool.specs.Solving.{IsSolvable, Refuses, Accepts};
 ghost use Rattle.oth_search.specs.Full.{IsFullMinimax};
 ghost use Rattle.oth_pieces.specs.Hands.{IsCrew};
 ghost use Rattle.oth_pieces.specs.Watch.{IsSeatOf};
@@ -16,13 +16,13 @@ use crate::scene::{Plan, Scene};
 use crate::told::{answer_in, bounds_in};
 use crate::walk::Walk;
 use oth_book::Book;
-use oth_pieces::{Collector, Floor, Frontier, Reply};
+use oth_pieces::{Collector, Floor, Frontier, Reply, is_crew};
 use oth_rules::{Board, Scoring, Square};
 use oth_search::{
     Answer, Cells, MOST_EMPTIES, Solved, before_pass, ended, known_below, known_of, order,
     solve_moves,
 };
-use oth_table::SharedTable;
+use oth_table::{SharedTable, is_size};
 use std::alloc::Global;
 use std::thread::Threads;
 use thiserror::Error;
@@ -66,10 +66,10 @@ pub fn solve<R: Threads + Sync, G: Gate>(
     if empties > MOST_EMPTIES {
         return Err(SolveError::TooManyEmpties(empties));
     }
-    if workers < 1 || workers > 16 {
+    if !is_crew(workers) {
         return Err(SolveError::Workers);
     }
-    if cells != 0 && !is_power(cells) {
+    if cells != 0 && !is_size(cells) {
         return Err(SolveError::Cells);
     }
     if let Some(answer) = answer_in(book, board, scoring) {
@@ -83,18 +83,6 @@ pub fn solve<R: Threads + Sync, G: Gate>(
         workers: crew(workers, empties),
     };
     Ok(answer(&means, &told, cells))
-}
-
-// Whether a table can have so many cells: 1, 2, 4 .. 262,144.
-fn is_power(cells: u32) -> bool
-    ensures { IsTrue result ↔ IsPower cells }
-{
-    for k in 0..19u32 {
-        if cells == 1 << k {
-            return true;
-        }
-    }
-    false
 }
 
 // So many of the workers as pay for a board with so many empty squares.

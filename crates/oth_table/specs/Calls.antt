@@ -22,7 +22,7 @@ use Rattle.oth_table.specs.declared.table.Put.{Put}
 use Rattle.oth_table.specs.declared.table.Put.TheVariants.{Stored, Skipped, Worn}
 use Rattle.oth_table.specs.declared.table.TableError.{TableError}
 use Rattle.oth_table.specs.declared.table.TableError.TheVariants.{Cells, Memory, Wear}
-use Rattle.oth_table.specs.Choices.{IsLawful}
+use Rattle.oth_table.specs.Sizes.{IsSize}
 use Rattle.oth_table.specs.Parts.{Shape, Sitting}
 
 abbrev pub IsWear : ℕ → Type 0
@@ -30,9 +30,9 @@ IsWear wear = (0 < wear) × (wear < 2 ^ 63)
 
 -- why a table is refused
 abbrev pub Refuses : ℕ → ℕ → TableError → Type 0
-Refuses cells wear Cells = ¬ IsLawful cells
-Refuses cells wear Wear = IsLawful cells × ¬ IsWear wear
-Refuses cells wear Memory = IsLawful cells × IsWear wear
+Refuses cells wear Cells = ¬ IsSize cells
+Refuses cells wear Wear = IsSize cells × ¬ IsWear wear
+Refuses cells wear Memory = IsSize cells × IsWear wear
 
 abbrev pub IsSeatOf : Shape → Sitting → Type 0
 IsSeatOf t s = (s.table ≡ t.id) × (s.terms ≡ t.terms)
@@ -40,7 +40,7 @@ IsSeatOf t s = (s.table ≡ t.id) × (s.terms ≡ t.terms)
 -- a new table, and a seat that has seen nothing
 abbrev pub Opens : ℕ → ℕ → Scoring → Shape → Sitting → Type 0
 Opens cells wear scoring t s =
-    IsLawful cells × IsWear wear × (t.cells ≡ cells) × (t.terms.wear ≡ wear) × (t.terms.scoring ≡ scoring)
+    IsSize cells × IsWear wear × (t.cells ≡ cells) × (t.terms.wear ≡ wear) × (t.terms.scoring ≡ scoring)
     × IsSeatOf t s × (s.name ≡ []) × (s.seen ≡ [])
 
 abbrev pub IsSame : Sitting → Sitting → Type 0

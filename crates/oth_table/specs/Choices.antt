@@ -4,15 +4,11 @@
 --     entry_in found p       the entry of the board p, if a look found it
 --     picks_second f g p     whether a store of p goes to the second cell, after the looks f and g at the first and the second
 --     picked_of cells f g p  the cell to which it goes
-use Rattle.std.specs.Prelude.{◌≡◌, ℕ, ◌+◌, ◌-◌, ◌*◌, ◌/◌, ◌%◌, ◌^◌, ◌≤◌, ◌==◌, ◌&&◌, Bool, true, false, if◌then◌else◌, nat_lt, Option, Some, None}
+use Rattle.std.specs.Prelude.{ℕ, ◌+◌, ◌-◌, ◌*◌, ◌/◌, ◌%◌, ◌^◌, ◌==◌, ◌&&◌, Bool, true, false, if◌then◌else◌, nat_lt, Option, Some, None}
 use Rattle.oth_rules.specs.Position.{Position, empty_count}
 use Rattle.oth_search.specs.Entries.{Bounded}
 use Rattle.oth_table.specs.declared.table.Look.{Look}
 use Rattle.oth_table.specs.declared.table.Look.TheVariants.{Empty, Whole, Busy}
-
--- 1, 2, 4 .. 262144
-abbrev pub IsLawful : ℕ → Type 0
-IsLawful cells = (k : ℕ) × (k ≤ 18) × (cells ≡ 2 ^ k)
 
 -- own * 9e3779b97f4a7c15 + opposing * c2b2ae3d27d4eb4f modulo 2^64, the factors in hexadecimal
 abbrev pub hash_of : Position → ℕ

@@ -6,3 +6,4 @@ pub mod Calls
 pub mod Alone
 pub mod Choices
 pub mod Pairs
+pub mod Sizes

@@ -1,7 +1,7 @@
 //! A table as a search uses it: two cells for each board.
 ghost use Rattle.std.specs.Prelude.{◌≡◌, ◌≢◌, ◌<◌, IfSome, None};
 ghost use Rattle.oth_rules.specs.Symmetry.{IsCanonical};
-ghost use Rattle.oth_table.specs.Choices.{IsLawful};
+ghost use Rattle.oth_table.specs.Sizes.{IsSize};
 ghost use Rattle.oth_table.specs.Calls.{IsSeatOf, IsFoundBy};
 ghost use Rattle.oth_table.specs.Pairs.{LooksAt, PutsAt, LooksBoth, LooksFor, PutsFor};
 ghost use Rattle.oth_table.specs.Parts.{fixed_of};
@@ -53,7 +53,7 @@ impl<'a> TableCells<'a> {
     // The number of the table's cells.
     fn count(&self) -> u32
         ensures count { result ≡ self.now.table.cells }
-        ensures lawful { IsLawful result }
+        ensures lawful { IsSize result }
         ensures some { 0 < result }
     {
         self.table.cells()

@@ -1,8 +1,9 @@
 //! The two cells of a board, and which of them takes a store.
 ghost use Rattle.std.specs.Prelude.{◌≡◌, ◌<◌};
 ghost use Rattle.oth_rules.specs.Symmetry.{IsCanonical};
-ghost use Rattle.oth_table.specs.Choices.{IsLawful, place_of, second_of, is_whole_of, entry_in, is_better};
+ghost use Rattle.oth_table.specs.Choices.{place_of, second_of, is_whole_of, entry_in, is_better};
 ghost use Rattle.oth_table.specs.Choices.{picks_second, picked_of};
+ghost use Rattle.oth_table.specs.Sizes.{IsSize};
 
 use crate::table::Look;
 use oth_rules::Board;
@@ -19,7 +20,7 @@ const OPPOSING_FACTOR: u64 = 0xc2b2_ae3d_27d4_eb4f;
 /// opposing * c2b2ae3d27d4eb4f` modulo 2^64, the factors in hexadecimal.
 pub fn place(board: &Board, cells: u32) -> u32
     requires canonical { IsCanonical board.now }
-    requires cells { IsLawful cells }
+    requires cells { IsSize cells }
     ensures place { result ≡ place_of board.now cells }
     ensures inside { result < cells }
 {
@@ -33,7 +34,7 @@ pub fn place(board: &Board, cells: u32) -> u32
 /// in a table of one cell. `cells` is 1, 2, 4 .. 262,144.
 pub fn second(board: &Board, cells: u32) -> u32
     requires canonical { IsCanonical board.now }
-    requires cells { IsLawful cells }
+    requires cells { IsSize cells }
     ensures place { result ≡ second_of board.now cells }
     ensures inside { result < cells }
 {
@@ -66,7 +67,7 @@ pub fn pick(first: &Look, second: &Look, board: &Board) -> bool
 /// The cell that takes a store of the board, below `cells`.
 pub(crate) fn picked(first: &Look, other: &Look, board: &Board, cells: u32) -> u32
     requires canonical { IsCanonical board.now }
-    requires cells { IsLawful cells }
+    requires cells { IsSize cells }
     ensures cell { result ≡ picked_of cells first.now other.now board.now }
     ensures inside { result < cells }
 {

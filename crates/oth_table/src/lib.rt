@@ -6,6 +6,7 @@ mod choice;
 mod history;
 mod laws;
 mod rule;
+mod size;
 mod table;
 #[cfg(test)]
 mod tests;
@@ -15,4 +16,5 @@ pub use choice::{pick, place, second};
 pub use history::{Event, Limits, Name, Stage, Terms, View, Why};
 pub use laws::{alone, published_within_the_wear};
 pub use rule::OneHistory;
+pub use size::is_size;
 pub use table::{Look, Put, SharedTable, TableError, TableSeat};

@@ -7,7 +7,7 @@ ghost use Rattle.oth_table.specs.History.{Ends, IsLegal, Since, publishes};
 ghost use Rattle.oth_table.specs.Steps.{glanced, read, checked, aimed, claimed, found_under, stored, published};
 ghost use Rattle.oth_table.specs.Steps.{IsSameSeat, IsReading, IsClaimed, Stays, Did, WentAway, Claims, WillKeep};
 ghost use Rattle.oth_table.specs.Steps.{MayReadClaimed, MayStore, MayPublish};
-ghost use Rattle.oth_table.specs.Choices.{IsLawful};
+ghost use Rattle.oth_table.specs.Sizes.{IsSize};
 ghost use Rattle.oth_table.specs.Calls.{IsWear, Refuses, Opens, IsSeatOf, IsSame, IsFoundBy, Looks, Puts, Makes, Meet};
 ghost use Rattle.oth_table.specs.declared.history.Stage.TheVariants.{Idle, Reading};
 ghost use Rattle.oth_table.specs.declared.table.TableError.TheVariants as refusal;
@@ -20,6 +20,7 @@ use crate::rule::{
     LoadWordUnderClaim, OneHistory, Publish, ReloadVersion, SeeAll, SeeTold, SendSeen, SplitSeat,
     StoreWordUnderClaim, TakeSeen,
 };
+use crate::size::is_size;
 use atomic_table::{Seat, Table};
 use oth_rules::Scoring;
 use oth_search::Entry;
@@ -50,7 +51,7 @@ pub struct SharedTable {
 impl Model for SharedTable {
     ghost use Rattle.std.specs.Prelude.{◌≡◌, ◌^◌, ◌<◌};
     ghost use Rattle.oth_table.specs.Cells.{first_word};
-    ghost use Rattle.oth_table.specs.Choices.{IsLawful};
+    ghost use Rattle.oth_table.specs.Sizes.{IsSize};
     ghost use Rattle.oth_table.specs.Parts.{Shape};
 
     ghost Value = { Shape };
@@ -60,7 +61,7 @@ impl Model for SharedTable {
     ghost invariant = { λ t.
         (t.table.shared.key ≡ record { cells = t.cells; terms = t.terms })
         × (t.table.shared.table_id.words ≡ first_word t.cells)
-        × (0 < t.cells) × IsLawful t.cells × (t.terms.wear < 2 ^ 63) };
+        × (0 < t.cells) × IsSize t.cells × (t.terms.wear < 2 ^ 63) };
 }
 
 /// A seat at one table, through which one thread at a time uses it. Between calls it holds no claim, so it may be
@@ -134,18 +135,6 @@ fn word_at(cell: u32, word: usize) -> usize
     WORDS_IN_FRONT + WORDS * cell as usize + word
 }
 
-// Whether there may be so many cells.
-fn is_lawful(cells: u32) -> bool
-    ensures { IsTrue result ↔ IsLawful cells }
-{
-    for k in 0..19u32 {
-        if cells == 1 << k {
-            return true;
-        }
-    }
-    false
-}
-
 impl SharedTable {
     /// An empty table of `cells` cells for entries by this scoring, and its first seat, which has seen nothing.
     /// `cells` is 1, 2, 4 .. 262,144; else refusal 1. Refusal 2 comes for want of memory. A cell may be published
@@ -172,7 +161,7 @@ impl SharedTable {
         ensures ok { IfOk result (λ t. Opens cells wear scoring t.0 t.1) }
         ensures err { IfErr result (Refuses cells wear) }
     {
-        if !is_lawful(cells) {
+        if !is_size(cells) {
             return Err(TableError::Cells);
         }
         if wear == 0 || wear > MOST_WEAR {
@@ -191,7 +180,7 @@ impl SharedTable {
         terms: Terms,
     ) -> Result<(SharedTable, TableSeat), AllocError>
         requires some { 0 < cells }
-        requires cells { IsLawful cells }
+        requires cells { IsSize cells }
         requires wear { IsWear terms.wear }
         ensures table { IfOk result (λ t. (t.0.cells ≡ cells) × (t.0.terms ≡ terms)) }
         ensures seat { IfOk result (λ t. IsSeatOf t.0 t.1 × (t.1.name ≡ []) × (t.1.seen ≡ [])) }
@@ -224,7 +213,7 @@ impl SharedTable {
     /// The number of its cells: 1, 2, 4 .. 262,144.
     pub fn cells(&self) -> u32
         ensures count { result ≡ self.now.cells }
-        ensures lawful { IsLawful result }
+        ensures lawful { IsSize result }
         ensures some { 0 < result }
     {
         self.cells
