@@ -5,7 +5,7 @@ use Rattle.std.specs.List.{All}
 use Rattle.std.proofs.lemmas.List.Elements.{All-push, All-nil}
 use Rattle.oth_table.specs.Parts.{Use, Sitting}
 use Rattle.oth_table.specs.Calls.{IsSame, Makes}
-use Rattle.oth_table.specs.History as tables
+use Rattle.oth_history.specs.History as histories
 use Rattle.oth_table.specs.declared.history.Event as table_events
 use Rattle.oth_pieces.specs.History.{events_of, Begins}
 use Rattle.oth_pieces.specs.Watch.{Watcher, IsMadeBy}
@@ -58,7 +58,7 @@ LendsTable-then (Some a) (Some b) None one two = two
 LendsTable-then (Some a) (Some b) (Some c) one two = LendsSeat-then a b c one two
 
 -- a further seat of the table is made
-pub begins_made : (s t new : Sitting) → Makes s t new → tables.Begins s.seen t.seen
+pub begins_made : (s t new : Sitting) → Makes s t new → histories.Begins s.seen t.seen
 begins_made s t new made =
     let e = made.ends in
     (table_events.TheVariants.Made s.name new.name ∷ e.since.0, e.last ∙ ap (λ l. table_events.TheVariants.Made s.name new.name ∷ l) e.since.1)

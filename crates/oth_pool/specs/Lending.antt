@@ -4,7 +4,7 @@
 use Rattle.std.specs.Prelude.{◌≡◌, List, ◌++◌, Option, Some, None, All}
 use Rattle.oth_table.specs.Parts.{Use}
 use Rattle.oth_table.specs.Calls.{IsSame}
-use Rattle.oth_table.specs.History as tables
+use Rattle.oth_history.specs.History as histories
 use Rattle.oth_pieces.specs.History.{events_of, Begins}
 use Rattle.oth_pieces.specs.Watch.{Watcher}
 use Rattle.oth_pieces.specs.declared.floor.event.Event.{Event}
@@ -22,7 +22,7 @@ pub record LendsFloor (old new : Watcher) : Type 0 where
 pub record LendsSeat (old new : Use) : Type 0 where
   pub table : new.table ≡ old.table
   pub seat : IsSame old.seat new.seat
-  pub begins : tables.Begins old.seat.seen new.seat.seen
+  pub begins : histories.Begins old.seat.seen new.seat.seen
 
 abbrev pub LendsTable : Option Use → Option Use → Type 0
 LendsTable None None = Unit {0}

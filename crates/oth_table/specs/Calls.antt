@@ -12,7 +12,8 @@ use Rattle.std.specs.Prelude.{◌≡◌, ℕ, ◌^◌, ◌<◌, List, [], Some, 
 use Rattle.oth_rules.specs.declared.scoring.Scoring.{Scoring}
 use Rattle.oth_search.specs.Entries.{Bounded}
 use Rattle.oth_table.specs.declared.history.Terms.{Terms}
-use Rattle.oth_table.specs.History.{Name, IsLegal, Since, HasNone, Ends, GoesAway}
+use Rattle.oth_history.specs.History.{Name}
+use Rattle.oth_table.specs.History.{IsLegal, Since, HasNone, Ends, GoesAway}
 use Rattle.oth_table.specs.declared.history.Event.{Event}
 use Rattle.oth_table.specs.declared.history.Event.TheVariants.{Claim, Publish, Look as looked, Away, Made}
 use Rattle.oth_table.specs.declared.history.Why as why
@@ -41,7 +42,7 @@ IsSeatOf t s = (s.table ≡ t.id) × (s.terms ≡ t.terms)
 abbrev pub Opens : ℕ → ℕ → Scoring → Shape → Sitting → Type 0
 Opens cells wear scoring t s =
     IsLawful cells × IsWear wear × (t.cells ≡ cells) × (t.terms.wear ≡ wear) × (t.terms.scoring ≡ scoring)
-    × IsSeatOf t s × (s.name ≡ []) × (s.seen ≡ [])
+    × IsSeatOf t s × (s.name ≡ 0) × (s.seen ≡ [])
 
 abbrev pub IsSame : Sitting → Sitting → Type 0
 IsSame s t = (t.table ≡ s.table) × (t.terms ≡ s.terms) × (t.name ≡ s.name)

@@ -188,7 +188,7 @@ impl SharedTable {
         requires cells { IsLawful cells }
         requires wear { IsWear terms.wear }
         ensures table { IfOk result (λ t. (t.0.cells ≡ cells) × (t.0.terms ≡ terms)) }
-        ensures seat { IfOk result (λ t. IsSeatOf t.0 t.1 × (t.1.name ≡ []) × (t.1.seen ≡ [])) }
+        ensures seat { IfOk result (λ t. IsSeatOf t.0 t.1 × (t.1.name ≡ 0) × (t.1.seen ≡ [])) }
     {
         let mark = Box::new(alloc, 0)?;
         let words = vec![in alloc; 0u64; WORDS * cells as usize]?;
