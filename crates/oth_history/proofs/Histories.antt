@@ -4,7 +4,7 @@ use Rattle.std.specs.Prelude.{Option, Some, None}
 use Rattle.std.proofs.lemmas.List.{append_cancel_right}
 use Rattle.std.proofs.lemmas.List.Elements.{filter-append}
 use Rattle.std.proofs.lemmas.Bool.Decides.{nat_tests}
-use Rattle.oth_history.specs.History.{Name, Begins, HasNone, Since, events_of, IsSeat, IsNew, WasMadeBy, IsLegal, Ends}
+use Rattle.oth_history.specs.History.{Name, Begins, HasNone, Since, events_of, IsSeat, IsUnmade, WasMadeBy, IsLegalBy, EndsBy}
 
 -- histories that begin others
 pub begins_itself : {E : Type 0} (h : List E) → Begins h h
@@ -141,10 +141,10 @@ module _ {E : Type 0} (author : E → Name) (makes : E → Option Name) where
 
 module _ {E : Type 0} (author : E → Name) (makes : E → Option Name) (Fits : List E → E → Type 0) where
   -- no two seats made the same
-  pub one_maker : (h : List E) (a b t : Name) → IsLegal author makes Fits h → WasMadeBy author makes h a t → WasMadeBy author makes h b t → a ≡ b
+  pub one_maker : (h : List E) (a b t : Name) → IsLegalBy author makes Fits h → WasMadeBy author makes h a t → WasMadeBy author makes h b t → a ≡ b
   one_maker [] a b t l p q = absurd p
   one_maker (e ∷ h) a b t l p q =
-      let new : makes e ≡ Some t → ¬ IsSeat makes h t = λ is. subst (IsNew makes h) is l.0.1 in
+      let new : makes e ≡ Some t → ¬ IsSeat makes h t = λ is. subst (IsUnmade makes h) is l.0.1 in
       ⊎_elim
       (λ (x : (author e ≡ a) × (makes e ≡ Some t)). ⊎_elim (λ (y : (author e ≡ b) × (makes e ≡ Some t)). sym x.0 ∙ y.0)
       (λ (y : WasMadeBy author makes h b t). absurd (new x.1 (made_is_seat author makes h b t y))) q)
@@ -152,15 +152,15 @@ module _ {E : Type 0} (author : E → Name) (makes : E → Option Name) (Fits : 
       (λ (y : WasMadeBy author makes h b t). one_maker h a b t l.2 x y) q)
       p
 
-  pub legal_past : (es h : List E) → IsLegal author makes Fits (es ++ h) → IsLegal author makes Fits h
+  pub legal_past : (es h : List E) → IsLegalBy author makes Fits (es ++ h) → IsLegalBy author makes Fits h
   legal_past [] h l = l
   legal_past (e ∷ es) h l = legal_past es h l.2
 
-  pub legal_begin : (earlier later : List E) → Begins earlier later → IsLegal author makes Fits later → IsLegal author makes Fits earlier
-  legal_begin earlier later b l = legal_past b.0 earlier (subst (IsLegal author makes Fits) b.1 l)
+  pub legal_begin : (earlier later : List E) → Begins earlier later → IsLegalBy author makes Fits later → IsLegalBy author makes Fits earlier
+  legal_begin earlier later b l = legal_past b.0 earlier (subst (IsLegalBy author makes Fits) b.1 l)
 
   -- whoever is no seat has done nothing
-  pub none_of : (h : List E) (s : Name) → IsLegal author makes Fits h → ¬ IsSeat makes h s → HasNone author s h
+  pub none_of : (h : List E) (s : Name) → IsLegalBy author makes Fits h → ¬ IsSeat makes h s → HasNone author s h
   none_of [] s l not_seat = tt
   none_of (e ∷ h) s l not_seat = (
     (λ same. not_seat (inr (subst (IsSeat makes h) same l.0.0))),
@@ -168,10 +168,10 @@ module _ {E : Type 0} (author : E → Name) (makes : E → Option Name) (Fits : 
   )
 
   -- a seat that is made has done nothing yet
-  pub new_idle : (e : E) (h : List E) (s : Name) → makes e ≡ Some s → IsLegal author makes Fits (e ∷ h) → HasNone author s (e ∷ h)
-  new_idle e h s is l = let new : ¬ IsSeat makes h s = subst (IsNew makes h) is l.0.1 in
+  pub new_idle : (e : E) (h : List E) (s : Name) → makes e ≡ Some s → IsLegalBy author makes Fits (e ∷ h) → HasNone author s (e ∷ h)
+  new_idle e h s is l = let new : ¬ IsSeat makes h s = subst (IsUnmade makes h) is l.0.1 in
       ((λ same. new (subst (IsSeat makes h) same l.0.0)), none_of h s l.2 new)
 
   -- an ending history begins with the earlier one
-  pub ends_begins : (s : Name) (earlier later : List E) (e : E) → Ends author makes Fits s earlier later e → Begins earlier later
+  pub ends_begins : (s : Name) (earlier later : List E) (e : E) → EndsBy author makes Fits s earlier later e → Begins earlier later
   ends_begins s earlier later e x = (e ∷ x.since.0, x.last ∙ ap (λ h. e ∷ h) x.since.1)

@@ -8,8 +8,8 @@
 --     IsSeat h s                s is the first seat, or was made
 --     MayCome h e               the event e is by a seat, and makes none that there is
 --     WasMadeBy h s t           the seat s made the seat t
---     IsLegal h                 each event may come after those before it, and fits them
---     Ends s earlier later e    later is legal and begins with earlier, and e is its last event and its one further event of s
+--     IsLegalBy Fits h          each event may come after those before it, and fits them
+--     EndsBy Fits s earlier later e      later is legal and begins with earlier, and e is its last event and its one further event of s
 use Rattle.std.specs.Prelude.{◌≡◌, ◌≢◌, ℕ, ◌==◌, ◌⊎◌, List, [], ◌∷◌, ◌++◌, filter, Option, Some, None}
 
 abbrev pub Name : Type 0
@@ -36,26 +36,26 @@ module _ {E : Type 0} (makes : E → Option Name) where
   IsSeat (e ∷ h) s = (makes e ≡ Some s) ⊎ IsSeat h s
 
   -- no seat is made twice
-  abbrev pub IsNew : List E → Option Name → Type 0
-  IsNew h None = Unit {0}
-  IsNew h (Some s) = ¬ IsSeat h s
+  abbrev pub IsUnmade : List E → Option Name → Type 0
+  IsUnmade h None = Unit {0}
+  IsUnmade h (Some s) = ¬ IsSeat h s
 
 module _ {E : Type 0} (author : E → Name) (makes : E → Option Name) where
   abbrev pub MayCome : List E → E → Type 0
-  MayCome h e = IsSeat makes h (author e) × IsNew makes h (makes e)
+  MayCome h e = IsSeat makes h (author e) × IsUnmade makes h (makes e)
 
   abbrev pub WasMadeBy : List E → Name → Name → Type 0
   WasMadeBy [] s t = ⊥
   WasMadeBy (e ∷ h) s t = ((author e ≡ s) × (makes e ≡ Some t)) ⊎ WasMadeBy h s t
 
   module _ (Fits : List E → E → Type 0) where
-    abbrev pub IsLegal : List E → Type 0
-    IsLegal [] = Unit {0}
-    IsLegal (e ∷ h) = MayCome h e × Fits h e × IsLegal h
+    abbrev pub IsLegalBy : List E → Type 0
+    IsLegalBy [] = Unit {0}
+    IsLegalBy (e ∷ h) = MayCome h e × Fits h e × IsLegalBy h
 
     -- the seat s had seen `earlier`. Now it has seen a legal history that begins with it and ends with e, which is the one further event of s
-    pub record Ends (s : Name) (earlier later : List E) (e : E) : Type 0 where
+    pub record EndsBy (s : Name) (earlier later : List E) (e : E) : Type 0 where
       pub before : List E
       pub since : Since author s earlier before
       pub last : later ≡ e ∷ before
-      pub legal : IsLegal later
+      pub legal : IsLegalBy later

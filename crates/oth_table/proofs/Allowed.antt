@@ -11,9 +11,9 @@ use Rattle.atomic_table.specs.Table.{Act, Valid, carried_after, step, keeps, ste
 use Rattle.atomic_table.proofs.Lists.{exchanged}
 use Rattle.oth_rules.specs.declared.scoring.Scoring.{Scoring}
 use Rattle.oth_search.specs.Entries.{Bounded, words_of, joined}
-use Rattle.oth_history.specs.History.{IsNew}
+use Rattle.oth_history.specs.History.{IsUnmade, IsSeat}
 use Rattle.oth_history.proofs.Histories.{seat_past, begins_more}
-use Rattle.oth_table.specs.History.{IsTrueBy, author, makes, content, owner, publishes, IsSeat, Fits, IsLegal, Ends}
+use Rattle.oth_table.specs.History.{IsTrueBy, author, makes, content, owner, publishes, Fits, IsLegal, Ends}
 use Rattle.oth_table.specs.Cells.{version, word, held, HasWords, IsSeated, Knows, IsFit, IsKept}
 use Rattle.oth_table.specs.Steps.{Sat, Did, WentAway, IsReading, IsOld, Claims, MayReadClaimed, MayStore, MayPublish, glanced, read, checked, aimed, found_under, stored, published, glance, read_word, check, aim, claim, read_under, store_word, publish}
 use Rattle.oth_table.specs.declared.history.Why.{Why}
@@ -57,14 +57,14 @@ module _ (about : Limits) (s : St) (r : IsKept about s) (id : ℕ) (v : View) (a
       unmoved i cs w (kept about s r id v w at seated sits refl [] s.words (rests about s r v.name) (still_fits s.words (set s.views id w) st (k (set s.views id w))))
 
   -- a load that adds an event other than a claim and a publish
-  pub adds : (i : ℕ) (cs : List (ℕ × Bounded)) (e : Event) (st : Stage) → author e ≡ v.name → IsNew makes r.log (makes e) → IsQuiet e r.log → Fits about.terms r.log e → IsSeated st
+  pub adds : (i : ℕ) (cs : List (ℕ × Bounded)) (e : Event) (st : Stage) → author e ≡ v.name → IsUnmade makes r.log (makes e) → IsQuiet e r.log → Fits about.terms r.log e → IsSeated st
       → Knows (e ∷ r.log) s.words (set s.views id (went v (e ∷ r.log) st)) (went v (e ∷ r.log) st) st → IsKept about (stepped s i (get_or s.words i 0) id cs (went v (e ∷ r.log) st) keeps)
-  adds i cs e st mine new q fits sits k = let w = went v (e ∷ r.log) st in let seat = subst (IsSeat r.log) (sym mine) (fit.seat seated) in
+  adds i cs e st mine new q fits sits k = let w = went v (e ∷ r.log) st in let seat = subst (IsSeat makes r.log) (sym mine) (fit.seat seated) in
       let g = subst (λ n. Goes about r.log s.words n (e ∷ []) s.words) mine (tells about s r e q (seat, new) fits) in
       unmoved i cs w (kept about s r id v w at seated sits refl (e ∷ []) s.words g (ended_fits e s.words (set s.views id w) st k))
 
-  pub ends : (e : Event) → author e ≡ v.name → IsNew makes r.log (makes e) → Fits about.terms r.log e → Ends v.terms v.name v.seen (e ∷ r.log) e
-  ends e mine new fits = let seat = subst (IsSeat r.log) (sym mine) (fit.seat seated) in
+  pub ends : (e : Event) → author e ≡ v.name → IsUnmade makes r.log (makes e) → Fits about.terms r.log e → Ends v.terms v.name v.seen (e ∷ r.log) e
+  ends e mine new fits = let seat = subst (IsSeat makes r.log) (sym mine) (fit.seat seated) in
       record { before = r.log; since = fit.seen seated; last = refl; legal = subst (λ k. IsLegal k (e ∷ r.log)) (sym (fit.worn seated)) ((seat, new), fits, r.legal) }
 
   -- the seat's scoring is the table's
@@ -74,7 +74,7 @@ module _ (about : Limits) (s : St) (r : IsKept about s) (id : ℕ) (v : View) (a
   pub its_truth : (x : Bounded) → IsTrueBy v.terms.scoring x → IsTrueBy about.terms.scoring x
   its_truth x t = subst (λ z. IsTrueBy z.scoring x) (fit.worn seated) t
 
-  did : (e : Event) → author e ≡ v.name → IsNew makes r.log (makes e) → Fits about.terms r.log e → Did v (went v (e ∷ r.log) Idle) e
+  did : (e : Event) → author e ≡ v.name → IsUnmade makes r.log (makes e) → Fits about.terms r.log e → Did v (went v (e ∷ r.log) Idle) e
   did e mine new fits = ((refl, refl), refl, ends e mine new fits)
 
   seen_count : (c : ℕ) → publishes c v.seen ≤ publishes c r.log

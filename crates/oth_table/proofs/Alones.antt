@@ -2,8 +2,8 @@
 use Rattle.std.proofs.Common.{◌≡◌, ◌≢◌, inl, inr, ⊎_elim, ℕ, List, [], ◌∷◌, ◌++◌, sym, refl, ap, ◌∙◌, subst, arith}
 use Rattle.std.specs.Prelude.{Some, None, if◌then◌else◌}
 use Rattle.oth_table.specs.declared.history.Terms.{Terms}
-use Rattle.oth_history.specs.History.{Name}
-use Rattle.oth_table.specs.History.{author, owner, claims, IsSeat, IsLegal, HasNone, Ends, GoesAway}
+use Rattle.oth_history.specs.History.{Name, IsSeat, HasNone}
+use Rattle.oth_table.specs.History.{makes, author, owner, claims, IsLegal, Ends, GoesAway}
 use Rattle.oth_table.specs.Cells.{held}
 use Rattle.oth_table.specs.Alone.{IsOwn, IsAlone, IsUsedAlone, LooksAlone, PutsAlone, CountsAlone, SearchesAlone, StoresAlone}
 use Rattle.oth_rules.specs.Position.{Position}
@@ -21,19 +21,19 @@ use Rattle.oth_table.specs.declared.table.Look.TheVariants.{Empty, Whole, Busy}
 use Rattle.oth_table.specs.declared.table.Put.TheVariants.{Stored, Skipped, Worn}
 use Rattle.oth_table.proofs.Histories.{tested, claims_are}
 
-only_first : (h : List Event) (s : Name) → IsOwn h → IsSeat h s → s ≡ 0
+only_first : (h : List Event) (s : Name) → IsOwn h → IsSeat makes h s → s ≡ 0
 only_first [] s own seat = seat
-only_first (Claim t d ∷ h) s own seat = ⊎_elim (λ (none_is : None ≡ Some s). absurd (cc)) (λ (there : IsSeat h s). only_first h s own.1 there) seat
-only_first (Publish t d given kept ∷ h) s own seat = ⊎_elim (λ (none_is : None ≡ Some s). absurd (cc)) (λ (there : IsSeat h s). only_first h s own.1 there) seat
-only_first (looked t d x ∷ h) s own seat = ⊎_elim (λ (none_is : None ≡ Some s). absurd (cc)) (λ (there : IsSeat h s). only_first h s own.1 there) seat
-only_first (Away t d why ∷ h) s own seat = ⊎_elim (λ (none_is : None ≡ Some s). absurd (cc)) (λ (there : IsSeat h s). only_first h s own.1 there) seat
+only_first (Claim t d ∷ h) s own seat = ⊎_elim (λ (none_is : None ≡ Some s). absurd (cc)) (λ (there : IsSeat makes h s). only_first h s own.1 there) seat
+only_first (Publish t d given kept ∷ h) s own seat = ⊎_elim (λ (none_is : None ≡ Some s). absurd (cc)) (λ (there : IsSeat makes h s). only_first h s own.1 there) seat
+only_first (looked t d x ∷ h) s own seat = ⊎_elim (λ (none_is : None ≡ Some s). absurd (cc)) (λ (there : IsSeat makes h s). only_first h s own.1 there) seat
+only_first (Away t d why ∷ h) s own seat = ⊎_elim (λ (none_is : None ≡ Some s). absurd (cc)) (λ (there : IsSeat makes h s). only_first h s own.1 there) seat
 only_first (Made t u ∷ h) s own seat = absurd own
 
 -- nobody else does anything
-nothing_between : (terms : Terms) (es h : List Event) → IsOwn h → IsLegal terms (es ++ h) → HasNone 0 es → es ≡ []
+nothing_between : (terms : Terms) (es h : List Event) → IsOwn h → IsLegal terms (es ++ h) → HasNone author 0 es → es ≡ []
 nothing_between terms [] h own l none_of_it = refl
 nothing_between terms (e ∷ es) h own l none_of_it = let rest = nothing_between terms es h own l.2 none_of_it.1 in
-    absurd (none_of_it.0 (only_first h (author e) own (subst (λ z. IsSeat (z ++ h) (author e)) rest l.0.0)))
+    absurd (none_of_it.0 (only_first h (author e) own (subst (λ z. IsSeat makes (z ++ h) (author e)) rest l.0.0)))
 
 -- so the history before the call's event is the one that was seen
 same_before : (terms : Terms) (earlier later : List Event) (e : Event) → IsOwn earlier → (x : Ends terms 0 earlier later e) → later ≡ e ∷ earlier

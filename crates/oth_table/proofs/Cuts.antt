@@ -4,9 +4,9 @@ use mathlib.Core.Option.{some, some-injective, some-ne-none}
 use lib.ListN.{get_elem?}
 use Rattle.atomic_table.specs.Table.{Splits, Joins}
 use Rattle.atomic_table.proofs.Lists.{at_set, set_again, set_else, at_longer}
-use Rattle.oth_history.specs.History.{Name, Begins, WasMadeBy}
+use Rattle.oth_history.specs.History.{Name, Begins, WasMadeBy, HasNone}
 use Rattle.oth_history.proofs.Histories.{none_left, made_is_seat, one_maker}
-use Rattle.oth_table.specs.History.{author, makes, Fits, HasNone}
+use Rattle.oth_table.specs.History.{author, makes, Fits}
 use Rattle.oth_table.specs.Cells.{IsSeated, IsNew, Knows, IsFit, IsKept, note_of, new_seat, resting, hearing}
 use Rattle.oth_table.specs.declared.history.Limits.{Limits}
 use Rattle.oth_table.specs.declared.history.Stage.{Stage}
@@ -79,7 +79,7 @@ cuts about id v q is s r at =
       worn = λ _. f.worn seated;
       told = (r.log, sym (append-nil r.log));
       seat = λ _. made_is_seat author makes r.log v.name q known.0;
-      seen = λ _. (seen.0, seen.1, none_left author q seen.0 v.seen (subst (HasNone q) seen.1 (r.heard q known.1)));
+      seen = λ _. (seen.0, seen.1, none_left author q seen.0 v.seen (subst (HasNone author q) seen.1 (r.heard q known.1)));
       knows = tt;
     })
 

@@ -8,9 +8,9 @@ use lib.ListN.{get_elem?}
 use Rattle.atomic_table.specs.Table.{State}
 use Rattle.atomic_table.proofs.Lists.{at_set, set_else}
 use Rattle.oth_search.specs.Entries.{Bounded}
-use Rattle.oth_history.specs.History.{Name}
+use Rattle.oth_history.specs.History.{Name, HasNone}
 use Rattle.oth_history.proofs.Histories.{none_append, seat_past, made_past, since_more, begins_more}
-use Rattle.oth_table.specs.History.{author, makes, content, owner, publishes, IsLegal, HasNone}
+use Rattle.oth_table.specs.History.{author, makes, content, owner, publishes, IsLegal}
 use Rattle.oth_table.specs.Cells.{version, word, held, HasWords, IsSeated, IsNew, Knows, IsFit, IsKept}
 use Rattle.oth_table.specs.declared.history.Event.{Event}
 use Rattle.oth_table.specs.declared.history.Limits.{Limits}
@@ -37,7 +37,7 @@ at_here (x ∷ xs) (suc i) v w e = at_here xs i v w e
 pub record Goes (about : Limits) (log : List Event) (ws : List ℕ) (n : Name) (es : List Event) (ws' : List ℕ) : Type 0 where
   pub legal : IsLegal about.terms (es ++ log)
   pub wide : length ws' ≡ length ws
-  pub alone : (m : Name) → m ≢ n → HasNone m es
+  pub alone : (m : Name) → m ≢ n → HasNone author m es
   pub counted : (c : ℕ) → version ws' c ≡ 2 * publishes c (es ++ log) + held (owner c (es ++ log))
   pub stored : (c : ℕ) (x : Bounded) → owner c (es ++ log) ≡ None → content c (es ++ log) ≡ Some x → HasWords ws' c 0 3 x
   pub grows : (c : ℕ) → version ws c ≤ version ws' c
@@ -94,7 +94,7 @@ module _ (about : Limits) (s : St) (r : IsKept about s) (id : ℕ) (v w : View) 
       (λ is. let same : v ≡ y = some-injective v y (sym at ∙ (ap (λ k. get_elem? s.views k) (sym is) ∙ e)) in λ named. new id w here sits (still ∙ (ap (λ (z : View). z.name) same ∙ named)))
       (λ other. new j y (set_else s.views id j w other ∙ e) sy)
 
-  pub heard_of : (t : Name) → IsNew (set s.views id w) t → HasNone t (es ++ r.log)
+  pub heard_of : (t : Name) → IsNew (set s.views id w) t → HasNone author t (es ++ r.log)
   heard_of t new = none_append author t es r.log (g.alone t (λ is. new id w here sits (still ∙ sym is))) (r.heard t (new_before t new))
 
   abbrev pub kept : IsFit (es ++ r.log) ws' (set s.views id w) about.terms w → IsKept about (turned s ws' id w)

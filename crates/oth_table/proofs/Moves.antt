@@ -4,8 +4,8 @@ use Rattle.std.specs.Prelude.{Option, Some, None, slice_index, if◌then◌else�
 use mathlib.Core.Logic.{dite}
 use native.Mathlib.Decide.{ℕ_discrete}
 use Rattle.oth_search.specs.Entries.{Bounded, words_of, joined}
-use Rattle.oth_history.specs.History.{Name, MayCome}
-use Rattle.oth_table.specs.History.{IsTrueBy, author, makes, content, owner, publishes, IsSeat, Fits}
+use Rattle.oth_history.specs.History.{Name, MayCome, IsSeat}
+use Rattle.oth_table.specs.History.{IsTrueBy, author, makes, content, owner, publishes, Fits}
 use Rattle.oth_table.specs.Cells.{version, word, held, HasWords, IsKept}
 use Rattle.oth_table.specs.declared.history.Event.{Event}
 use Rattle.oth_table.specs.declared.history.Event.TheVariants.{Claim, Publish}
@@ -63,7 +63,7 @@ module _ (about : Limits) (s : St) (r : IsKept about s) where
     same_word d j l = get_or-set_other s.words (4 * c) (4 * d + (1 + j)) x 0 (λ e. absurd (omega arith))
 
   module _ (n : Name) (c : ℕ) (inside : 4 * c < length s.words) where
-    pub claims_it : owner c r.log ≡ None → publishes c r.log < about.terms.wear → IsSeat r.log n
+    pub claims_it : owner c r.log ≡ None → publishes c r.log < about.terms.wear → IsSeat makes r.log n
         → Goes about r.log s.words n (Claim n c ∷ []) (set s.words (4 * c) (version s.words c + 1))
     claims_it free fresh seat = let v : ℕ = version s.words c + 1 in record {
       legal = ((seat, tt), (free, fresh), r.legal);
@@ -88,7 +88,7 @@ module _ (about : Limits) (s : St) (r : IsKept about s) where
           ));
     }
 
-    pub publishes_it : (given : Bounded) (kept : Bounded) → owner c r.log ≡ Some n → kept ≡ joined (content c r.log) given → IsTrueBy about.terms.scoring given → IsTrueBy about.terms.scoring kept → IsSeat r.log n
+    pub publishes_it : (given : Bounded) (kept : Bounded) → owner c r.log ≡ Some n → kept ≡ joined (content c r.log) given → IsTrueBy about.terms.scoring given → IsTrueBy about.terms.scoring kept → IsSeat makes r.log n
         → HasWords s.words c 0 3 kept → Goes about r.log s.words n (Publish n c given kept ∷ []) (set s.words (4 * c) (version s.words c + 1))
     publishes_it given kept mine joins true_given true_kept seat words = let v : ℕ = version s.words c + 1 in record {
       legal = ((seat, tt), (mine, joins, true_given, true_kept), r.legal);

@@ -5,7 +5,8 @@
 use Rattle.std.specs.Prelude.{◌≡◌, ◌≢◌, ℕ, List, [], ◌∷◌, Option, None}
 use Rattle.oth_rules.specs.Position.{Position}
 use Rattle.oth_table.specs.declared.history.Terms.{Terms}
-use Rattle.oth_table.specs.History.{owner, author, IsLegal, Since}
+use Rattle.oth_history.specs.History.{Since}
+use Rattle.oth_table.specs.History.{owner, author, IsLegal}
 use Rattle.oth_table.specs.Calls.{Looks, Puts}
 use Rattle.oth_table.specs.Pairs.{LooksFor, PutsFor}
 use Rattle.oth_table.specs.Parts.{Use}
@@ -39,7 +40,7 @@ PutsAlone = (terms : Terms) (c : ℕ) (earlier later : List Event) (given : Boun
 -- a seat that is alone and asks how often a cell was published sees nothing new
 abbrev pub CountsAlone : Type 0
 CountsAlone = (terms : Terms) (earlier later : List Event)
-    → IsAlone earlier → IsLegal terms later → Since 0 earlier later → IsAlone later
+    → IsAlone earlier → IsLegal terms later → Since author 0 earlier later → IsAlone later
 
 -- the cells of a search, used by the first seat, which is alone
 pub record IsUsedAlone (u : Use) : Type 0 where

@@ -6,8 +6,7 @@
 --     Fits terms h e      the event e fits the history h: what is said of the cell is so, and entries are true
 --     GoesAway            the history ends with an answer that did nothing, since another seat had the cell
 use Rattle.std.specs.Prelude.{◌≡◌, ℕ, ◌+◌, ◌<◌, ◌==◌, if◌then◌else◌, List, [], ◌∷◌, Option, Some, None}
-use Rattle.oth_history.specs.History as histories
-use Rattle.oth_history.specs.History.{Name}
+use Rattle.oth_history.specs.History.{Name, IsLegalBy, EndsBy}
 use Rattle.oth_rules.specs.declared.scoring.Scoring.{Scoring}
 use Rattle.oth_search.specs.Entries.{Bounded, IsTrueEntry, joined}
 use Rattle.oth_table.specs.declared.history.Terms.{Terms}
@@ -32,15 +31,6 @@ author (Made s t) = s
 abbrev pub makes : Event → Option Name
 makes (Made s t) = Some t
 makes e = None
-
-abbrev pub IsSeat : List Event → Name → Type 0
-IsSeat = histories.IsSeat makes
-
-abbrev pub HasNone : Name → List Event → Type 0
-HasNone = histories.HasNone author
-
-abbrev pub Since : Name → List Event → List Event → Type 0
-Since = histories.Since author
 
 -- what the last publish of the cell kept
 abbrev pub content : ℕ → List Event → Option Bounded
@@ -74,10 +64,10 @@ Fits terms h (Away s c why) = why ≡ Worn → publishes c h ≡ terms.wear
 Fits terms h (Made s t) = Unit {0}
 
 abbrev pub IsLegal : Terms → List Event → Type 0
-IsLegal terms = histories.IsLegal author makes (Fits terms)
+IsLegal terms = IsLegalBy author makes (Fits terms)
 
 abbrev pub Ends : Terms → Name → List Event → List Event → Event → Type 0
-Ends terms = histories.Ends author makes (Fits terms)
+Ends terms = EndsBy author makes (Fits terms)
 
 -- the same, where another seat has the cell or has taken it since
 abbrev pub GoesAway : Terms → Name → ℕ → Why → List Event → List Event → Type 0

@@ -11,8 +11,8 @@ use mathlib.Core.Option.{some}
 use Rattle.atomic_table.specs.Table.{Step, Me}
 use Rattle.oth_rules.specs.declared.scoring.Scoring.{Scoring}
 use Rattle.oth_search.specs.Entries.{Bounded, words_of, joined}
-use Rattle.oth_history.specs.History.{Name, Begins}
-use Rattle.oth_table.specs.History.{IsTrueBy, publishes, IsLegal, Since, Ends, GoesAway}
+use Rattle.oth_history.specs.History.{Name, Begins, Since}
+use Rattle.oth_table.specs.History.{author, IsTrueBy, publishes, IsLegal, Ends, GoesAway}
 use Rattle.oth_table.specs.declared.history.Why.{Why}
 use Rattle.oth_table.specs.declared.history.Why.TheVariants.{Busy, Skipped, Worn}
 use Rattle.oth_table.specs.declared.history.Event.{Event}
@@ -114,7 +114,7 @@ made v w = IsSameSeat v w × ((name : Name) × (w.stage ≡ Making name) × Ends
 
 -- the seat has seen more, and has done nothing since
 abbrev pub Sees : View → View → Type 0
-Sees v w = IsSameSeat v w × (w.stage ≡ Idle) × IsLegal v.terms w.seen × Since v.name v.seen w.seen
+Sees v w = IsSameSeat v w × (w.stage ≡ Idle) × IsLegal v.terms w.seen × Since author v.name v.seen w.seen
 
 abbrev pub caught_up : View → View → Type 0
 caught_up v w = Sees v w × Begins v.told w.seen

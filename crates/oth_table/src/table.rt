@@ -2,7 +2,8 @@
 ghost use Rattle.std.specs.Prelude.{◌≡◌, ℕ, MatchBool, Option, ◌+◌, ◌*◌, ◌/◌, ◌%◌, ◌^◌, ◌<◌, ◌≤◌, List, [], Some, IfOk};
 ghost use Rattle.std.specs.Prelude.{IfErr, IsTrue, ◌↔◌, ◌-◌};
 ghost use Rattle.oth_search.specs.Entries.{Bounded, joined, words_of};
-ghost use Rattle.oth_table.specs.History.{Ends, IsLegal, Since, publishes};
+ghost use Rattle.oth_history.specs.History.{Since};
+ghost use Rattle.oth_table.specs.History.{author, Ends, IsLegal, publishes};
 ghost use Rattle.oth_table.specs.Steps.{glanced, read, checked, aimed, claimed, found_under, stored, published};
 ghost use Rattle.oth_table.specs.Steps.{IsSameSeat, IsReading, IsClaimed, Stays, Did, WentAway, Claims, WillKeep};
 ghost use Rattle.oth_table.specs.Steps.{MayReadClaimed, MayStore, MayPublish};
@@ -280,7 +281,8 @@ impl SharedTable {
         requires seat { IsSeatOf self.now seat.old }
         requires cell { cell < self.now.cells }
         ensures seat { IsSame seat.old seat.new }
-        ensures history { IsLegal seat.old.terms seat.new.seen × Since seat.old.name seat.old.seen seat.new.seen }
+        ensures history { IsLegal seat.old.terms seat.new.seen
+            × Since author seat.old.name seat.old.seen seat.new.seen }
         ensures count { publishes cell seat.new.seen ≡ result }
     {
         self.table
