@@ -1,5 +1,5 @@
 -- Each step of a floor keeps its rule.
-use Rattle.std.proofs.Common.{◌≡◌, ◌≢◌, ℕ, zero, suc, ◌≤◌, max, ℤ, pos, ◌-ℤ◌, ◌≤ℤ◌, true, false, true≢false, ◌==◌, ◌⊎◌, List, [], ◌∷◌, ◌++◌, length, Option, Some, None, unwrap_or, IsTrue, slice_index, slice_set, if◌then◌else◌, append-nil, sym, refl, ap, ◌∙◌, subst, ⊎_elim, inl, inr, arith, set}
+use Rattle.std.proofs.Common.{◌≡◌, ◌≢◌, ℕ, zero, suc, ◌≤◌, max, ℤ, pos, ◌-ℤ◌, ◌≤ℤ◌, true, false, true≢false, ◌==◌, ◌⊎◌, List, [], ◌∷◌, ◌++◌, length, Option, Some, None, unwrap_or, slice_index, slice_set, if◌then◌else◌, sym, refl, ap, ◌∙◌, subst, ⊎_elim, inl, inr, arith, set}
 use mathlib.Core.Option.{some, none, some-injective, some-ne-none}
 use lib.ListN.{get_elem?}
 use Rattle.std.specs.Int.{int_max}
@@ -7,6 +7,8 @@ use Rattle.std.proofs.lemmas.Int.{ints, clamps}
 use Rattle.std.proofs.lemmas.Bool.Decides.{nat_tests}
 use Rattle.atomic_table.specs.Table.{State, step, keeps, stepped, opening, Allows, Splits, Joins}
 use Rattle.atomic_table.proofs.Lists.{at_set}
+use Rattle.oth_history.specs.History.{Name, Begins, IsUnmade, IsSeat, Since}
+use Rattle.oth_history.proofs.Histories.{begins_itself, begins_empty, begins_more, since_itself, since_more, since_between, fresh, is_fresh, legal_begin, new_idle}
 use Rattle.oth_rules.specs.declared.scoring.Scoring.{Scoring}
 use Rattle.oth_rules.specs.Position.{Position}
 use Rattle.oth_rules.specs.Score.{score_of}
@@ -16,11 +18,11 @@ use Rattle.oth_pieces.specs.declared.floor.root.Root.{Root}
 use Rattle.oth_pieces.specs.declared.floor.event.Event.{Event}
 use Rattle.oth_pieces.specs.declared.floor.event.Event.TheVariants.{Raise, Made}
 use Rattle.oth_pieces.specs.declared.floor.view.View.{View}
-use Rattle.oth_pieces.specs.History.{floor_after, author, events_of, is_among, made_in, root_value, MayCome, IsLegal, Begins}
-use Rattle.oth_pieces.specs.Floor.{Has, Knows, IsKept, newcomer, code_of, Adds, Looked, Raised, Named, longer, Learned, parent_of, child_of, silent, messenger_of, told_by, spent}
-use Rattle.oth_pieces.proofs.Histories.{floor_after-true, floor_after-raise, floor_after-made, made_after-append, IsLegalFrom-snoc, IsLegal-begin, is_among-more, fresh, is_among-fresh, events_of-unmade, events_of-snoc, events_of-snoc_other, begins_all, begins_more, events_of-between, longer_begins}
+use Rattle.oth_pieces.specs.History.{floor_after, author, makes, root_value, Fits, IsLegal}
+use Rattle.oth_pieces.specs.Floor.{Has, Knows, IsKept, newcomer, code_of, Did, Looked, Raised, Named, longer, Learned, parent_of, child_of, silent, messenger_of, told_by, spent}
+use Rattle.oth_pieces.proofs.Histories.{floor_after-true, longer_begins}
 
-abbrev Each : Root → List Event → (ℕ → ℕ) → List View → Type 0
+abbrev Each : Root → List Event → (Name → ℕ) → List View → Type 0
 Each root log owner views = (seat : ℕ) (v : View) → get_elem? views seat ≡ some v → Knows root log owner seat v
 
 each_set : (F : ℕ → View → Type 0) (views : List View) (seat : ℕ) (w : View) → F seat w
@@ -38,9 +40,6 @@ at_snoc_cases (x ∷ xs) a b (suc j) e = ⊎_elim (λ h. inl h) (λ (h : (j ≡ 
 no_some : (n : ℕ) → (o : Option ℕ) → o ≡ None → o ≡ Some n → ⊥
 no_some n o is e = cc
 
-here : (name : ℕ) → 0 ≡ name → is_among name (0 ∷ []) ≡ true
-here name e = grind (arith, nat_tests)
-
 higher : (k third : ℕ) → int_max (pos k -ℤ pos 64) (pos third -ℤ pos 64) ≡ pos (max third k) -ℤ pos 64
 higher k third = omega (arith, ints, clamps)
 
@@ -54,7 +53,7 @@ begins_each root zero v e = let is : newcomer root ≡ v = some-injective _ _ e 
   seen = ([], refl);
   told = ([], refl);
   apart = λ _ none_is. no_some 0 None refl none_is;
-  names = λ name has. (refl, ⊎_elim (λ (h : (true ≡ true) × (0 ≡ name)). here name h.1) (λ (h : None ≡ Some name). absurd (no_some name None refl h)) has, refl);
+  names = λ name has. (refl, ⊎_elim (λ (h : (true ≡ true) × (0 ≡ name)). sym h.1) (λ (h : None ≡ Some name). absurd (no_some name None refl h)) has, since_itself author name []);
 }
 begins_each root (suc j) v e = absurd (some-ne-none v (sym e))
 
@@ -94,12 +93,15 @@ module _ (root : Root) (s : State ℕ View) (kept : IsKept root s) (seat : ℕ) 
   }
 
   -- an event of this seat joins the history
-  module _ (live : v.live ≡ true) (e : Event) (is_mine : author e ≡ v.name) (may : MayCome root (made_in kept.log) e) where
-    legal' : IsLegal root (kept.log ++ e ∷ [])
-    legal' = IsLegalFrom-snoc root (0 ∷ []) kept.log e kept.legal may
+  module _ (live : v.live ≡ true) (e : Event) (is_mine : author e ≡ v.name) (new : IsUnmade makes kept.log (makes e)) (fits : Fits root kept.log e) where
+    own : (kept.owner v.name ≡ seat) × IsSeat makes kept.log v.name × Since author v.name v.seen kept.log
+    own = mine.names v.name (inl (live, refl))
 
-    others_know : (owner : ℕ → ℕ) → ((n : ℕ) → is_among n (made_in kept.log) ≡ true → owner n ≡ kept.owner n)
-        → (j : ℕ) (u : View) → j ≢ seat → get_elem? s.views j ≡ some u → Knows root (kept.log ++ e ∷ []) owner j u
+    legal' : IsLegal root (e ∷ kept.log)
+    legal' = ((subst (IsSeat makes kept.log) (sym is_mine) own.1, new), fits, kept.legal)
+
+    others_know : (owner : Name → ℕ) → ((n : Name) → IsSeat makes kept.log n → owner n ≡ kept.owner n)
+        → (j : ℕ) (u : View) → j ≢ seat → get_elem? s.views j ≡ some u → Knows root (e ∷ kept.log) owner j u
     others_know owner same j u other there = let theirs = kept.each j u there in record {
       same_root = theirs.same_root;
       seen = begins_more u.seen kept.log (e ∷ []) theirs.seen;
@@ -107,21 +109,21 @@ module _ (root : Root) (s : State ℕ View) (kept : IsKept root s) (seat : ℕ) 
       apart = theirs.apart;
       names = λ n has. let k = theirs.names n has in (
         same n k.1 ∙ k.0,
-        is_among-more n kept.log (e ∷ []) k.1,
-        k.2 ∙ sym (events_of-snoc_other n kept.log e (λ is. other (sym k.0 ∙ (ap kept.owner (sym is ∙ is_mine) ∙ (mine.names v.name (inl (live, refl))).0)))),
+        inr k.1,
+        since_more author n u.seen kept.log (e ∷ []) ((λ is. other (sym k.0 ∙ (ap kept.owner (sym is ∙ is_mine) ∙ own.0))), tt) k.2,
       );
     }
 
-    adds : (w : View) → (w.root ≡ v.root) × (w.name ≡ v.name) × (w.live ≡ v.live) → w.seen ≡ kept.log ++ e ∷ [] → Adds v w e
-    adds w same seen = (
-      record {
-        same = same;
-        legal = let P : List Event → Type 0 = IsLegal v.root in subst P (sym seen) (legal_for (kept.log ++ e ∷ []) live legal');
-        begins = let P : List Event → Type 0 = Begins v.seen in subst P (sym seen) (begins_more v.seen kept.log (e ∷ []) mine.seen);
-        events = ap (events_of v.name) seen ∙ (events_of-snoc v.name kept.log e is_mine ∙ ap (λ l. l ++ e ∷ []) (sym (mine.names v.name (inl (live, refl))).2));
-      },
-      (kept.log, seen),
-    )
+    did : (w : View) → (w.root ≡ v.root) × (w.name ≡ v.name) × (w.live ≡ v.live) → w.seen ≡ e ∷ kept.log → Did v w e
+    did w same seen = record {
+      same = same;
+      ends = record {
+        before = kept.log;
+        since = own.2;
+        last = seen;
+        legal = let P : List Event → Type 0 = IsLegal v.root in subst P (sym seen) (legal_for (e ∷ kept.log) live legal');
+      };
+    }
 
 pub looks : (root : Root) (slots seat : ℕ) (v : View) (c : List (ℕ × ℕ)) → v.live ≡ true → Allows (IsKept root) slots seat (v, c) 2 (λ n. n) (Looked (step slots 2 0 0 none) (v, c))
 looks root slots seat v c live s kept _ at _ =
@@ -133,17 +135,16 @@ looks root slots seat v c live s kept _ at _ =
       tt,
       unmoved root s kept seat v at w record {
         same_root = knows.same_root;
-        seen = begins_all kept.log;
+        seen = begins_itself kept.log;
         told = knows.told;
         apart = knows.apart;
-        names = λ name has. let k = knows.names name has in (k.0, k.1, refl);
+        names = λ name has. let k = knows.names name has in (k.0, k.1, since_itself author name kept.log);
       },
       (
         record {
           same = (refl, refl, refl);
           legal = legal_for root s kept seat v at kept.log live kept.legal;
-          begins = knows.seen;
-          events = sym (knows.names v.name (inl (live, refl))).2 ∙ sym (append-nil (events_of v.name v.seen));
+          since = (knows.names v.name (inl (live, refl))).2;
         },
         refl,
         kept.height ∙ ap (λ n. pos n -ℤ pos 64) (sym here),
@@ -156,30 +157,30 @@ pub raises : (root : Root) (slots seat : ℕ) (v : View) (c : List (ℕ × ℕ))
 raises root slots seat v c k live small below s kept _ at _ =
     let knows = mine root s kept seat v at in
     let e : Event = Raise v.name (pos k -ℤ pos 64) in
-    let w : View = record v { seen = kept.log ++ e ∷ [] } in
-    let may : MayCome root (made_in kept.log) e = ((knows.names v.name (inl (live, refl))).1, below) in (
+    let log' : List Event = e ∷ kept.log in
+    let w : View = record v { seen = log' } in (
       w,
       keeps,
       tt,
       record {
-        log = kept.log ++ e ∷ [];
+        log = log';
         owner = kept.owner;
         third = max kept.third k;
-        legal = legal' root s kept seat v at live e refl may;
+        legal = legal' root s kept seat v at live e refl tt below;
         words = ap (λ ws. slice_set ws 2 (max (slice_index ws 2) k)) kept.words;
-        height = floor_after-raise kept.log v.name (pos k -ℤ pos 64) ∙ (ap (int_max (pos k -ℤ pos 64)) kept.height ∙ higher k kept.third);
+        height = ap (int_max (pos k -ℤ pos 64)) kept.height ∙ higher k kept.third;
         bound = let b = kept.bound in omega arith;
-        each = each_set (Knows root (kept.log ++ e ∷ []) kept.owner) s.views seat w
+        each = each_set (Knows root log' kept.owner) s.views seat w
             record {
               same_root = knows.same_root;
-              seen = begins_all (kept.log ++ e ∷ []);
+              seen = begins_itself log';
               told = begins_more v.told kept.log (e ∷ []) knows.told;
               apart = knows.apart;
-              names = λ name has. let k = knows.names name has in (k.0, is_among-more name kept.log (e ∷ []) k.1, refl);
+              names = λ name has. let k = knows.names name has in (k.0, inr k.1, since_itself author name log');
             }
-            (others_know root s kept seat v at live e refl may kept.owner (λ _ _. refl));
+            (others_know root s kept seat v at live e refl tt below kept.owner (λ _ _. refl));
       },
-      (adds root s kept seat v at live e refl may w (refl, refl, refl) refl, refl),
+      (did root s kept seat v at live e refl tt below w (refl, refl, refl) refl, refl),
     )
 
 other_owner : (n name x : ℕ) (y : ℕ) → n ≢ name → (if n == name then x else y) ≡ y
@@ -188,25 +189,19 @@ other_owner n name x y other = let test : (n == name) ≡ false = grind (arith, 
 new_owner : (name x : ℕ) (y : ℕ) → (if name == name then x else y) ≡ x
 new_owner name x y = let test : (name == name) ≡ true = grind (arith, nat_tests) in rw test
 
-among_apart : (n name : ℕ) (seats : List ℕ) → is_among n seats ≡ true → is_among name seats ≡ false → n ≢ name
-among_apart n name seats there out is = true≢false (sym there ∙ (ap (λ k. is_among k seats) is ∙ out))
-
-now_among : (name by : ℕ) (log : List Event) → is_among name (made_in (log ++ Made by name ∷ [])) ≡ true
-now_among name by log = let test : (name == name) ≡ true = grind (arith, nat_tests) in rw (made_after-append (0 ∷ []) log (Made by name ∷ []), test)
-
 pub names : (root : Root) (slots seat : ℕ) (v : View) (c : List (ℕ × ℕ)) → v.live ≡ true → Allows (IsKept root) slots seat (v, c) 2 (λ n. n) (Named (step slots 2 0 0 none) (v, c))
 names root slots seat v c live s kept _ at _ =
     let knows = mine root s kept seat v at in
     let own = knows.names v.name (inl (live, refl)) in
-    let name : ℕ = fresh (made_in kept.log) in
-    let new : is_among name (made_in kept.log) ≡ false = is_among-fresh (made_in kept.log) in
+    let name : Name = fresh makes kept.log in
+    let new : ¬ IsSeat makes kept.log name = is_fresh makes kept.log in
     let e : Event = Made v.name name in
-    let log' : List Event = kept.log ++ e ∷ [] in
+    let log' : List Event = e ∷ kept.log in
     let w : View = record v { seen = log'; spare = Some name } in
-    let may : MayCome root (made_in kept.log) e = (own.1, new) in
-    let owner : ℕ → ℕ = λ n. if n == name then seat else kept.owner n in
-    let same : (n : ℕ) → is_among n (made_in kept.log) ≡ true → owner n ≡ kept.owner n = λ n h. other_owner n name seat (kept.owner n) (among_apart n name (made_in kept.log) h new) in
-    let differ : v.name ≢ name = among_apart v.name name (made_in kept.log) own.1 new in (
+    let owner : Name → ℕ = λ n. if n == name then seat else kept.owner n in
+    let same : (n : Name) → IsSeat makes kept.log n → owner n ≡ kept.owner n = λ n h. other_owner n name seat (kept.owner n) (λ is. new (subst (IsSeat makes kept.log) is h)) in
+    let differ : v.name ≢ name = λ is. new (subst (IsSeat makes kept.log) is own.1) in
+    let legal : IsLegal root log' = legal' root s kept seat v at live e refl new tt in (
       w,
       keeps,
       tt,
@@ -214,29 +209,29 @@ names root slots seat v c live s kept _ at _ =
         log = log';
         owner = owner;
         third = kept.third;
-        legal = legal' root s kept seat v at live e refl may;
+        legal = legal;
         words = ap (λ ws. slice_set ws 2 (slice_index ws 2)) kept.words;
-        height = floor_after-made kept.log v.name name ∙ kept.height;
+        height = kept.height;
         bound = kept.bound;
         each = each_set (Knows root log' owner) s.views seat w
             record {
               same_root = knows.same_root;
-              seen = begins_all log';
+              seen = begins_itself log';
               told = begins_more v.told kept.log (e ∷ []) knows.told;
               apart = λ _ is. differ (sym (the_same name v.name is));
               names = λ n has. ⊎_elim
-                  (λ (h : (v.live ≡ true) × (v.name ≡ n)). let k = knows.names n (inl h) in (same n k.1 ∙ k.0, is_among-more n kept.log (e ∷ []) k.1, refl))
-                  (λ (h : Some name ≡ Some n). let P : ℕ → Type 0 = λ m. (owner m ≡ seat) × IsTrue (is_among m (made_in log')) × (events_of m log' ≡ events_of m log') in
-                  subst P (the_same name n h) (new_owner name seat (kept.owner name), now_among name v.name kept.log, refl))
+                  (λ (h : (v.live ≡ true) × (v.name ≡ n)). let k = knows.names n (inl h) in (same n k.1 ∙ k.0, inr k.1, since_itself author n log'))
+                  (λ (h : Some name ≡ Some n). let P : Name → Type 0 = λ m. (owner m ≡ seat) × IsSeat makes log' m × Since author m log' log' in
+                  subst P (the_same name n h) (new_owner name seat (kept.owner name), inl refl, since_itself author name log'))
                   has;
             }
-            (others_know root s kept seat v at live e refl may owner same);
+            (others_know root s kept seat v at live e refl new tt owner same);
       },
       (
         name,
-        adds root s kept seat v at live e refl may w (refl, refl, refl) refl,
+        did root s kept seat v at live e refl new tt w (refl, refl, refl) refl,
         refl,
-        events_of-snoc_other name kept.log e differ ∙ events_of-unmade root (0 ∷ []) kept.log name kept.legal new,
+        new_idle author makes (Fits root) e kept.log name refl legal,
         refl,
       ),
     )
@@ -246,7 +241,7 @@ forks root seat v name live spare s kept at =
     let knows = mine root s kept seat v at in
     let given = knows.names name (inr spare) in
     let views : List View = set s.views seat (parent_of v) in
-    let owner : ℕ → ℕ = λ n. if n == name then length views else kept.owner n in
+    let owner : Name → ℕ = λ n. if n == name then length views else kept.owner n in
     let old : (n : ℕ) → n ≢ name → owner n ≡ kept.owner n = λ n differ. other_owner n name (length views) (kept.owner n) differ in
     let F : ℕ → View → Type 0 = Knows root kept.log owner in
     let parent : F seat (parent_of v) = record {
@@ -269,10 +264,10 @@ forks root seat v name live spare s kept at =
     let child : F (length views) (child_of v) = record {
       same_root = λ _. knows.same_root live;
       seen = knows.seen;
-      told = (kept.log, refl);
+      told = begins_empty kept.log;
       apart = λ _ is. no_some (unwrap_or v.spare 0) None refl is;
       names = λ n has. ⊎_elim
-          (λ (h : (true ≡ true) × (unwrap_or v.spare 0 ≡ n)). let P : ℕ → Type 0 = λ m. (owner m ≡ length views) × IsTrue (is_among m (made_in kept.log)) × (events_of m v.seen ≡ events_of m kept.log) in
+          (λ (h : (true ≡ true) × (unwrap_or v.spare 0 ≡ n)). let P : ℕ → Type 0 = λ m. (owner m ≡ length views) × IsSeat makes kept.log m × Since author m v.seen kept.log in
           subst P (ap (λ (o : Option ℕ). unwrap_or o 0) (sym spare) ∙ h.1) (new_owner name (length views) (kept.owner name), given.1, given.2))
           (λ (h : None ≡ Some n). absurd (no_some n None refl h))
           has;
@@ -290,11 +285,11 @@ forks root seat v name live spare s kept at =
           (at_snoc_cases views (child_of v) u j e);
     }
 
-silent_knows : (root : Root) (log : List Event) (owner : ℕ → ℕ) (seat : ℕ) (p : Root) (seen : List Event) → Begins seen log → Knows root log owner seat (silent p seen)
+silent_knows : (root : Root) (log : List Event) (owner : Name → ℕ) (seat : ℕ) (p : Root) (seen : List Event) → Begins seen log → Knows root log owner seat (silent p seen)
 silent_knows root log owner seat p seen b = record {
   same_root = λ no'. absurd (true≢false (sym no'));
   seen = b;
-  told = (log, refl);
+  told = begins_empty log;
   apart = λ no'. absurd (true≢false (sym no'));
   names = λ n has. ⊎_elim (λ (h : (false ≡ true) × (0 ≡ n)). absurd (true≢false (sym h.0))) (λ (h : None ≡ Some n). absurd (no_some n None refl h)) has;
 }
@@ -330,7 +325,7 @@ tells root seat v other w s kept at apart there =
       words = kept.words;
       height = kept.height;
       bound = kept.bound;
-      each = each_set F (set s.views seat (told_by v w)) other spent (silent_knows root kept.log kept.owner other spent.root [] (kept.log, refl))
+      each = each_set F (set s.views seat (told_by v w)) other spent (silent_knows root kept.log kept.owner other spent.root [] (begins_empty kept.log))
           (λ j u _ e. each_set F s.views seat (told_by v w) both (λ i x _ h. kept.each i x h) j u e);
     }
 
@@ -339,7 +334,7 @@ learns root slots seat v c live s kept _ at _ =
     let knows = mine root s kept seat v at in
     let both = longer_begins v.seen v.told kept.log knows.seen knows.told in
     let w : View = record v { seen = longer v.seen v.told } in
-    let stays : (n : ℕ) → Has v n → events_of n (longer v.seen v.told) ≡ events_of n v.seen = λ n has. events_of-between n v.seen (longer v.seen v.told) kept.log both.0 both.2 (knows.names n has).2 in (
+    let stays : (n : Name) → Has v n → Since author n v.seen (longer v.seen v.told) × Since author n (longer v.seen v.told) kept.log = λ n has. since_between author n v.seen (longer v.seen v.told) kept.log (knows.names n has).2 both.0 both.2 in (
       w,
       keeps,
       tt,
@@ -348,14 +343,13 @@ learns root slots seat v c live s kept _ at _ =
         seen = both.2;
         told = knows.told;
         apart = knows.apart;
-        names = λ n has. let k = knows.names n has in (k.0, k.1, stays n has ∙ k.2);
+        names = λ n has. let k = knows.names n has in (k.0, k.1, (stays n has).1);
       },
       (
         record {
           same = (refl, refl, refl);
-          legal = legal_for root s kept seat v at (longer v.seen v.told) live (IsLegal-begin root (longer v.seen v.told) kept.log both.2 kept.legal);
-          begins = both.0;
-          events = stays v.name (inl (live, refl)) ∙ sym (append-nil (events_of v.name v.seen));
+          legal = legal_for root s kept seat v at (longer v.seen v.told) live (legal_begin author makes (Fits root) (longer v.seen v.told) kept.log both.2 kept.legal);
+          since = (stays v.name (inl (live, refl))).0;
         },
         refl,
         both.1,

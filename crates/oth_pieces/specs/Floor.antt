@@ -1,27 +1,28 @@
 -- The rule of a floor, and what each step tells.
 -- There is one legal history. The first two words are the root's own and opposing discs, the third is the floor after the history, plus 64, and the fourth tells the scoring. What each seat has seen begins it, and has all events of that seat.
-use Rattle.std.specs.Prelude.{◌≡◌, ℕ, ◌≤◌, pos, ◌-ℤ◌, true, false, ◌⊎◌, List, [], ◌∷◌, ◌++◌, length, nat_le, if◌then◌else◌, Some, None, unwrap_or, IsTrue}
+use Rattle.std.specs.Prelude.{◌≡◌, ℕ, ◌≤◌, pos, ◌-ℤ◌, true, false, ◌⊎◌, List, [], ◌∷◌, length, nat_le, if◌then◌else◌, Some, None, unwrap_or}
 use mathlib.Core.Option.{some}
 use lib.ListN.{get_elem?}
 use Rattle.atomic_table.specs.Table.{State, Me, Step}
+use Rattle.oth_history.specs.History.{Name, Begins, IsSeat, HasNone, Since}
 use Rattle.oth_rules.specs.declared.scoring.Scoring.{Scoring}
 use Rattle.oth_rules.specs.declared.scoring.Scoring.TheVariants.{Winner, Discs}
 use Rattle.oth_pieces.specs.declared.floor.root.Root.{Root}
 use Rattle.oth_pieces.specs.declared.floor.event.Event.{Event}
 use Rattle.oth_pieces.specs.declared.floor.event.Event.TheVariants.{Raise, Made}
 use Rattle.oth_pieces.specs.declared.floor.view.View.{View}
-use Rattle.oth_pieces.specs.History.{floor_after, made_in, is_among, events_of, IsLegal, Begins}
+use Rattle.oth_pieces.specs.History.{makes, author, floor_after, IsLegal, Ends}
 
 -- the seat has this name, or is about to give it
-abbrev pub Has : View → ℕ → Type 0
+abbrev pub Has : View → Name → Type 0
 Has v name = ((v.live ≡ true) × (v.name ≡ name)) ⊎ (v.spare ≡ Some name)
 
-pub record Knows (root : Root) (log : List Event) (owner : ℕ → ℕ) (seat : ℕ) (v : View) : Type 0 where
+pub record Knows (root : Root) (log : List Event) (owner : Name → ℕ) (seat : ℕ) (v : View) : Type 0 where
   pub same_root : v.live ≡ true → v.root ≡ root
   pub seen : Begins v.seen log
   pub told : Begins v.told log
   pub apart : v.live ≡ true → ¬ (v.spare ≡ Some v.name)
-  pub names : (name : ℕ) → Has v name → (owner name ≡ seat) × IsTrue (is_among name (made_in log)) × (events_of name v.seen ≡ events_of name log)
+  pub names : (name : Name) → Has v name → (owner name ≡ seat) × IsSeat makes log name × Since author name v.seen log
 
 -- the word of a scoring
 abbrev pub code_of : Scoring → ℕ
@@ -30,7 +31,7 @@ code_of Discs = 1
 
 pub record IsKept (root : Root) (s : State ℕ View) : Type 0 where
   pub log : List Event
-  pub owner : ℕ → ℕ
+  pub owner : Name → ℕ
   pub third : ℕ
   pub legal : IsLegal root log
   pub words : s.words ≡ root.board.own ∷ root.board.opp ∷ third ∷ code_of root.scoring ∷ []
@@ -41,30 +42,33 @@ pub record IsKept (root : Root) (s : State ℕ View) : Type 0 where
 abbrev pub newcomer : Root → View
 newcomer root = record { root = root; name = 0; live = true; spare = None; seen = []; told = [] }
 
--- the seat has seen a legal history, which begins with what it had seen. Its events in it are those that it had seen, and these
-pub record Sees (v w : View) (mine : List Event) : Type 0 where
-  pub same : (w.root ≡ v.root) × (w.name ≡ v.name) × (w.live ≡ v.live)
-  pub legal : IsLegal v.root w.seen
-  pub begins : Begins v.seen w.seen
-  pub events : events_of v.name w.seen ≡ events_of v.name v.seen ++ mine
+abbrev pub IsSameSeat : View → View → Type 0
+IsSameSeat v w = (w.root ≡ v.root) × (w.name ≡ v.name) × (w.live ≡ v.live)
 
--- the same, and its own event is the last of the history
-abbrev pub Adds : View → View → Event → Type 0
-Adds v w e = Sees v w (e ∷ []) × ((before : List Event) × (w.seen ≡ before ++ e ∷ []))
+-- the seat has seen more, and has done nothing since
+pub record Sees (v w : View) : Type 0 where
+  pub same : IsSameSeat v w
+  pub legal : IsLegal v.root w.seen
+  pub since : Since author v.name v.seen w.seen
+
+-- the event e ends what the seat has seen
+pub record Did (v w : View) (e : Event) : Type 0 where
+  pub same : IsSameSeat v w
+  pub ends : Ends v.root v.name v.seen w.seen e
 
 abbrev Sat : Type 0
 Sat = Me ℕ View
 
 abbrev pub Looked : Step ℕ → Sat → ℕ → Sat → Type 0
 Looked s m found m' =
-    Sees m.0 m'.0 [] × (m'.1 ≡ m.1) × (floor_after m'.0.seen ≡ pos found -ℤ pos 64) × (found ≤ 128)
+    Sees m.0 m'.0 × (m'.1 ≡ m.1) × (floor_after m'.0.seen ≡ pos found -ℤ pos 64) × (found ≤ 128)
 
 abbrev pub Raised : Step ℕ → Sat → ℕ → Sat → Type 0
-Raised s m found m' = Adds m.0 m'.0 (Raise m.0.name (pos s.first -ℤ pos 64)) × (m'.1 ≡ m.1)
+Raised s m found m' = Did m.0 m'.0 (Raise m.0.name (pos s.first -ℤ pos 64)) × (m'.1 ≡ m.1)
 
 abbrev pub Named : Step ℕ → Sat → ℕ → Sat → Type 0
 Named s m found m' =
-    (name : ℕ) × Adds m.0 m'.0 (Made m.0.name name) × (m'.0.spare ≡ Some name) × (events_of name m'.0.seen ≡ []) × (m'.1 ≡ m.1)
+    (name : Name) × Did m.0 m'.0 (Made m.0.name name) × (m'.0.spare ≡ Some name) × HasNone author name m'.0.seen × (m'.1 ≡ m.1)
 
 -- the longer of two histories, one of which begins the other
 abbrev pub longer : List Event → List Event → List Event
@@ -73,7 +77,7 @@ longer one other = if nat_le (length one) (length other) then other else one
 -- the seat has now seen what it was told too
 abbrev pub Learned : Step ℕ → Sat → ℕ → Sat → Type 0
 Learned s m found m' =
-    Sees m.0 m'.0 [] × (m'.0.seen ≡ longer m.0.seen m.0.told) × Begins m.0.told m'.0.seen × (m'.1 ≡ m.1)
+    Sees m.0 m'.0 × (m'.0.seen ≡ longer m.0.seen m.0.told) × Begins m.0.told m'.0.seen × (m'.1 ≡ m.1)
 
 abbrev pub parent_of : View → View
 parent_of v = record v { spare = None }

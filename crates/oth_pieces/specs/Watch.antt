@@ -1,12 +1,13 @@
 -- What contracts see of a floor and of a seat.
---     Goes old new mine      what a call does to what its seat has seen
---     Adds old new e      the same, where the call is one event of the history
-use Rattle.std.specs.Prelude.{◌≡◌, ℕ, List, [], ◌∷◌, ◌++◌}
+--     Goes old new        what a call that is no event does to what its seat has seen
+--     Adds old new e      what a call does that is one event of the history
+use Rattle.std.specs.Prelude.{◌≡◌, List, []}
 use Rattle.atomic_table.specs.Seated.{TableId}
+use Rattle.oth_history.specs.History.{Name, HasNone, Since}
 use Rattle.oth_pieces.specs.declared.floor.root.Root.{Root}
 use Rattle.oth_pieces.specs.declared.floor.event.Event.{Event}
 use Rattle.oth_pieces.specs.declared.floor.event.Event.TheVariants.{Made}
-use Rattle.oth_pieces.specs.History.{events_of, IsLegal, Begins}
+use Rattle.oth_pieces.specs.History.{author, IsLegal, Ends}
 
 -- which floor it is, and the root that it is of
 pub record Place : Type 0 where
@@ -17,29 +18,32 @@ pub record Place : Type 0 where
 pub record Watcher : Type 0 where
   pub floor : TableId
   pub root : Root
-  pub name : ℕ
+  pub name : Name
   pub seen : List Event
 
 abbrev pub IsSeatOf : Place → Watcher → Type 0
 IsSeatOf f w = (w.floor ≡ f.id) × (w.root ≡ f.root)
 
--- the seat has now seen a legal history, which begins with what it had seen. Its events in it are those that it had seen, and these
-pub record Goes (old new : Watcher) (mine : List Event) : Type 0 where
-  pub same : (new.floor ≡ old.floor) × (new.root ≡ old.root) × (new.name ≡ old.name)
-  pub legal : IsLegal old.root new.seen
-  pub begins : Begins old.seen new.seen
-  pub events : events_of old.name new.seen ≡ events_of old.name old.seen ++ mine
+-- it is the same seat, whatever it has seen
+abbrev pub IsSame : Watcher → Watcher → Type 0
+IsSame old new = (new.floor ≡ old.floor) × (new.root ≡ old.root) × (new.name ≡ old.name)
 
--- the same, and its one new event is the last of the history
+-- the seat has now seen a legal history, which begins with what it had seen and has no further event of it
+pub record Goes (old new : Watcher) : Type 0 where
+  pub same : IsSame old new
+  pub legal : IsLegal old.root new.seen
+  pub since : Since author old.name old.seen new.seen
+
+-- the same, but for one further event of it, which is the last
 pub record Adds (old new : Watcher) (e : Event) : Type 0 where
-  pub goes : Goes old new (e ∷ [])
-  pub last : (before : List Event) × (new.seen ≡ before ++ e ∷ [])
+  pub same : IsSame old new
+  pub ends : Ends old.root old.name old.seen new.seen e
 
 abbrev pub first_seat : Place → Watcher
 first_seat f = record { floor = f.id; root = f.root; name = 0; seen = [] }
 
--- a new seat, made by another, which has now seen as much
+-- a new seat, made by another, which has now seen as much. It has done nothing yet
 pub record IsMadeBy (old new made : Watcher) : Type 0 where
   pub seen : (made.floor ≡ new.floor) × (made.root ≡ new.root) × (made.seen ≡ new.seen)
   pub event : Adds old new (Made old.name made.name)
-  pub fresh : events_of made.name made.seen ≡ []
+  pub idle : HasNone author made.name made.seen

@@ -1,6 +1,7 @@
 //! The greatest score that is known of a root, which threads raise together.
 ghost use Rattle.std.specs.Prelude.{◌≡◌, ◌↔◌, OnOk, IfOk, OnErr, IsOk, [], ◌≤◌, pos, negsuc, ◌-ℤ◌, ◌≤ℤ◌};
-ghost use Rattle.oth_pieces.specs.History.{floor_after, root_value, Begins};
+ghost use Rattle.oth_history.specs.History.{Begins};
+ghost use Rattle.oth_pieces.specs.History.{floor_after, root_value};
 ghost use Rattle.oth_pieces.specs.Floor.{longer, code_of};
 ghost use Rattle.oth_pieces.specs.declared.floor.event.Event.TheVariants.{Raise};
 ghost use Rattle.oth_pieces.specs.Watch.{IsSeatOf, Goes, Adds, IsMadeBy, first_seat};
@@ -168,7 +169,7 @@ impl Floor {
         ensures bound { result ≤ℤ root_value self.now.root }
         ensures low { negsuc 63 ≤ℤ result }
         ensures high { result ≤ℤ pos 64 }
-        ensures goes { Goes seat.old seat.new [] }
+        ensures goes { Goes seat.old seat.new }
     {
         let found = self.table.shared.load::<Looking>(&mut seat.seat, HEIGHT);
         (found as i16 - 64) as i8
@@ -209,8 +210,8 @@ impl Floor {
         requires one { IsSeatOf self.now one.old }
         requires other { IsSeatOf self.now other.old }
         ensures same { one.new.seen ≡ other.new.seen }
-        ensures one { Goes one.old one.new [] }
-        ensures other { Goes other.old other.new [] }
+        ensures one { Goes one.old one.new }
+        ensures other { Goes other.old other.new }
     {
         let from_one = self.messenger(one);
         let from_other = self.messenger(other);
@@ -233,7 +234,7 @@ impl Floor {
         requires { IsSeatOf self.now seat.old × (messenger.seat.table_id ≡ self.now.id) }
         ensures seen { seat.new.seen ≡ longer seat.old.seen messenger.seat.me.0.seen }
         ensures told { Begins messenger.seat.me.0.seen seat.new.seen }
-        ensures goes { Goes seat.old seat.new [] }
+        ensures goes { Goes seat.old seat.new }
     {
         let Messenger { seat: other } = messenger;
         self.table

@@ -11,7 +11,9 @@ use Rattle.atomic_table.specs.Table.{Act, Valid, carried_after, step, keeps, ste
 use Rattle.atomic_table.proofs.Lists.{exchanged}
 use Rattle.oth_rules.specs.declared.scoring.Scoring.{Scoring}
 use Rattle.oth_search.specs.Entries.{Bounded, words_of, joined}
-use Rattle.oth_table.specs.History.{IsTrueBy, author, content, owner, publishes, IsSeat, Fits, IsLegal, Ends}
+use Rattle.oth_history.specs.History.{IsUnmade, IsSeat}
+use Rattle.oth_history.proofs.Histories.{seat_past, begins_more}
+use Rattle.oth_table.specs.History.{IsTrueBy, author, makes, content, owner, publishes, Fits, IsLegal, Ends}
 use Rattle.oth_table.specs.Cells.{first_word, version, word, held, HasWords, IsSeated, Knows, IsFit, IsKept}
 use Rattle.oth_table.specs.Steps.{Sat, Did, WentAway, IsReading, IsOld, Claims, MayReadClaimed, MayStore, MayPublish, glanced, read, checked, aimed, found_under, stored, published, glance, read_word, check, aim, claim, read_under, store_word, publish}
 use Rattle.oth_table.specs.declared.history.Why.{Why}
@@ -22,7 +24,7 @@ use Rattle.oth_table.specs.declared.history.Limits.{Limits}
 use Rattle.oth_table.specs.declared.history.Stage.{Stage}
 use Rattle.oth_table.specs.declared.history.Stage.TheVariants.{Idle, Reading, Writing, Making, Note}
 use Rattle.oth_table.specs.declared.history.View.{View}
-use Rattle.oth_table.proofs.Histories.{tested, claims_are, within_wear, content_true, content_there, content_none, publishes_grow, seat_stays, begins_more, joined_true}
+use Rattle.oth_table.proofs.Histories.{tested, claims_are, within_wear, content_true, content_there, content_none, publishes_grow, joined_true}
 use Rattle.oth_table.proofs.Keeps.{St, turned, went, Goes, kept}
 use Rattle.oth_table.proofs.Moves.{held_low, held_none, IsQuiet, rests, tells, claims_it, publishes_it, stores_it}
 
@@ -40,7 +42,7 @@ module _ (about : Limits) (s : St) (r : IsKept about s) (id : ℕ) (v : View) (a
   ended_fits e ws vs st k = record {
     worn = λ _. fit.worn seated;
     told = begins_more v.told r.log (e ∷ []) fit.told;
-    seat = λ _. seat_stays e r.log v.name (fit.seat seated);
+    seat = λ _. seat_past makes (e ∷ []) r.log v.name (fit.seat seated);
     seen = λ _. ([], refl, tt);
     knows = k;
   }
@@ -55,15 +57,15 @@ module _ (about : Limits) (s : St) (r : IsKept about s) (id : ℕ) (v : View) (a
       unmoved i cs w (kept about s r id v w at seated sits refl [] s.words (rests about s r v.name) (still_fits s.words (set s.views id w) st (k (set s.views id w))))
 
   -- a load that adds an event other than a claim and a publish
-  pub adds : (i : ℕ) (cs : List (ℕ × Bounded)) (e : Event) (st : Stage) → author e ≡ v.name → IsQuiet e r.log → Fits about.terms r.log e → IsSeated st
+  pub adds : (i : ℕ) (cs : List (ℕ × Bounded)) (e : Event) (st : Stage) → author e ≡ v.name → IsUnmade makes r.log (makes e) → IsQuiet e r.log → Fits about.terms r.log e → IsSeated st
       → Knows (e ∷ r.log) s.words (set s.views id (went v (e ∷ r.log) st)) (went v (e ∷ r.log) st) st → IsKept about (stepped s i (get_or s.words i 0) id cs (went v (e ∷ r.log) st) keeps)
-  adds i cs e st mine q fits sits k = let w = went v (e ∷ r.log) st in let seat = subst (IsSeat r.log) (sym mine) (fit.seat seated) in
-      let g = subst (λ n. Goes about r.log s.words n (e ∷ []) s.words) mine (tells about s r e q seat fits) in
+  adds i cs e st mine new q fits sits k = let w = went v (e ∷ r.log) st in let seat = subst (IsSeat makes r.log) (sym mine) (fit.seat seated) in
+      let g = subst (λ n. Goes about r.log s.words n (e ∷ []) s.words) mine (tells about s r e q (seat, new) fits) in
       unmoved i cs w (kept about s r id v w at seated sits refl (e ∷ []) s.words g (ended_fits e s.words (set s.views id w) st k))
 
-  pub ends : (e : Event) → author e ≡ v.name → Fits about.terms r.log e → Ends v.terms v.name v.seen (e ∷ r.log) e
-  ends e mine fits = let seat = subst (IsSeat r.log) (sym mine) (fit.seat seated) in
-      record { before = r.log; since = fit.seen seated; last = refl; legal = subst (λ k. IsLegal k (e ∷ r.log)) (sym (fit.worn seated)) (seat, fits, r.legal) }
+  pub ends : (e : Event) → author e ≡ v.name → IsUnmade makes r.log (makes e) → Fits about.terms r.log e → Ends v.terms v.name v.seen (e ∷ r.log) e
+  ends e mine new fits = let seat = subst (IsSeat makes r.log) (sym mine) (fit.seat seated) in
+      record { before = r.log; since = fit.seen seated; last = refl; legal = subst (λ k. IsLegal k (e ∷ r.log)) (sym (fit.worn seated)) ((seat, new), fits, r.legal) }
 
   -- the seat's scoring is the table's
   pub my_truth : (x : Bounded) → IsTrueBy about.terms.scoring x → IsTrueBy v.terms.scoring x
@@ -72,35 +74,35 @@ module _ (about : Limits) (s : St) (r : IsKept about s) (id : ℕ) (v : View) (a
   pub its_truth : (x : Bounded) → IsTrueBy v.terms.scoring x → IsTrueBy about.terms.scoring x
   its_truth x t = subst (λ z. IsTrueBy z.scoring x) (fit.worn seated) t
 
-  did : (e : Event) → author e ≡ v.name → Fits about.terms r.log e → Did v (went v (e ∷ r.log) Idle) e
-  did e mine fits = ((refl, refl), refl, ends e mine fits)
+  did : (e : Event) → author e ≡ v.name → IsUnmade makes r.log (makes e) → Fits about.terms r.log e → Did v (went v (e ∷ r.log) Idle) e
+  did e mine new fits = ((refl, refl), refl, ends e mine new fits)
 
   seen_count : (c : ℕ) → publishes c v.seen ≤ publishes c r.log
   seen_count c = let b = fit.seen seated in publishes_grow c v.seen r.log (b.0, b.1)
 
   look_quiet : (c : ℕ) (x : Option Bounded) → IsQuiet (Look v.name c x) r.log
-  look_quiet c x = record { same_owner = λ _. refl; same_content = λ _. refl; same_count = λ _. refl; numbered = r.numbered }
+  look_quiet c x = record { same_owner = λ _. refl; same_content = λ _. refl; same_count = λ _. refl }
 
   away_quiet : (c : ℕ) (why : Why) → IsQuiet (Away v.name c why) r.log
-  away_quiet c why = record { same_owner = λ _. refl; same_content = λ _. refl; same_count = λ _. refl; numbered = r.numbered }
+  away_quiet c why = record { same_owner = λ _. refl; same_content = λ _. refl; same_count = λ _. refl }
 
   looks : (i : ℕ) (cs : List (ℕ × Bounded)) (c : ℕ) (x : Option Bounded) → x ≡ content c r.log → IsKept about (stepped s i (get_or s.words i 0) id cs (went v (Look v.name c x ∷ r.log) Idle) keeps)
-  looks i cs c x e = adds i cs (Look v.name c x) Idle refl (look_quiet c x) e tt tt
+  looks i cs c x e = adds i cs (Look v.name c x) Idle refl tt (look_quiet c x) e tt tt
 
   goes_away : (i : ℕ) (cs : List (ℕ × Bounded)) (c : ℕ) (why : Why) → (why ≡ Worn → publishes c r.log ≡ about.terms.wear)
       → IsKept about (stepped s i (get_or s.words i 0) id cs (went v (Away v.name c why ∷ r.log) Idle) keeps)
-  goes_away i cs c why e = adds i cs (Away v.name c why) Idle refl (away_quiet c why) e tt tt
+  goes_away i cs c why e = adds i cs (Away v.name c why) Idle refl tt (away_quiet c why) e tt tt
 
   went_away : (c : ℕ) (why : Why) → (why ≡ Worn → publishes c r.log ≡ about.terms.wear) → publishes c v.seen < publishes c r.log + held (owner c r.log)
       → WentAway c why v (went v (Away v.name c why ∷ r.log) Idle)
-  went_away c why fits more = let all = claims_are about.terms c r.log r.legal in ((refl, refl), refl, (ends (Away v.name c why) refl fits, omega arith))
+  went_away c why fits more = let all = claims_are about.terms c r.log r.legal in ((refl, refl), refl, (ends (Away v.name c why) refl tt fits, omega arith))
 
   -- a load of the version, by what it finds
   glance_at : (i : ℕ) (cs : List (ℕ × Bounded)) (c : ℕ) → (w : View) × IsKept about (stepped s i (get_or s.words i 0) id cs w keeps) × glanced c v (version s.words c) w
   glance_at i cs c = let count = r.counted c in let n : ℕ = version s.words c in let p : ℕ = publishes c r.log in let low = held_low (owner c r.log) in let past = seen_count c in
       dite (ℕ_discrete n 0)
       (λ none_yet. let e : None ≡ content c r.log = sym (content_none c r.log (omega arith)) in
-      (went v (Look v.name c None ∷ r.log) Idle, looks i cs c None e, ((λ _. did (Look v.name c None) refl e), (λ odd. absurd (omega arith)), (λ pos. absurd (omega arith)))))
+      (went v (Look v.name c None ∷ r.log) Idle, looks i cs c None e, ((λ _. did (Look v.name c None) refl tt e), (λ odd. absurd (omega arith)), (λ pos. absurd (omega arith)))))
       (λ some_yet. dite (ℕ_discrete (n % 2) 1)
       (λ odd. let other : Busy ≡ Worn → p ≡ about.terms.wear = λ e. absurd (cc) in
       (went v (Away v.name c Busy ∷ r.log) Idle, goes_away i cs c Busy other, ((λ z. absurd (some_yet z)), (λ _. went_away c Busy other (omega arith)), (λ _ even. absurd (omega arith)))))
@@ -115,7 +117,7 @@ module _ (about : Limits) (s : St) (r : IsKept about s) (id : ℕ) (v : View) (a
       (went v (Away v.name c Skipped ∷ r.log) Idle, goes_away i cs c Skipped other, ((λ _. went_away c Skipped other (omega arith)), (λ even _. absurd (omega arith)), (λ even _. absurd (omega arith)))))
       (λ even. dite (dec_le v.terms.wear (n / 2))
       (λ full. let is : Worn ≡ Worn → p ≡ about.terms.wear = λ _. omega arith in
-      (went v (Away v.name c Worn ∷ r.log) Idle, goes_away i cs c Worn is, ((λ odd. absurd (even odd)), (λ _ _. did (Away v.name c Worn) refl is), (λ _ l. absurd (omega arith)))))
+      (went v (Away v.name c Worn ∷ r.log) Idle, goes_away i cs c Worn is, ((λ odd. absurd (even odd)), (λ _ _. did (Away v.name c Worn) refl tt is), (λ _ l. absurd (omega arith)))))
       (λ room. let st : Stage = Reading c n n (content c r.log) in
       (went v v.seen st, sits_on i cs st tt (λ _. (omega arith, le_refl n, le_refl n, omega arith, λ _. refl)), ((λ odd. absurd (even odd)), (λ _ l. absurd (room l)), (λ _ _. (((refl, refl), refl), (content c r.log, refl)))))))
 
@@ -148,7 +150,7 @@ module _ (about : Limits) (s : St) (r : IsKept about s) (id : ℕ) (v : View) (a
       (λ same. let here = known.4 (sym same) in (
         went v (Look v.name d (Some x) ∷ r.log) Idle,
         looks i cs d (Some x) (sym here),
-        ((λ _. (omega arith, my_truth x (content_true about.terms d r.log x r.legal here), did (Look v.name d (Some x)) refl (sym here))), (λ not. absurd (not same))),
+        ((λ _. (omega arith, my_truth x (content_true about.terms d r.log x r.legal here), did (Look v.name d (Some x)) refl tt (sym here))), (λ not. absurd (not same))),
       ))
       (λ not. let other : Busy ≡ Worn → publishes d r.log ≡ about.terms.wear = λ e. absurd (cc) in
       (went v (Away v.name d Busy ∷ r.log) Idle, goes_away i cs d Busy other, ((λ same. absurd (not same)), (λ _. went_away d Busy other (omega arith))))))
@@ -203,7 +205,7 @@ module _ (about : Limits) (s : St) (r : IsKept about s) (id : ℕ) (v : View) (a
       (publishes_it about s r v.name d (omega arith) given x known.1 joins (its_truth given known.3) (its_truth x is.3) (fit.seat seated) words)
       (ended_fits e (set s.words (first_word d) (version s.words d + 1)) (set s.views id w) Idle tt) in
       let value : version s.words d + 1 ≡ next = omega arith in
-      (w, subst (λ (z : ℕ × ℕ). IsKept about (turned s (set s.words (first_word z.0) z.1) id w)) (λ i. (cell i, value i)) after, did e refl (known.1, joins, its_truth given known.3, its_truth x is.3))
+      (w, subst (λ (z : ℕ × ℕ). IsKept about (turned s (set s.words (first_word z.0) z.1) id w)) (λ i. (cell i, value i)) after, did e refl tt (known.1, joins, its_truth given known.3, its_truth x is.3))
   publish_at cs c next inside (Reading d a last x) is known = absurd is
   publish_at cs c next inside Idle is known = absurd is
   publish_at cs c next inside (Making t) is known = absurd is
@@ -235,7 +237,7 @@ module _ (about : Limits) (s : St) (r : IsKept about s) (id : ℕ) (v : View) (a
               (λ m lo hi. absurd (omega arith)),
               (λ x is m lo hi. get_or-set_other s.words (first_word c) (first_word c + (1 + m)) (n + 1) 0 (λ f. absurd (omega arith)) ∙ r.stored c x free is m lo hi),
             )),
-        ((refl, refl), (old, subst (λ z. IsOld v.terms.scoring z old) twice (is_old c old refl), refl, joined_true v.terms.scoring old given (λ x is. my_truth x (content_true about.terms c r.log x r.legal is)) right, right), ends e refl fits),
+        ((refl, refl), (old, subst (λ z. IsOld v.terms.scoring z old) twice (is_old c old refl), refl, joined_true v.terms.scoring old given (λ x is. my_truth x (content_true about.terms c r.log x r.legal is)) right, right), ends e refl tt fits),
       )
 
 reading_seated : (c : ℕ) (st : Stage) → IsReading c st → IsSeated st

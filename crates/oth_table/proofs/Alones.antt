@@ -1,8 +1,9 @@
 -- Whoever has seen only its own events meets no other seat's claim.
-use Rattle.std.proofs.Common.{◌≡◌, ◌≢◌, inl, inr, ℕ, List, [], ◌∷◌, ◌++◌, sym, refl, ap, ◌∙◌, subst, arith}
+use Rattle.std.proofs.Common.{◌≡◌, ◌≢◌, inl, inr, ⊎_elim, ℕ, List, [], ◌∷◌, ◌++◌, sym, refl, ap, ◌∙◌, subst, arith}
 use Rattle.std.specs.Prelude.{Some, None, if◌then◌else◌}
 use Rattle.oth_table.specs.declared.history.Terms.{Terms}
-use Rattle.oth_table.specs.History.{Name, author, owner, claims, IsSeat, IsLegal, HasNone, Ends, GoesAway}
+use Rattle.oth_history.specs.History.{Name, IsSeat, HasNone}
+use Rattle.oth_table.specs.History.{makes, author, owner, claims, IsLegal, Ends, GoesAway}
 use Rattle.oth_table.specs.Cells.{held}
 use Rattle.oth_table.specs.Alone.{IsOwn, IsAlone, IsUsedAlone, LooksAlone, PutsAlone, CountsAlone, SearchesAlone, StoresAlone}
 use Rattle.oth_rules.specs.Position.{Position}
@@ -20,43 +21,43 @@ use Rattle.oth_table.specs.declared.table.Look.TheVariants.{Empty, Whole, Busy}
 use Rattle.oth_table.specs.declared.table.Put.TheVariants.{Stored, Skipped, Worn}
 use Rattle.oth_table.proofs.Histories.{tested, claims_are}
 
-only_first : (h : List Event) (s : Name) → IsOwn h → IsSeat h s → s ≡ []
+only_first : (h : List Event) (s : Name) → IsOwn h → IsSeat makes h s → s ≡ 0
 only_first [] s own seat = seat
-only_first (Claim t d ∷ h) s own seat = only_first h s own.1 seat
-only_first (Publish t d given kept ∷ h) s own seat = only_first h s own.1 seat
-only_first (looked t d x ∷ h) s own seat = only_first h s own.1 seat
-only_first (Away t d why ∷ h) s own seat = only_first h s own.1 seat
+only_first (Claim t d ∷ h) s own seat = ⊎_elim (λ (none_is : None ≡ Some s). absurd (cc)) (λ (there : IsSeat makes h s). only_first h s own.1 there) seat
+only_first (Publish t d given kept ∷ h) s own seat = ⊎_elim (λ (none_is : None ≡ Some s). absurd (cc)) (λ (there : IsSeat makes h s). only_first h s own.1 there) seat
+only_first (looked t d x ∷ h) s own seat = ⊎_elim (λ (none_is : None ≡ Some s). absurd (cc)) (λ (there : IsSeat makes h s). only_first h s own.1 there) seat
+only_first (Away t d why ∷ h) s own seat = ⊎_elim (λ (none_is : None ≡ Some s). absurd (cc)) (λ (there : IsSeat makes h s). only_first h s own.1 there) seat
 only_first (Made t u ∷ h) s own seat = absurd own
 
 -- nobody else does anything
-nothing_between : (terms : Terms) (es h : List Event) → IsOwn h → IsLegal terms (es ++ h) → HasNone [] es → es ≡ []
+nothing_between : (terms : Terms) (es h : List Event) → IsOwn h → IsLegal terms (es ++ h) → HasNone author 0 es → es ≡ []
 nothing_between terms [] h own l none_of_it = refl
 nothing_between terms (e ∷ es) h own l none_of_it = let rest = nothing_between terms es h own l.2 none_of_it.1 in
-    absurd (none_of_it.0 (only_first h (author e) own (subst (λ z. IsSeat (z ++ h) (author e)) rest l.0)))
+    absurd (none_of_it.0 (only_first h (author e) own (subst (λ z. IsSeat makes (z ++ h) (author e)) rest l.0.0)))
 
 -- so the history before the call's event is the one that was seen
-same_before : (terms : Terms) (earlier later : List Event) (e : Event) → IsOwn earlier → (x : Ends terms [] earlier later e) → later ≡ e ∷ earlier
+same_before : (terms : Terms) (earlier later : List Event) (e : Event) → IsOwn earlier → (x : Ends terms 0 earlier later e) → later ≡ e ∷ earlier
 same_before terms earlier later e own x = let l = subst (IsLegal terms) x.last x.legal in let b = x.since in
     let none_there = nothing_between terms b.0 earlier own (subst (IsLegal terms) b.1 l.2) b.2 in
     x.last ∙ ap (λ h. e ∷ h) (b.1 ∙ ap (λ z. z ++ earlier) none_there)
 
-never_away : (terms : Terms) (c : ℕ) (reason : Why) (earlier later : List Event) → IsAlone earlier → GoesAway terms [] c reason earlier later → ⊥
-never_away terms c reason earlier later alone g = let e = same_before terms earlier later (Away [] c reason) alone.0 g.0 in
+never_away : (terms : Terms) (c : ℕ) (reason : Why) (earlier later : List Event) → IsAlone earlier → GoesAway terms 0 c reason earlier later → ⊥
+never_away terms c reason earlier later alone g = let e = same_before terms earlier later (Away 0 c reason) alone.0 g.0 in
     let l = subst (IsLegal terms) e g.0.legal in let all = claims_are terms c earlier l.2 in let free : held (owner c earlier) ≡ 0 = ap held (alone.1 c) in
     let same : claims c later ≡ claims c earlier = ap (claims c) e in let more = g.1 in omega arith
 
 pub looks_alone : LooksAlone
-looks_alone terms c earlier later Empty alone p = let e = same_before terms earlier later (looked [] c None) alone.0 p in (subst IsAlone (sym e) ((refl, alone.0), alone.1), λ is. absurd (cc))
-looks_alone terms c earlier later (Whole x) alone p = let e = same_before terms earlier later (looked [] c (Some x)) alone.0 p in (subst IsAlone (sym e) ((refl, alone.0), alone.1), λ is. absurd (cc))
+looks_alone terms c earlier later Empty alone p = let e = same_before terms earlier later (looked 0 c None) alone.0 p in (subst IsAlone (sym e) ((refl, alone.0), alone.1), λ is. absurd (cc))
+looks_alone terms c earlier later (Whole x) alone p = let e = same_before terms earlier later (looked 0 c (Some x)) alone.0 p in (subst IsAlone (sym e) ((refl, alone.0), alone.1), λ is. absurd (cc))
 looks_alone terms c earlier later Busy alone p = absurd (never_away terms c why.Busy earlier later alone p)
 
 pub puts_alone : PutsAlone
 puts_alone terms c earlier later given Stored alone p =
-    let first = same_before terms earlier p.1 (Claim [] c) alone.0 p.2 in let own : IsOwn p.1 = subst IsOwn (sym first) (refl, alone.0) in
-    let last = same_before terms p.1 later (Publish [] c given p.0) own p.3 in let all = last ∙ ap (λ h. Publish [] c given p.0 ∷ h) first in
-    (subst IsAlone (sym all) ((refl, (refl, alone.0)), λ d. tested c d (λ b. (if b then None else (if b then Some [] else owner d earlier)) ≡ None) (λ _. refl) (λ _. alone.1 d)), λ is. absurd (cc))
+    let first = same_before terms earlier p.1 (Claim 0 c) alone.0 p.2 in let own : IsOwn p.1 = subst IsOwn (sym first) (refl, alone.0) in
+    let last = same_before terms p.1 later (Publish 0 c given p.0) own p.3 in let all = last ∙ ap (λ h. Publish 0 c given p.0 ∷ h) first in
+    (subst IsAlone (sym all) ((refl, (refl, alone.0)), λ d. tested c d (λ b. (if b then None else (if b then Some 0 else owner d earlier)) ≡ None) (λ _. refl) (λ _. alone.1 d)), λ is. absurd (cc))
 puts_alone terms c earlier later given Skipped alone p = absurd (never_away terms c why.Skipped earlier later alone p)
-puts_alone terms c earlier later given Worn alone p = let e = same_before terms earlier later (Away [] c why.Worn) alone.0 p in (subst IsAlone (sym e) ((refl, alone.0), alone.1), λ is. absurd (cc))
+puts_alone terms c earlier later given Worn alone p = let e = same_before terms earlier later (Away 0 c why.Worn) alone.0 p in (subst IsAlone (sym e) ((refl, alone.0), alone.1), λ is. absurd (cc))
 
 pub counts_alone : CountsAlone
 counts_alone terms earlier later alone legal since =

@@ -4,13 +4,14 @@ use mathlib.Core.Option.{some, some-injective, some-ne-none}
 use lib.ListN.{get_elem?}
 use Rattle.atomic_table.specs.Table.{Splits, Joins}
 use Rattle.atomic_table.proofs.Lists.{at_set, set_again, set_else, at_longer}
-use Rattle.oth_table.specs.History.{Name, HasNone, Begins}
+use Rattle.oth_history.specs.History.{Name, Begins, WasMadeBy, HasNone}
+use Rattle.oth_history.proofs.Histories.{none_left, made_is_seat, one_maker}
+use Rattle.oth_table.specs.History.{author, makes, Fits}
 use Rattle.oth_table.specs.Cells.{IsSeated, IsNew, Knows, IsFit, IsKept, note_of, new_seat, resting, hearing}
 use Rattle.oth_table.specs.declared.history.Limits.{Limits}
 use Rattle.oth_table.specs.declared.history.Stage.{Stage}
 use Rattle.oth_table.specs.declared.history.Stage.TheVariants.{Idle, Reading, Writing, Making, Note}
 use Rattle.oth_table.specs.declared.history.View.{View}
-use Rattle.oth_table.proofs.Histories.{none_left}
 use Rattle.oth_table.proofs.Keeps.{St, turned, kept}
 use Rattle.oth_table.proofs.Moves.{rests}
 use Rattle.oth_table.proofs.Allowed.{seated_idle, still_fits}
@@ -33,8 +34,7 @@ module _ (about : Limits) (s : St) (r : IsKept about s) (n : View) (sits : IsSea
   others_know u (Writing c a old given i) other k = k
   others_know u (Making t) other k = (
     k.0,
-    k.1,
-    λ j y e sy. ⊎_elim (λ (old : get_elem? s.views j ≡ some y). k.2 j y old sy)
+    λ j y e sy. ⊎_elim (λ (old : get_elem? s.views j ≡ some y). k.1 j y old sy)
         (λ (is : (n ≡ y) × (j ≡ length s.views)). λ named. other t refl (sym named ∙ ap (λ (z : View). z.name) (sym is.0))) (at_end s.views n y j e),
   )
   others_know u Note other k = tt
@@ -51,7 +51,6 @@ module _ (about : Limits) (s : St) (r : IsKept about s) (n : View) (sits : IsSea
   arrives own = record {
     log = r.log;
     legal = r.legal;
-    numbered = r.numbered;
     wide = r.wide;
     counted = r.counted;
     stored = r.stored;
@@ -68,19 +67,19 @@ cuts about id v q is s r at =
     let seated : IsSeated v.stage = subst IsSeated (sym is) tt in let f = r.each id v at in let known = subst (Knows r.log s.words s.views v) is f.knows in
     let vs : List View = set s.views id (resting v) in let n : View = new_seat v (Making q) in
     let r' : IsKept about (turned s s.words id (resting v)) = kept about s r id v (resting v) at seated tt refl [] s.words (rests about s r v.name) (still_fits about s r id v at seated s.words vs Idle tt) in
-    let new : IsNew vs q = λ j y e sy. ⊎_elim (λ (k : (j ≡ id) × (resting v ≡ y)). λ named. known.2 id v at seated (ap (λ (z : View). z.name) k.1 ∙ named))
-    (λ (k : (j ≢ id) × (get_elem? s.views j ≡ some y)). known.2 j y k.1 sy) (at_set s.views id j (resting v) y e) in
-    let apart : (t : Name) (j : ℕ) (u : View) → get_elem? vs j ≡ some u → u.stage ≡ Making t → t ≢ q = λ t j u e makes same. ⊎_elim
-    (λ (k : (j ≡ id) × (resting v ≡ u)). let idle : Idle ≡ u.stage = ap (λ (z : View). z.stage) k.1 in let two : Idle ≡ Making t = idle ∙ makes in absurd (cc))
-    (λ (k : (j ≢ id) × (get_elem? s.views j ≡ some u)). let g = subst (Knows r.log s.words s.views u) makes (r.each j u k.1).knows in let a = g.1.1 in let b = known.1.1 in
-    let names : u.name ≡ v.name = cc in k.0 (r.one j id u v k.1 at (subst IsSeated (sym makes) tt) seated names))
+    let new : IsNew vs q = λ j y e sy. ⊎_elim (λ (k : (j ≡ id) × (resting v ≡ y)). λ named. known.1 id v at seated (ap (λ (z : View). z.name) k.1 ∙ named))
+    (λ (k : (j ≢ id) × (get_elem? s.views j ≡ some y)). known.1 j y k.1 sy) (at_set s.views id j (resting v) y e) in
+    let apart : (t : Name) (j : ℕ) (u : View) → get_elem? vs j ≡ some u → u.stage ≡ Making t → t ≢ q = λ t j u e is_making same. ⊎_elim
+    (λ (k : (j ≡ id) × (resting v ≡ u)). let idle : Idle ≡ u.stage = ap (λ (z : View). z.stage) k.1 in let two : Idle ≡ Making t = idle ∙ is_making in absurd (cc))
+    (λ (k : (j ≢ id) × (get_elem? s.views j ≡ some u)). let g = subst (Knows r.log s.words s.views u) is_making (r.each j u k.1).knows in let maker = subst (λ z. WasMadeBy author makes r.log u.name z) same g.0 in
+    let names : u.name ≡ v.name = one_maker author makes (Fits about.terms) r.log u.name v.name q r.legal maker known.0 in k.0 (r.one j id u v k.1 at (subst IsSeated (sym is_making) tt) seated names))
     (at_set s.views id j (resting v) u e) in
     let seen = f.seen seated in
     subst (λ st. IsKept about (with_views s (vs ++ new_seat v st ∷ []))) (sym is) (arrives about (turned s s.words id (resting v)) r' n tt new apart record {
       worn = λ _. f.worn seated;
       told = (r.log, sym (append-nil r.log));
-      seat = λ _. known.0;
-      seen = λ _. (seen.0, seen.1, none_left q seen.0 v.seen (subst (HasNone q) seen.1 (r.heard q known.2)));
+      seat = λ _. made_is_seat author makes r.log v.name q known.0;
+      seen = λ _. (seen.0, seen.1, none_left author q seen.0 v.seen (subst (HasNone author q) seen.1 (r.heard q known.1)));
       knows = tt;
     })
 
@@ -93,14 +92,13 @@ module _ (about : Limits) (s : St) (r : IsKept about s) (vs : List View)
   still_know u Idle k = tt
   still_know u (Reading c a last x) k = k
   still_know u (Writing c a old given i) k = k
-  still_know u (Making t) k = (k.0, k.1, λ j y e sy. k.2 j y (same j y e sy) sy)
+  still_know u (Making t) k = (k.0, λ j y e sy. k.1 j y (same j y e sy) sy)
   still_know u Note k = tt
 
   notes_change : IsKept about (with_views s vs)
   notes_change = record {
     log = r.log;
     legal = r.legal;
-    numbered = r.numbered;
     wide = r.wide;
     counted = r.counted;
     stored = r.stored;

@@ -10,7 +10,7 @@ use Rattle.oth_table.specs.declared.history.Terms.{Terms}
 use Rattle.oth_table.specs.declared.history.Event.{Event}
 use Rattle.oth_table.specs.declared.table.Look.{Look}
 use Rattle.oth_table.specs.declared.table.Look.TheVariants.{Empty, Whole, Busy}
-use Rattle.oth_table.specs.History.{Name}
+use Rattle.oth_history.specs.History.{Name}
 use Rattle.oth_table.specs.declared.table.Put.{Put}
 use Rattle.oth_table.specs.Calls.{Looks, Puts, IsFoundBy}
 use Rattle.oth_table.specs.Choices.{entry_in}

@@ -8,14 +8,15 @@ use lib.ListN.{get_elem?}
 use Rattle.atomic_table.specs.Table.{State}
 use Rattle.atomic_table.proofs.Lists.{at_set, set_else}
 use Rattle.oth_search.specs.Entries.{Bounded}
-use Rattle.oth_table.specs.History.{Name, content, owner, publishes, IsLegal, HasNone}
-use Rattle.oth_table.specs.Cells.{version, word, held, HasWords, IsNumbered, IsSeated, IsNew, Knows, IsFit, IsKept}
+use Rattle.oth_history.specs.History.{Name, HasNone}
+use Rattle.oth_history.proofs.Histories.{none_append, seat_past, made_past, since_more, begins_more}
+use Rattle.oth_table.specs.History.{author, makes, content, owner, publishes, IsLegal}
+use Rattle.oth_table.specs.Cells.{version, word, held, HasWords, IsSeated, IsNew, Knows, IsFit, IsKept}
 use Rattle.oth_table.specs.declared.history.Event.{Event}
 use Rattle.oth_table.specs.declared.history.Limits.{Limits}
 use Rattle.oth_table.specs.declared.history.Stage.{Stage}
 use Rattle.oth_table.specs.declared.history.Stage.TheVariants.{Idle, Reading, Writing, Making, Note}
 use Rattle.oth_table.specs.declared.history.View.{View}
-use Rattle.oth_table.proofs.Histories.{none_append, seat_past, since_more, begins_more}
 
 abbrev pub St : Type 0
 St = State Bounded View
@@ -35,9 +36,8 @@ at_here (x ∷ xs) (suc i) v w e = at_here xs i v w e
 -- The seat n adds the events es, and the words ws become ws'. No other seat finds what it knows changed.
 pub record Goes (about : Limits) (log : List Event) (ws : List ℕ) (n : Name) (es : List Event) (ws' : List ℕ) : Type 0 where
   pub legal : IsLegal about.terms (es ++ log)
-  pub numbered : IsNumbered (es ++ log)
   pub wide : length ws' ≡ length ws
-  pub alone : (m : Name) → m ≢ n → HasNone m es
+  pub alone : (m : Name) → m ≢ n → HasNone author m es
   pub counted : (c : ℕ) → version ws' c ≡ 2 * publishes c (es ++ log) + held (owner c (es ++ log))
   pub stored : (c : ℕ) (x : Bounded) → owner c (es ++ log) ≡ None → content c (es ++ log) ≡ Some x → HasWords ws' c 0 3 x
   pub grows : (c : ℕ) → version ws c ≤ version ws' c
@@ -64,15 +64,15 @@ module _ (about : Limits) (log : List Event) (ws : List ℕ) (n : Name) (es : Li
     λ j lo hi. t.2 j (omega arith) ∙ k.5 j lo hi,
     λ x is j lo hi. t.2 j hi ∙ k.6 x is j lo hi,
   )
-  others_know u (Making t) apart k = (seat_past es log t k.0, k.1, new_stays t k.2)
+  others_know u (Making t) apart k = (made_past author makes es log u.name t k.0, new_stays t k.1)
   others_know u Note apart k = tt
 
   pub other_fits : (u : View) → (IsSeated u.stage → u.name ≢ n) → IsFit log ws views about.terms u → IsFit (es ++ log) ws' (set views id w) about.terms u
   other_fits u apart f = record {
     worn = f.worn;
     told = begins_more u.told log es f.told;
-    seat = λ sits. seat_past es log u.name (f.seat sits);
-    seen = λ sits. since_more u.name u.seen log es (g.alone u.name (apart sits)) (f.seen sits);
+    seat = λ sits. seat_past makes es log u.name (f.seat sits);
+    seen = λ sits. since_more author u.name u.seen log es (g.alone u.name (apart sits)) (f.seen sits);
     knows = others_know u u.stage apart f.knows;
   }
 
@@ -94,14 +94,13 @@ module _ (about : Limits) (s : St) (r : IsKept about s) (id : ℕ) (v w : View) 
       (λ is. let same : v ≡ y = some-injective v y (sym at ∙ (ap (λ k. get_elem? s.views k) (sym is) ∙ e)) in λ named. new id w here sits (still ∙ (ap (λ (z : View). z.name) same ∙ named)))
       (λ other. new j y (set_else s.views id j w other ∙ e) sy)
 
-  pub heard_of : (t : Name) → IsNew (set s.views id w) t → HasNone t (es ++ r.log)
-  heard_of t new = none_append t es r.log (g.alone t (λ is. new id w here sits (still ∙ sym is))) (r.heard t (new_before t new))
+  pub heard_of : (t : Name) → IsNew (set s.views id w) t → HasNone author t (es ++ r.log)
+  heard_of t new = none_append author t es r.log (g.alone t (λ is. new id w here sits (still ∙ sym is))) (r.heard t (new_before t new))
 
   abbrev pub kept : IsFit (es ++ r.log) ws' (set s.views id w) about.terms w → IsKept about (turned s ws' id w)
   kept own = record {
     log = es ++ r.log;
     legal = g.legal;
-    numbered = g.numbered;
     wide = g.wide ∙ r.wide;
     counted = g.counted;
     stored = g.stored;

@@ -4,8 +4,9 @@ use Rattle.std.specs.Prelude.{Option, Some, None, slice_index, if◌then◌else�
 use mathlib.Core.Logic.{dite}
 use native.Mathlib.Decide.{ℕ_discrete}
 use Rattle.oth_search.specs.Entries.{Bounded, words_of, joined}
-use Rattle.oth_table.specs.History.{Name, IsTrueBy, author, content, owner, publishes, IsSeat, Fits}
-use Rattle.oth_table.specs.Cells.{first_word, version, word, held, HasWords, IsNumbered, IsKept}
+use Rattle.oth_history.specs.History.{Name, MayCome, IsSeat}
+use Rattle.oth_table.specs.History.{IsTrueBy, author, makes, content, owner, publishes, Fits}
+use Rattle.oth_table.specs.Cells.{first_word, version, word, held, HasWords, IsKept}
 use Rattle.oth_table.specs.declared.history.Event.{Event}
 use Rattle.oth_table.specs.declared.history.Event.TheVariants.{Claim, Publish}
 use Rattle.oth_table.specs.declared.history.Limits.{Limits}
@@ -25,13 +26,11 @@ pub record IsQuiet (e : Event) (h : List Event) : Type 0 where
   pub same_owner : (c : ℕ) → owner c (e ∷ h) ≡ owner c h
   pub same_content : (c : ℕ) → content c (e ∷ h) ≡ content c h
   pub same_count : (c : ℕ) → publishes c (e ∷ h) ≡ publishes c h
-  pub numbered : IsNumbered (e ∷ h)
 
 module _ (about : Limits) (s : St) (r : IsKept about s) where
   pub rests : (n : Name) → Goes about r.log s.words n [] s.words
   rests n = record {
     legal = r.legal;
-    numbered = r.numbered;
     wide = refl;
     alone = λ m _. tt;
     counted = r.counted;
@@ -41,10 +40,9 @@ module _ (about : Limits) (s : St) (r : IsKept about s) where
     theirs = λ c m _ o. (refl, o, λ j _. refl);
   }
 
-  pub tells : (e : Event) → IsQuiet e r.log → IsSeat r.log (author e) → Fits about.terms r.log e → Goes about r.log s.words (author e) (e ∷ []) s.words
-  tells e q seat fits = record {
-    legal = (seat, fits, r.legal);
-    numbered = q.numbered;
+  pub tells : (e : Event) → IsQuiet e r.log → MayCome author makes r.log e → Fits about.terms r.log e → Goes about r.log s.words (author e) (e ∷ []) s.words
+  tells e q may fits = record {
+    legal = (may, fits, r.legal);
     wide = refl;
     alone = λ m other. ((λ is. other (sym is)), tt);
     counted = λ c. r.counted c ∙ sym (λ i. 2 * q.same_count c i + held (q.same_owner c i));
@@ -65,11 +63,10 @@ module _ (about : Limits) (s : St) (r : IsKept about s) where
     same_word d j l = get_or-set_other s.words (first_word c) (first_word d + (1 + j)) x 0 (λ e. absurd (omega arith))
 
   module _ (n : Name) (c : ℕ) (inside : first_word c < length s.words) where
-    pub claims_it : owner c r.log ≡ None → publishes c r.log < about.terms.wear → IsSeat r.log n
+    pub claims_it : owner c r.log ≡ None → publishes c r.log < about.terms.wear → IsSeat makes r.log n
         → Goes about r.log s.words n (Claim n c ∷ []) (set s.words (first_word c) (version s.words c + 1))
     claims_it free fresh seat = let v : ℕ = version s.words c + 1 in record {
-      legal = (seat, (free, fresh), r.legal);
-      numbered = r.numbered;
+      legal = ((seat, tt), (free, fresh), r.legal);
       wide = length-set s.words (first_word c) v;
       alone = λ m other. ((λ is. other (sym is)), tt);
       counted = λ d. tested c d (λ b. version (set s.words (first_word c) v) d ≡ 2 * publishes d r.log + held (if b then Some n else owner d r.log))
@@ -91,11 +88,10 @@ module _ (about : Limits) (s : St) (r : IsKept about s) where
           ));
     }
 
-    pub publishes_it : (given : Bounded) (kept : Bounded) → owner c r.log ≡ Some n → kept ≡ joined (content c r.log) given → IsTrueBy about.terms.scoring given → IsTrueBy about.terms.scoring kept → IsSeat r.log n
+    pub publishes_it : (given : Bounded) (kept : Bounded) → owner c r.log ≡ Some n → kept ≡ joined (content c r.log) given → IsTrueBy about.terms.scoring given → IsTrueBy about.terms.scoring kept → IsSeat makes r.log n
         → HasWords s.words c 0 3 kept → Goes about r.log s.words n (Publish n c given kept ∷ []) (set s.words (first_word c) (version s.words c + 1))
     publishes_it given kept mine joins true_given true_kept seat words = let v : ℕ = version s.words c + 1 in record {
-      legal = (seat, (mine, joins, true_given, true_kept), r.legal);
-      numbered = r.numbered;
+      legal = ((seat, tt), (mine, joins, true_given, true_kept), r.legal);
       wide = length-set s.words (first_word c) v;
       alone = λ m other. ((λ is. other (sym is)), tt);
       counted = λ d. tested c d
@@ -132,7 +128,6 @@ module _ (about : Limits) (s : St) (r : IsKept about s) where
     pub stores_it : (k b : ℕ) → k < 3 → owner c r.log ≡ Some n → Goes about r.log s.words n [] (set s.words (first_word c + (1 + k)) b)
     stores_it k b low mine = record {
       legal = r.legal;
-      numbered = r.numbered;
       wide = length-set s.words (first_word c + (1 + k)) b;
       alone = λ m _. tt;
       counted = λ d. still_version k b d low ∙ r.counted d;

@@ -5,7 +5,8 @@
 use Rattle.std.specs.Prelude.{◌≡◌, ◌≢◌, ℕ, List, [], ◌∷◌, Option, None}
 use Rattle.oth_rules.specs.Position.{Position}
 use Rattle.oth_table.specs.declared.history.Terms.{Terms}
-use Rattle.oth_table.specs.History.{owner, author, IsLegal, Since}
+use Rattle.oth_history.specs.History.{Since}
+use Rattle.oth_table.specs.History.{owner, author, IsLegal}
 use Rattle.oth_table.specs.Calls.{Looks, Puts}
 use Rattle.oth_table.specs.Pairs.{LooksFor, PutsFor}
 use Rattle.oth_table.specs.Parts.{Use}
@@ -21,7 +22,7 @@ use Rattle.oth_table.specs.declared.table.Put.TheVariants.{Skipped}
 abbrev pub IsOwn : List Event → Type 0
 IsOwn [] = Unit {0}
 IsOwn (Made s t ∷ h) = ⊥
-IsOwn (e ∷ h) = (author e ≡ []) × IsOwn h
+IsOwn (e ∷ h) = (author e ≡ 0) × IsOwn h
 
 abbrev pub IsAlone : List Event → Type 0
 IsAlone h = IsOwn h × ((c : ℕ) → owner c h ≡ None)
@@ -29,21 +30,21 @@ IsAlone h = IsOwn h × ((c : ℕ) → owner c h ≡ None)
 -- a look of a seat that is alone isn't busy, and leaves it alone
 abbrev pub LooksAlone : Type 0
 LooksAlone = (terms : Terms) (c : ℕ) (earlier later : List Event) (found : Look)
-    → IsAlone earlier → Looks terms [] earlier later c found → IsAlone later × (found ≢ Busy)
+    → IsAlone earlier → Looks terms 0 earlier later c found → IsAlone later × (found ≢ Busy)
 
 -- a put of a seat that is alone isn't skipped, and leaves it alone
 abbrev pub PutsAlone : Type 0
 PutsAlone = (terms : Terms) (c : ℕ) (earlier later : List Event) (given : Bounded) (did : Put)
-    → IsAlone earlier → Puts terms [] earlier later c given did → IsAlone later × (did ≢ Skipped)
+    → IsAlone earlier → Puts terms 0 earlier later c given did → IsAlone later × (did ≢ Skipped)
 
 -- a seat that is alone and asks how often a cell was published sees nothing new
 abbrev pub CountsAlone : Type 0
 CountsAlone = (terms : Terms) (earlier later : List Event)
-    → IsAlone earlier → IsLegal terms later → Since [] earlier later → IsAlone later
+    → IsAlone earlier → IsLegal terms later → Since author 0 earlier later → IsAlone later
 
 -- the cells of a search, used by the first seat, which is alone
 pub record IsUsedAlone (u : Use) : Type 0 where
-  pub first : u.seat.name ≡ []
+  pub first : u.seat.name ≡ 0
   pub alone : IsAlone u.seat.seen
 
 -- a search that looks for a board finds neither cell busy

@@ -12,7 +12,8 @@ use Rattle.std.specs.Prelude.{◌≡◌, ℕ, ◌^◌, ◌<◌, List, [], Some, 
 use Rattle.oth_rules.specs.declared.scoring.Scoring.{Scoring}
 use Rattle.oth_search.specs.Entries.{Bounded}
 use Rattle.oth_table.specs.declared.history.Terms.{Terms}
-use Rattle.oth_table.specs.History.{Name, IsLegal, Since, HasNone, Ends, GoesAway}
+use Rattle.oth_history.specs.History.{Name, Since, HasNone}
+use Rattle.oth_table.specs.History.{author, IsLegal, Ends, GoesAway}
 use Rattle.oth_table.specs.declared.history.Event.{Event}
 use Rattle.oth_table.specs.declared.history.Event.TheVariants.{Claim, Publish, Look as looked, Away, Made}
 use Rattle.oth_table.specs.declared.history.Why as why
@@ -41,7 +42,7 @@ IsSeatOf t s = (s.table ≡ t.id) × (s.terms ≡ t.terms)
 abbrev pub Opens : ℕ → ℕ → Scoring → Shape → Sitting → Type 0
 Opens cells wear scoring t s =
     IsSize cells × IsWear wear × (t.cells ≡ cells) × (t.terms.wear ≡ wear) × (t.terms.scoring ≡ scoring)
-    × IsSeatOf t s × (s.name ≡ []) × (s.seen ≡ [])
+    × IsSeatOf t s × (s.name ≡ 0) × (s.seen ≡ [])
 
 abbrev pub IsSame : Sitting → Sitting → Type 0
 IsSame s t = (t.table ≡ s.table) × (t.terms ≡ s.terms) × (t.name ≡ s.name)
@@ -69,8 +70,8 @@ pub record Makes (s t new : Sitting) : Type 0 where
   pub like : (new.table ≡ s.table) × (new.terms ≡ s.terms)
   pub ends : Ends s.terms s.name s.seen t.seen (Made s.name new.name)
   pub seen : new.seen ≡ t.seen
-  pub idle : HasNone new.name new.seen
+  pub idle : HasNone author new.name new.seen
 
 -- both seats have seen the same legal history, which begins with what each had seen and has no further event of either
 abbrev pub Meet : Sitting → Sitting → Sitting → Sitting → Type 0
-Meet s s' t t' = (s'.seen ≡ t'.seen) × IsLegal s.terms s'.seen × Since s.name s.seen s'.seen × Since t.name t.seen t'.seen
+Meet s s' t t' = (s'.seen ≡ t'.seen) × IsLegal s.terms s'.seen × Since author s.name s.seen s'.seen × Since author t.name t.seen t'.seen

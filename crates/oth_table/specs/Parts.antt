@@ -6,7 +6,7 @@
 use Rattle.std.specs.Prelude.{ℕ, List}
 use Rattle.atomic_table.specs.Seated.{TableId}
 use Rattle.oth_table.specs.declared.history.Terms.{Terms}
-use Rattle.oth_table.specs.History.{Name}
+use Rattle.oth_history.specs.History.{Name}
 use Rattle.oth_table.specs.declared.history.Event.{Event}
 
 pub record Shape : Type 0 where

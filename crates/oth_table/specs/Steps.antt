@@ -6,13 +6,14 @@
 --     stored, published        the store of a word under the claim, and of the version that ends it
 --     made                     the load after which a seat is made
 --     caught_up, followed, counted      loads by which a seat sees more
-use Rattle.std.specs.Prelude.{◌≡◌, ◌≢◌, ℕ, zero, ◌+◌, ◌-◌, ◌/◌, ◌%◌, ◌<◌, ◌≤◌, ◌∷◌, slice_index, Option, Some, None}
+use Rattle.std.specs.Prelude.{◌≡◌, ◌≢◌, ℕ, zero, ◌+◌, ◌-◌, ◌/◌, ◌%◌, ◌<◌, ◌≤◌, slice_index, Option, Some, None}
 use mathlib.Core.Option.{some}
 use Rattle.atomic_table.specs.Table.{Step, Me}
 use Rattle.oth_rules.specs.declared.scoring.Scoring.{Scoring}
 use Rattle.oth_search.specs.Entries.{Bounded, words_of, joined}
 use Rattle.oth_table.specs.Cells.{first_word}
-use Rattle.oth_table.specs.History.{Name, IsTrueBy, makes, publishes, IsLegal, Begins, Since, Ends, GoesAway}
+use Rattle.oth_history.specs.History.{Name, Begins, Since}
+use Rattle.oth_table.specs.History.{author, IsTrueBy, publishes, IsLegal, Ends, GoesAway}
 use Rattle.oth_table.specs.declared.history.Why.{Why}
 use Rattle.oth_table.specs.declared.history.Why.TheVariants.{Busy, Skipped, Worn}
 use Rattle.oth_table.specs.declared.history.Event.{Event}
@@ -108,16 +109,13 @@ abbrev pub published : View → Stage → View → Type 0
 published v (Writing c at old given k) w = Did v w (Publish v.name c given (joined old given))
 published v _ w = Unit {0}
 
--- the next seat is about to be made
-abbrev pub next_name : View → Name
-next_name v = makes v.name v.seen ∷ v.name
-
+-- a seat of some new name is about to be made
 abbrev pub made : View → View → Type 0
-made v w = IsSameSeat v w × (w.stage ≡ Making (next_name v)) × Ends v.terms v.name v.seen w.seen (Made v.name (next_name v))
+made v w = IsSameSeat v w × ((name : Name) × (w.stage ≡ Making name) × Ends v.terms v.name v.seen w.seen (Made v.name name))
 
 -- the seat has seen more, and has done nothing since
 abbrev pub Sees : View → View → Type 0
-Sees v w = IsSameSeat v w × (w.stage ≡ Idle) × IsLegal v.terms w.seen × Since v.name v.seen w.seen
+Sees v w = IsSameSeat v w × (w.stage ≡ Idle) × IsLegal v.terms w.seen × Since author v.name v.seen w.seen
 
 abbrev pub caught_up : View → View → Type 0
 caught_up v w = Sees v w × Begins v.told w.seen

@@ -1,5 +1,6 @@
 //! What the proofs say of a table: its history, and what each seat knows. Of these types only `Terms` and `Limits` have
 //! values.
+use oth_history::Name;
 use oth_rules::Scoring;
 use oth_search::Entry;
 use std::collections::LinkedList;
@@ -13,9 +14,6 @@ pub enum Why {
     /// A put found the cell published as often as it may be.
     Worn,
 }
-
-/// A seat's name: the first is empty, and the k-th that a seat makes has k before its maker's name.
-pub type Name = LinkedList<u64>;
 
 /// An event, by the seat that did it and the cell.
 pub enum Event {

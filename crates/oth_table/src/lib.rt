@@ -13,7 +13,7 @@ mod tests;
 
 pub use cells::TableCells;
 pub use choice::{pick, place, second};
-pub use history::{Event, Limits, Name, Stage, Terms, View, Why};
+pub use history::{Event, Limits, Stage, Terms, View, Why};
 pub use laws::{alone, published_within_the_wear};
 pub use rule::OneHistory;
 pub use size::is_size;

@@ -2,8 +2,9 @@
 ghost use Rattle.std.specs.Prelude.{◌≡◌, ℕ, MatchBool, Option, ◌+◌, ◌*◌, ◌/◌, ◌%◌, ◌^◌, ◌<◌, ◌≤◌, List, [], Some, IfOk};
 ghost use Rattle.std.specs.Prelude.{IfErr, IsTrue, ◌↔◌, ◌-◌};
 ghost use Rattle.oth_search.specs.Entries.{Bounded, joined, words_of};
+ghost use Rattle.oth_history.specs.History.{Since};
 ghost use Rattle.oth_table.specs.Cells.{first_word};
-ghost use Rattle.oth_table.specs.History.{Ends, IsLegal, Since, publishes};
+ghost use Rattle.oth_table.specs.History.{author, Ends, IsLegal, publishes};
 ghost use Rattle.oth_table.specs.Steps.{glanced, read, checked, aimed, claimed, found_under, stored, published};
 ghost use Rattle.oth_table.specs.Steps.{IsSameSeat, IsReading, IsClaimed, Stays, Did, WentAway, Claims, WillKeep};
 ghost use Rattle.oth_table.specs.Steps.{MayReadClaimed, MayStore, MayPublish};
@@ -183,7 +184,7 @@ impl SharedTable {
         requires cells { IsSize cells }
         requires wear { IsWear terms.wear }
         ensures table { IfOk result (λ t. (t.0.cells ≡ cells) × (t.0.terms ≡ terms)) }
-        ensures seat { IfOk result (λ t. IsSeatOf t.0 t.1 × (t.1.name ≡ []) × (t.1.seen ≡ [])) }
+        ensures seat { IfOk result (λ t. IsSeatOf t.0 t.1 × (t.1.name ≡ 0) × (t.1.seen ≡ [])) }
     {
         let mark = Box::new(alloc, 0)?;
         // As many words as stand before a cell that would come next.
@@ -277,7 +278,8 @@ impl SharedTable {
         requires seat { IsSeatOf self.now seat.old }
         requires cell { cell < self.now.cells }
         ensures seat { IsSame seat.old seat.new }
-        ensures history { IsLegal seat.old.terms seat.new.seen × Since seat.old.name seat.old.seen seat.new.seen }
+        ensures history { IsLegal seat.old.terms seat.new.seen
+            × Since author seat.old.name seat.old.seen seat.new.seen }
         ensures count { publishes cell seat.new.seen ≡ result }
     {
         self.table

@@ -1,4 +1,4 @@
-use Rattle.std.proofs.Common.{◌+◌, ◌*◌, ◌≡◌}
+use Rattle.std.proofs.Common.{◌+◌, ◌*◌}
 use Rattle.oth_pool.proofs.glance.+glancing.Given as goal
 
 abbrev pub decreases-reaches : goal.decreases-reaches

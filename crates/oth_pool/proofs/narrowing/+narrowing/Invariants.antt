@@ -1,4 +1,4 @@
-use Rattle.std.proofs.Common.{◌+◌, ◌*◌, ◌≡◌}
+use Rattle.std.proofs.Common.{◌+◌, ◌*◌}
 use Rattle.oth_pool.proofs.narrowing.+narrowing.Given as goal
 
 abbrev pub decreases-narrow : goal.decreases-narrow

@@ -1,4 +1,4 @@
-use Rattle.std.proofs.Common.{◌∷◌, ◌++◌, [], map, ap, ◌∙◌, arith, length-append, Some}
+use Rattle.std.proofs.Common.{◌∷◌, ◌++◌, [], map, ap, ◌∙◌, arith, length-append}
 use Rattle.std.proofs.lemmas.List.{map-append}
 use Rattle.oth_pool.specs.declared.work.Job.{Job}
 use Rattle.oth_pieces.specs.declared.tasks.state.Hand.{Hand}

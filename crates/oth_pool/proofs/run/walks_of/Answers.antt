@@ -7,7 +7,7 @@ loop-preserved c =
     let inv = c.loop.invariant in
     let pushed = c.push_reserved.ensures in
     let made = c.in-Ok-seat.ensures.made in
-    let same = made.event.goes.same in (
+    let same = made.event.same in (
       omega (arith, pushed.len),
       omega (arith, pushed.capacity),
       (same.0 ∙ inv.2.0, same.1 ∙ inv.2.1),

@@ -1,6 +1,8 @@
 use Rattle.std.proofs.Common.{◌≡◌, ◌∙◌, ap, subst, List}
+use Rattle.oth_history.specs.History.{Begins}
+use Rattle.oth_history.proofs.Histories.{since_begins}
+use Rattle.oth_pieces.specs.History.{author}
 use Rattle.oth_pieces.specs.declared.floor.event.Event.{Event}
-use Rattle.oth_pieces.specs.History.{Begins}
 use Rattle.oth_pieces.specs.Floor.{longer}
 use Rattle.oth_pieces.specs.Watch.{Watcher}
 use Rattle.oth_pieces.proofs.Histories.{longer_both}
@@ -25,7 +27,7 @@ returns-clause-same c =
     let at_x : List Event → Type 0 = λ l. Begins l x in
     let at_y : List Event → Type 0 = λ l. Begins l y in
     longer_both a b x y (along a _ b _ x same_a told_other c.learn.ensures.seen) (along b _ a _ y same_b told_one c.learn-2.ensures.seen)
-    (subst at_x same_a c.learn.ensures.goes.begins)
+    (subst at_x same_a (since_begins author c.messenger-from_one.new.seat.name c.messenger-from_one.new.seat.seen x c.learn.ensures.goes.since))
     (subst at_x told_other c.learn.ensures.told)
     (subst at_y told_one c.learn-2.ensures.told)
-    (subst at_y same_b c.learn-2.ensures.goes.begins)
+    (subst at_y same_b (since_begins author c.messenger-from_other.new.seat.name c.messenger-from_other.new.seat.seen y c.learn-2.ensures.goes.since))
