@@ -17,7 +17,7 @@ use Rattle.oth_main.specs.Gathered.{IsGathered}
 use Rattle.oth_main.specs.Reply.{reply}
 use Rattle.oth_main.specs.Report.{Cut, after_end, cut, ended_report, last_report, onto_first, report, with_end}
 use Rattle.oth_main.specs.Halfway.{IsUpTo, WritesEnded}
-use Rattle.oth_main.specs.Run.{Writes}
+use Rattle.oth_main.specs.Run.{AreLawful, RefusesBy, Writes}
 use Rattle.oth_main.proofs.GatherLemmas.{beginning_within}
 
 -- ---- what was cut
@@ -181,6 +181,14 @@ written_beginning reply before now input part = part
 pub ended_begins_report : (reply : List ℕ → List ℕ) (before b : Option (List ℕ)) (input : List ℕ) → AppendsBeginning before b (ended_report reply input) → AppendsBeginning before b (report reply input)
 unfolding report
 ended_begins_report reply before b input part = beginning_within before b _ _ part (last_report reply (cut input).rest, refl)
+
+-- a run that is refused wrote nothing
+pub refused_writes : (settings : Settings) (fault : RunFault) → (AreLawful settings → ⊥) → RefusesBy {T = Settings} settings.workers settings.cells (Err fault)
+    → Writes (reply settings) (Err fault) [] []
+refused_writes settings Read unlawful by = absurd (unlawful (record { workers = by.0; cells = by.1 }))
+refused_writes settings Write unlawful by = absurd (unlawful (record { workers = by.0; cells = by.1 }))
+refused_writes settings Workers unlawful by = (refl, refl)
+refused_writes settings Cells unlawful by = (refl, refl)
 
 -- what a run that failed wrote
 pub after_fault : (settings : Settings) (engine : Engine) (before b : Option (List ℕ)) (fault : RunFault) (input : List ℕ) → WritesEnded settings engine before b (Err fault) input

@@ -33,7 +33,7 @@ pub record AreLawful (settings : Settings) : Type 0 where
   pub workers : IsCrew settings.workers
   pub cells : IsSizeOrNone settings.cells
 
-abbrev pub RefusesBy : ℕ → ℕ → Result (Unit {0}) RunFault → Type 0
+abbrev pub RefusesBy : {T : Type 0} → ℕ → ℕ → Result T RunFault → Type 0
 RefusesBy workers cells (Ok done) = IsCrew workers × IsSizeOrNone cells
 RefusesBy workers cells (Err Read) = IsCrew workers × IsSizeOrNone cells
 RefusesBy workers cells (Err Write) = IsCrew workers × IsSizeOrNone cells

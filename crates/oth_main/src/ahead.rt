@@ -2,8 +2,8 @@
 
 ghost use Rattle.std.specs.Prelude.{◌≡◌, ◌<◌, ◌↔◌, IsErr, IfOk, IfErr};
 ghost use Rattle.oth_rules.specs.Position.{empty_count};
-ghost use Rattle.oth_main.specs.Run.{AreLawful};
 
+use crate::checking::Lawful;
 use crate::lines::split_line;
 use crate::solver::Solver;
 use oth_batch::{Boards, answer_among};
@@ -11,7 +11,7 @@ use oth_pool::Gate;
 use oth_rules::Board;
 use oth_search::{Answer, MOST_EMPTIES, TooManyEmpties};
 use oth_text::read_solvable;
-use oth_words::{Command, Settings};
+use oth_words::Command;
 use std::alloc::Global;
 use std::thread::Threads;
 
@@ -40,9 +40,8 @@ impl Ahead {
         &self,
         solver: &Solver<'_, T, G>,
         board: &Board,
-        settings: &Settings,
+        settings: &Lawful,
     ) -> Result<Answer, TooManyEmpties>
-        requires { AreLawful settings.now }
         ensures refused { IsErr result ↔ (30 < empty_count board.now) }
         ensures counted { IfErr result (λ e. e.empties ≡ empty_count board.now) }
         ensures board { IfOk result (λ a. a.board ≡ board.now) }
@@ -52,7 +51,7 @@ impl Ahead {
         if empties > MOST_EMPTIES {
             return Err(TooManyEmpties { empties });
         }
-        match answer_among(self.answers.as_slice(), board, settings.scoring) {
+        match answer_among(self.answers.as_slice(), board, settings.get().scoring) {
             Some(answer) => Ok(answer),
             None => solver.answer_of(board, settings),
         }
@@ -63,10 +62,11 @@ impl Ahead {
     pub fn pass<T: Threads + Sync, G: Gate>(
         &mut self,
         solver: &Solver<'_, T, G>,
-        settings: &Settings,
+        settings: &Lawful,
         bytes: &[u8],
     ) {
-        if settings.command != Command::Solve || settings.workers < 2 {
+        let asked = settings.get();
+        if asked.command != Command::Solve || asked.workers < 2 {
             return;
         }
         if self.lines == 0 {

@@ -20,7 +20,7 @@ ghost use Rattle.oth_main.specs.declared.fault.RunFault.TheVariants.{Write};
 
 use crate::ahead::Ahead;
 use crate::book_file::{REFUSED, open_book, print_refusal};
-use crate::checking::check_settings;
+use crate::checking::Lawful;
 use crate::fault::RunFault;
 use crate::message::Message;
 use crate::solver::Solver;
@@ -28,7 +28,7 @@ use oth_book::{AddError, Book, write};
 use oth_pool::Open;
 use oth_search::Answer;
 use oth_text::{BoardReader, LineFault, Sink, Source, fault_line};
-use oth_words::{Command, DEFAULT_CELLS, Settings};
+use oth_words::{DEFAULT_CELLS, Settings};
 use std::alloc::Global;
 use std::sync::Wait;
 use std::thread::{Threads, available_parallelism};
@@ -103,11 +103,12 @@ pub fn book_add<T: Wait + Threads + Sync, R: Source, W: Sink, E: Sink>(
         × (IsRefused file.now ⊎ IsFullFor file.now (R.remaining reader.old) (R.remaining reader.new)) }
     ensures statuses { result ≤ 3 }
 {
-    if let Err(fault) = check_settings(settings) {
-        return print_run_fault(fault, errors);
-    }
+    let lawful = match Lawful::of(settings) {
+        Ok(lawful) => lawful,
+        Err(fault) => return print_run_fault(fault, errors),
+    };
     match open_book(rt, alloc, file, settings.workers, settings.cells) {
-        Ok(book) => add_lines(rt, alloc, book, reader, writer, errors, settings),
+        Ok(book) => add_lines(rt, alloc, book, reader, writer, errors, &lawful),
         Err(refusal) => {
             print_refusal(&refusal, errors);
             REFUSED
@@ -136,19 +137,6 @@ fn processors<T: Threads>(rt: &T) -> u8 {
     }
 }
 
-// The settings by which lines are solved for a book: by its scoring.
-fn by_book(settings: &Settings, book: &Book) -> Settings
-    requires { AreLawful settings.now }
-    ensures lawful { AreLawful result }
-    ensures scoring { result.scoring ≡ book.now.scoring }
-{
-    Settings {
-        command: Command::Solve,
-        scoring: book.scoring(),
-        ..*settings
-    }
-}
-
 // Passes the first of the lines in these bytes, after boards of them were solved side by side for the book.
 fn pass_line<T: Threads + Sync>(
     ahead: &mut Ahead,
@@ -156,11 +144,9 @@ fn pass_line<T: Threads + Sync>(
     alloc: Global,
     book: &Book,
     bytes: &[u8],
-    settings: &Settings,
-)
-    requires { AreLawful settings.now }
-{
-    let asked = by_book(settings, book);
+    settings: &Lawful,
+) {
+    let asked = settings.to_solve_by(book.scoring());
     let solver = Solver {
         rt,
         alloc,
@@ -178,9 +164,8 @@ fn add_lines<T: Wait + Threads + Sync, R: Source, W: Sink, E: Sink>(
     reader: &mut R,
     writer: &mut W,
     errors: &mut E,
-    settings: &Settings,
+    settings: &Lawful,
 ) -> u8
-    requires lawful { AreLawful settings.now }
     requires holds { IsTrueBook book }
     ensures status { IsStatus result
         (AddsLines book (R.remaining reader.old) (R.remaining reader.new)
@@ -228,9 +213,8 @@ impl Addition {
         reader: &mut R,
         writer: &mut W,
         errors: &mut E,
-        settings: &Settings,
+        settings: &Lawful,
     ) -> Result<(), Stop>
-        requires lawful { AreLawful settings.now }
         requires line { KeepsLine self.old.line [] }
         requires holds { IsTrueBook self.old.book }
         ensures ok { OnOk result (AddsLines self.old.book (R.remaining reader.old) (R.remaining reader.new)
@@ -253,9 +237,8 @@ impl Addition {
         alloc: Global,
         reader: &mut R,
         errors: &mut E,
-        settings: &Settings,
+        settings: &Lawful,
     ) -> Result<(), Stop>
-        requires lawful { AreLawful settings.now }
         requires line { KeepsLine self.old.line [] }
         requires holds { IsTrueBook self.old.book }
         ensures ok { OnOk result (OfInput (R.remaining reader.old) (R.remaining reader.new)
@@ -285,9 +268,8 @@ impl Addition {
         alloc: Global,
         bytes: &[u8],
         errors: &mut E,
-        settings: &Settings,
+        settings: &Lawful,
     ) -> Result<(), Stop>
-        requires lawful { AreLawful settings.now }
         ensures ok { OnOk result ((before : Contents) (input : List ℕ)
             → IsAdding before self.old.book self.old.line input
             → IsAdding before self.new.book self.new.line (input ++ bytes.now)) }
@@ -309,9 +291,8 @@ impl Addition {
         rt: &T,
         alloc: Global,
         bytes: &[u8],
-        settings: &Settings,
+        settings: &Lawful,
     )
-        requires lawful { AreLawful settings.now }
         ensures book { self.new.book ≡ self.old.book }
         ensures line { self.new.line ≡ self.old.line }
     {
@@ -328,9 +309,8 @@ impl Addition {
         alloc: Global,
         byte: u8,
         errors: &mut E,
-        settings: &Settings,
+        settings: &Lawful,
     ) -> Result<(), Stop>
-        requires lawful { AreLawful settings.now }
         ensures ok { OnOk result ((before : Contents) (input : List ℕ)
             → IsAdding before self.old.book self.old.line input
             → IsAdding before self.new.book self.new.line (input ++ byte ∷ [])) }
@@ -352,9 +332,8 @@ impl Addition {
         rt: &T,
         alloc: Global,
         errors: &mut E,
-        settings: &Settings,
+        settings: &Lawful,
     ) -> Result<(), Stop>
-        requires lawful { AreLawful settings.now }
         ensures ok { OnOk result ((before : Contents) (input : List ℕ)
             → IsAdding before self.old.book self.old.line input
             → HasAdded before self.new.book input) }
@@ -375,9 +354,8 @@ impl Addition {
         rt: &T,
         alloc: Global,
         errors: &mut E,
-        settings: &Settings,
+        settings: &Lawful,
     ) -> Result<(), Stop>
-        requires lawful { AreLawful settings.now }
         ensures ok { OnOk result ((before : Contents) (input : List ℕ)
             → IsAdding before self.old.book self.old.line input
             → IsAdding before self.new.book self.new.line (input ++ 10 ∷ [])) }
@@ -398,9 +376,8 @@ impl Addition {
         rt: &T,
         alloc: Global,
         errors: &mut E,
-        settings: &Settings,
+        settings: &Lawful,
     ) -> Result<(), Stop>
-        requires lawful { AreLawful settings.now }
         ensures line { self.new.line ≡ self.old.line }
         ensures kept { Keeps self.old.book self.new.book }
         ensures holds { IsTrueBook self.old.book → IsTrueBook self.new.book }
@@ -427,15 +404,14 @@ impl Addition {
         &self,
         rt: &T,
         alloc: Global,
-        settings: &Settings,
+        settings: &Lawful,
     ) -> Result<Answer, LineFault>
-        requires lawful { AreLawful settings.now }
         ensures answers { (line : List ℕ) → KeepsLine self.now.line line → AnswersLine (solvable_reading line) result }
         ensures scoring { IfOk result (λ a. a.scoring ≡ self.now.book.scoring) }
         ensures few { IfOk result (λ a. empty_count a.board ≤ 30) }
     {
         let position = self.line.read()?;
-        let asked = by_book(settings, &self.book);
+        let asked = settings.to_solve_by(self.book.scoring());
         let solver = Solver {
             rt,
             alloc,

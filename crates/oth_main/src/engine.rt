@@ -6,9 +6,10 @@ ghost use Rattle.oth_main.specs.Halfway.{Answers, Ends, StopsInside, StopsWithin
 ghost use Rattle.oth_main.specs.Line.{Holds};
 ghost use Rattle.oth_main.specs.Reply.{reply};
 ghost use Rattle.oth_main.specs.Report.{last_report, with_end};
-ghost use Rattle.oth_main.specs.Run.{AreLawful, FailsBy};
+ghost use Rattle.oth_main.specs.Run.{FailsBy};
 
 use crate::ahead::Ahead;
+use crate::checking::Lawful;
 use crate::fault::RunFault;
 use crate::line::Line;
 use crate::lines::split_line;
@@ -16,7 +17,7 @@ use crate::solver::Solver;
 use crate::waiting::Waiting;
 use oth_pool::Gate;
 use oth_text::{Failed, Sink, Source};
-use oth_words::{Command, Settings};
+use oth_words::Command;
 use std::alloc::Global;
 use std::sync::Wait;
 use std::thread::Threads;
@@ -49,10 +50,9 @@ impl Engine {
     fn end_line<T: Threads + Sync, W: Sink, G: Gate>(
         &mut self,
         solver: &Solver<'_, T, G>,
-        settings: &Settings,
+        settings: &Lawful,
         writer: &mut W,
     ) -> Result<(), Failed>
-        requires lawful { AreLawful settings.now }
         ensures line { OnOk result ((line : List ℕ) → Holds settings.now.command self.old.line line
             → Holds settings.now.command self.new.line []) }
         ensures ok { OnOk result (Answers (with_end (reply settings.now)) settings.now self.old self.new
@@ -73,11 +73,10 @@ impl Engine {
     fn take_line<T: Threads + Sync, W: Sink, G: Gate>(
         &mut self,
         solver: &Solver<'_, T, G>,
-        settings: &Settings,
+        settings: &Lawful,
         writer: &mut W,
         part: &[u8],
     ) -> Result<(), Failed>
-        requires lawful { AreLawful settings.now }
         requires part { All (λ b. b ≢ 10) part.now }
         ensures ok { OnOk result (Takes settings.now self.old self.new
             (W.contents writer.old) (W.contents writer.new) (part.now ++ 10 ∷ [])) }
@@ -89,7 +88,7 @@ impl Engine {
         self.line.push(part);
         self.end_line(solver, settings, writer)?;
         self.waiting
-            .write_if(settings.command == Command::Solve, writer)?;
+            .write_if(settings.get().command == Command::Solve, writer)?;
         Ok(())
     }
 
@@ -97,11 +96,10 @@ impl Engine {
     fn take_bytes<T: Threads + Sync, W: Sink, G: Gate>(
         &mut self,
         solver: &Solver<'_, T, G>,
-        settings: &Settings,
+        settings: &Lawful,
         writer: &mut W,
         bytes: &[u8],
     ) -> Result<(), Failed>
-        requires lawful { AreLawful settings.now }
         ensures ok { OnOk result (Takes settings.now self.old self.new
             (W.contents writer.old) (W.contents writer.new) bytes.now) }
         ensures err { OnErr result (StopsWithin settings.now self.old
@@ -123,11 +121,10 @@ impl Engine {
     fn take_chunk<T: Threads + Sync, W: Sink, G: Gate>(
         &mut self,
         solver: &Solver<'_, T, G>,
-        settings: &Settings,
+        settings: &Lawful,
         writer: &mut W,
         bytes: &[u8],
     ) -> Result<(), Failed>
-        requires lawful { AreLawful settings.now }
         ensures empty { OnOk result (self.new.waiting.bytes.items ≡ []) }
         ensures ok { OnOk result (Takes settings.now self.old self.new
             (W.contents writer.old) (W.contents writer.new) bytes.now) }
@@ -148,9 +145,8 @@ impl Engine {
         solver: &Solver<'_, T, G>,
         reader: &mut R,
         writer: &mut W,
-        settings: &Settings,
+        settings: &Lawful,
     ) -> Result<(), RunFault>
-        requires lawful { AreLawful settings.now }
         requires reader { R.failed reader.old ≡ false }
         requires writer { W.failed writer.old ≡ false }
         requires line { Holds settings.now.command self.old.line [] }
@@ -180,10 +176,9 @@ impl Engine {
     fn end_last<T: Threads + Sync, W: Sink, G: Gate>(
         &mut self,
         solver: &Solver<'_, T, G>,
-        settings: &Settings,
+        settings: &Lawful,
         writer: &mut W,
     ) -> Result<(), Failed>
-        requires lawful { AreLawful settings.now }
         ensures ok { OnOk result (Answers (last_report (reply settings.now)) settings.now self.old self.new
             (W.contents writer.old) (W.contents writer.new)) }
         ensures err { OnErr result (StopsInside (last_report (reply settings.now)) settings.now self.old
@@ -201,10 +196,9 @@ impl Engine {
     pub fn finish<T: Threads + Sync, W: Sink, G: Gate>(
         &mut self,
         solver: &Solver<'_, T, G>,
-        settings: &Settings,
+        settings: &Lawful,
         writer: &mut W,
     ) -> Result<(), Failed>
-        requires lawful { AreLawful settings.now }
         ensures ok { OnOk result (Ends (last_report (reply settings.now)) settings.now self.old
             (W.contents writer.old) (W.contents writer.new)) }
         ensures flushed { OnOk result (W.flushed writer.new ≡ true) }

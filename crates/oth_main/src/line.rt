@@ -6,9 +6,9 @@ ghost use Rattle.oth_text.specs.Transcript.{StandsFor, is_nil, transcript_readin
 ghost use Rattle.oth_words.specs.declared.settings.Command.{Command as CommandGiven};
 ghost use Rattle.oth_main.specs.Line.{Holds};
 ghost use Rattle.oth_main.specs.Reply.{moves_reply, reply, solve_reply, transcript_reply};
-ghost use Rattle.oth_main.specs.Run.{AreLawful};
 
 use crate::ahead::Ahead;
+use crate::checking::Lawful;
 use crate::solver::Solver;
 use arrayvec::ArrayVec;
 use oth_pool::Gate;
@@ -16,7 +16,7 @@ use oth_text::{
     BoardReader, LineFault, REPORT_LINE_LEN, TranscriptReader, fault_line, moves_line, report_line,
     transcript_fault_line, write_board,
 };
-use oth_words::{Command, Settings};
+use oth_words::Command;
 use std::thread::Threads;
 
 /// The most bytes of a line that is written, without byte 10.
@@ -81,9 +81,8 @@ impl Line {
         &self,
         solver: &Solver<'_, T, G>,
         ahead: &Ahead,
-        settings: &Settings,
+        settings: &Lawful,
     ) -> ArrayVec<u8, REPLY_LEN>
-        requires { AreLawful settings.now }
         ensures { (line : List ℕ) → Holds settings.now.command self.now line
             → result.items ≡ reply settings.now line }
     {
@@ -100,9 +99,8 @@ fn solve_reply<T: Threads + Sync, G: Gate>(
     reader: &BoardReader,
     solver: &Solver<'_, T, G>,
     ahead: &Ahead,
-    settings: &Settings,
+    settings: &Lawful,
 ) -> ArrayVec<u8, REPLY_LEN>
-    requires { AreLawful settings.now }
     ensures { (line : List ℕ) → KeepsLine reader.now line
         → result.items ≡ solve_reply settings.now.scoring (solvable_reading line) }
 {

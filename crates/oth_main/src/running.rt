@@ -1,19 +1,17 @@
 //! A run over an input.
 
-ghost use Rattle.std.specs.Prelude.{◌≡◌, ◌↔◌, IsTrue, ℕ, List, [], false, true, OnOk};
+ghost use Rattle.std.specs.Prelude.{◌≡◌, ℕ, List, [], false, true, OnOk};
 ghost use Rattle.std.specs.Io.KnownBytes.{Appends, Consumes, IsAtEnd};
-ghost use Rattle.oth_table.specs.Sizes.{IsSizeOrNone};
 ghost use Rattle.oth_main.specs.Reply.{reply};
-ghost use Rattle.oth_main.specs.Run.{AreLawful, FailsBy, IsPastTests, OnRefusal, RefusesBy};
+ghost use Rattle.oth_main.specs.Run.{FailsBy, IsPastTests, OnRefusal, RefusesBy};
 ghost use Rattle.oth_main.specs.Run.{Writes};
 
+use crate::checking::Lawful;
 use crate::engine::Engine;
 use crate::fault::RunFault;
 use crate::solver::Solver;
 use oth_book::Book;
-use oth_pieces::is_crew;
 use oth_pool::Gate;
-use oth_table::is_size;
 use oth_text::{Sink, Source};
 use oth_words::Settings;
 use std::alloc::Global;
@@ -52,26 +50,14 @@ pub fn run<T: Wait + Threads + Sync, R: Source, W: Sink, G: Gate>(
     ensures refused { RefusesBy settings.now.workers settings.now.cells result }
     ensures untouched { OnRefusal result ((reader.new ≡ reader.old) × (writer.new ≡ writer.old)) }
 {
-    if !is_crew(settings.workers) {
-        return Err(RunFault::Workers);
-    }
-    if !are_cells(settings.cells) {
-        return Err(RunFault::Cells);
-    }
+    let lawful = Lawful::of(settings)?;
     let solver = Solver {
         rt,
         alloc,
         gate,
         book,
     };
-    run_lines(&solver, reader, writer, settings)
-}
-
-/// Whether a table can have so many cells.
-pub fn are_cells(cells: u32) -> bool
-    ensures { IsTrue result ↔ IsSizeOrNone cells }
-{
-    cells == 0 || is_size(cells)
+    run_lines(&solver, reader, writer, &lawful)
 }
 
 // The run by settings that were tested.
@@ -79,9 +65,8 @@ fn run_lines<T: Wait + Threads + Sync, R: Source, W: Sink, G: Gate>(
     solver: &Solver<'_, T, G>,
     reader: &mut R,
     writer: &mut W,
-    settings: &Settings,
+    settings: &Lawful,
 ) -> Result<(), RunFault>
-    requires lawful { AreLawful settings.now }
     requires reader { R.failed reader.old ≡ false }
     requires writer { W.failed writer.old ≡ false }
     ensures bytes { (input written : List ℕ) × Consumes (R.remaining reader.old) (R.remaining reader.new) input
@@ -92,7 +77,7 @@ fn run_lines<T: Wait + Threads + Sync, R: Source, W: Sink, G: Gate>(
     ensures devices { FailsBy result (R.failed reader.new) (W.failed writer.new) }
     ensures past_tests { IsPastTests result }
 {
-    let mut engine = Engine::new(solver.alloc, settings.command);
+    let mut engine = Engine::new(solver.alloc, settings.get().command);
     engine.run_ended(solver, reader, writer, settings)?;
     match engine.finish(solver, settings, writer) {
         Ok(()) => Ok(()),

@@ -2,11 +2,11 @@
 
 ghost use Rattle.std.specs.Prelude.{◌≡◌, ◌<◌, ◌↔◌, IsErr, IfOk, IfErr};
 ghost use Rattle.oth_rules.specs.Position.{empty_count};
-ghost use Rattle.oth_main.specs.Run.{AreLawful};
 
+use crate::checking::Lawful;
 use oth_batch::Batch;
 use oth_book::Book;
-use oth_pool::{Gate, SolveError, solve};
+use oth_pool::{Gate, solve};
 use oth_rules::Board;
 use oth_search::{Answer, TooManyEmpties};
 use oth_words::Settings;
@@ -28,37 +28,38 @@ pub struct Solver<'s, T, G> {
 
 impl<'s, T: Threads + Sync, G: Gate> Solver<'s, T, G> {
     /// The value and all best moves of a board.
-    pub fn answer_of(&self, board: &Board, settings: &Settings) -> Result<Answer, TooManyEmpties>
-        requires { AreLawful settings.now }
+    pub fn answer_of(&self, board: &Board, settings: &Lawful) -> Result<Answer, TooManyEmpties>
         ensures refused { IsErr result ↔ (30 < empty_count board.now) }
         ensures counted { IfErr result (λ e. e.empties ≡ empty_count board.now) }
         ensures board { IfOk result (λ a. a.board ≡ board.now) }
         ensures scoring { IfOk result (λ a. a.scoring ≡ settings.now.scoring) }
     {
+        let asked = settings.get();
         match solve(
             self.rt,
             self.alloc,
             board,
-            settings.workers,
-            settings.cells,
+            asked.workers,
+            asked.cells,
             self.gate,
             self.book,
-            settings.scoring,
+            asked.scoring,
         ) {
             Ok(answer) => Ok(answer),
-            Err(SolveError::TooManyEmpties(empties)) => Err(TooManyEmpties { empties }),
-            Err(SolveError::Workers | SolveError::Cells) => unreachable!(),
+            Err(_) => Err(TooManyEmpties {
+                empties: board.empties(),
+            }),
         }
     }
 
     /// What boards are solved with side by side.
-    pub fn batch(&self, settings: &Settings) -> Batch<'s, T, G> {
+    pub fn batch(&self, settings: &Lawful) -> Batch<'s, T, G> {
         let Settings {
             workers,
             cells,
             scoring,
             ..
-        } = *settings;
+        } = settings.get();
         Batch {
             rt: self.rt,
             alloc: self.alloc,

@@ -1,6 +1,6 @@
 //! The table, which threads share, and the seats through which they use it.
 ghost use Rattle.std.specs.Prelude.{◌≡◌, ℕ, MatchBool, Option, ◌+◌, ◌*◌, ◌/◌, ◌%◌, ◌^◌, ◌<◌, ◌≤◌, List, [], Some, IfOk};
-ghost use Rattle.std.specs.Prelude.{IfErr, IsTrue, ◌↔◌, ◌-◌};
+ghost use Rattle.std.specs.Prelude.{IfErr, ◌-◌};
 ghost use Rattle.oth_search.specs.Entries.{Bounded, joined, words_of};
 ghost use Rattle.oth_history.specs.History.{Since};
 ghost use Rattle.oth_table.specs.Cells.{first_word};
