@@ -49,16 +49,16 @@ fn search_drawn<C: Cells>(scene: &Scene, item: &Item, walk: &mut Walk<C>) -> Sol
     };
     if !walk.plan.shares {
         settle_alone(&root_move, walk);
-        return walk.told(&item.board);
+        return walk.look_up(&item.board);
     }
     lead(scene, walk);
     settle_before(scene, item.square, walk);
     if walk.is_settled(item.square) {
-        return walk.told(&item.board);
+        return walk.look_up(&item.board);
     }
     if !is_reply(item, &root_move) {
         root_move.settle(walk);
-        return walk.told(&item.board);
+        return walk.look_up(&item.board);
     }
     search_eldest(&root_move, &item.board, walk);
     let found = root_move.search_reply(item.board, walk);

@@ -3,7 +3,7 @@
 ghost use Rattle.std.specs.Prelude.{pos, negsuc, ◌≤ℤ◌};
 
 use crate::move_order::beginning_with;
-use crate::narrowing::searched;
+use crate::narrowing::search_alone;
 use crate::walk::Walk;
 use crate::window::Window;
 use oth_pieces::can_move;
@@ -235,7 +235,7 @@ fn leaves<C: Cells>(reply: &Board, score: i8, walk: &mut Walk<C>) -> bool
 #[cycle(glancing)]
 fn reaches<C: Cells>(board: Board, window: Window, plies: u8, walk: &mut Walk<C>) -> bool {
     if plies == 0 || board.is_over() {
-        return searched(&board, window, walk).interval.lower >= window.beta;
+        return search_alone(&board, window, walk).interval.lower >= window.beta;
     }
     if !can_move(&board) {
         return !reaches(board.pass(), window.turned(), plies - 1, walk);

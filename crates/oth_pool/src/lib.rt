@@ -4,6 +4,7 @@
 
 mod access;
 mod at_once;
+mod book_lookup;
 mod drawn;
 mod gate;
 mod glance;
@@ -19,7 +20,6 @@ mod scene;
 mod solving;
 #[cfg(test)]
 mod tests;
-mod told;
 mod walk;
 mod window;
 pub mod work;

@@ -30,14 +30,14 @@ pub(crate) fn narrow<C: Cells>(
     ensures { result.board ≡ board }
 {
     if plies == 0 || board.empties() < walk.plan.fewest {
-        return searched(&board, window, walk);
+        return search_alone(&board, window, walk);
     }
     if !can_move(&board) {
         return narrow_past(board, window, plies - 1, walk);
     }
-    let told = walk.told(&board);
-    if window.is_decided(told.interval) {
-        return told;
+    let known = walk.look_up(&board);
+    if window.is_decided(known.interval) {
+        return known;
     }
     let depth = walk.enter(&board, window);
     let found = narrow_moves(board, window, plies - 1, walk);
@@ -45,7 +45,7 @@ pub(crate) fn narrow<C: Cells>(
     if window.is_decided(found.interval) {
         return found;
     }
-    found.joined(&walk.told(&board))
+    found.joined(&walk.look_up(&board))
 }
 
 // The same of a board whose mover has no move.
@@ -56,13 +56,13 @@ fn narrow_past<C: Cells>(board: Board, window: Window, plies: u8, walk: &mut Wal
 {
     let passed = board.pass();
     if !can_move(&passed) {
-        return searched(&board, window, walk);
+        return search_alone(&board, window, walk);
     }
     narrow(passed, window.turned(), plies, walk).before_pass(&board)
 }
 
 /// What a search by this worker alone finds.
-pub(crate) fn searched<C: Cells>(board: &Board, window: Window, walk: &mut Walk<C>) -> Solved
+pub(crate) fn search_alone<C: Cells>(board: &Board, window: Window, walk: &mut Walk<C>) -> Solved
     ensures { result.board ≡ board.now }
 {
     let Window { alpha, beta } = window;
@@ -84,7 +84,7 @@ struct Node {
     best: Square,
     score: i8,
     // What is known of the boards after them, or after a forced pass there.
-    known: Vec<Solved>,
+    children: Vec<Solved>,
 }
 
 impl Node {
@@ -99,7 +99,7 @@ impl Node {
             searched: 0,
             best: Square::numbered(0),
             score: -65,
-            known: Vec::new(alloc),
+            children: Vec::new(alloc),
         }
     }
 
@@ -112,7 +112,7 @@ impl Node {
             self.score = score;
             self.best = square;
         }
-        let _ = self.known.push(awake(solved));
+        let _ = self.children.push(awake(solved));
     }
 }
 
@@ -135,7 +135,7 @@ fn narrow_moves<C: Cells>(board: Board, window: Window, plies: u8, walk: &mut Wa
             return Solved::unknown(board, walk.plan.scoring).joined(&found);
         }
     }
-    let solved = known_below(board, 1, node.known.as_slice(), walk.plan.scoring);
+    let solved = known_below(board, 1, node.children.as_slice(), walk.plan.scoring);
     walk.put(&solved);
     if solved.interval.lower == solved.interval.upper {
         walk.prefer(&board, node.best);
@@ -175,7 +175,7 @@ fn visit<C: Cells>(
     let child = node.board.play(square)?;
     let is_leaf = child.empties() < walk.plan.fewest;
     if round < LAST_ROUND
-        && (is_leaf || node.known.len() >= node.together)
+        && (is_leaf || node.children.len() >= node.together)
         && walk.is_left(&child)
     {
         return None;

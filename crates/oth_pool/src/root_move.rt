@@ -54,7 +54,7 @@ impl RootMove {
         requires low { negsuc 62 ≤ℤ score }
         requires high { score ≤ℤ pos 64 }
     {
-        let known = walk.told(&self.child);
+        let known = walk.look_up(&self.child);
         if known.interval.lower > -score {
             return -known.interval.lower;
         }
@@ -71,7 +71,7 @@ impl RootMove {
     // What is found of the board after the move, until it is settled by this worker or another. The others learn it by
     // the cells.
     fn pursue<C: Cells>(&self, walk: &mut Walk<C>) -> Solved {
-        let mut found = walk.told(&self.child);
+        let mut found = walk.look_up(&self.child);
         let mut pace = Pace::new();
         let mut vain = 0u8;
         for _ in 0..MOST_WINDOWS {
@@ -114,15 +114,15 @@ impl RootMove {
 
     /// Searches a reply to the move as far as it tells something of the root, and tells the others what it alone tells.
     pub fn search_reply<C: Cells>(&self, board: Board, walk: &mut Walk<C>) -> Solved {
-        let known = walk.told(&self.child);
+        let known = walk.look_up(&self.child);
         let least = walk.floor();
         if is_settled(&known, least) {
-            return walk.told(&board);
+            return walk.look_up(&board);
         }
         walk.go_on(self.square, least);
         let aim = walk.aim(&self.root);
         if known.interval.lower > -aim {
-            return walk.told(&board);
+            return walk.look_up(&board);
         }
         walk.begin(&board);
         let found = narrow(board, Window::at(aim), MOST_PLIES, walk);

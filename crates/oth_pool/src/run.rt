@@ -136,9 +136,9 @@ fn run_sharing<'w, 't, R: Threads + Sync, G: Gate>(
         return without_jobs(alloc, scene, tasks, hands);
     };
     let jobs = jobs_of(alloc, scene, hands, walks, jobs);
-    let jobs = worked(means, scene, &tasks, jobs);
+    let jobs = run_jobs(means, scene, &tasks, jobs);
     let replies = replies_of(scene, jobs.as_slice(), replies);
-    let found = found_by(alloc, jobs.as_slice());
+    let found = found_by_workers(alloc, jobs.as_slice());
     let hands = hands_in(room, jobs);
     let drawn = tasks.close(hands);
     (Gathered { drawn, replies }, found)
@@ -244,7 +244,7 @@ fn jobs_of<'w, C: Drop>(
 }
 
 // The jobs, when each has searched until nothing was left.
-fn worked<'w, R: Threads + Sync, G: Gate, C: Cells + Send + Drop>(
+fn run_jobs<'w, R: Threads + Sync, G: Gate, C: Cells + Send + Drop>(
     means: &Means<R, G>,
     scene: &Scene,
     tasks: &Tasks,
@@ -285,7 +285,7 @@ fn replies_of<'w, C>(scene: &Scene, jobs: &[Job<'w, C>], room: Vec<Reply>) -> Ve
 }
 
 // What the workers found of the boards after the root's moves.
-fn found_by<'w, C>(alloc: Global, jobs: &[Job<'w, C>]) -> Vec<Solved> {
+fn found_by_workers<'w, C>(alloc: Global, jobs: &[Job<'w, C>]) -> Vec<Solved> {
     let mut found = Vec::new(alloc);
     for job in jobs {
         for solved in job.walk.found.as_slice() {

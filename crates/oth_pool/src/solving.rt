@@ -8,12 +8,12 @@ ghost use Rattle.oth_pieces.specs.Hands.{IsCrew};
 ghost use Rattle.oth_pieces.specs.Watch.{IsSeatOf};
 
 use crate::access::{TableAccess, WorkerCells};
+use crate::book_lookup::{answer_in, bounds_in};
 use crate::drawn::search_item;
 use crate::gate::Gate;
 use crate::height::Height;
 use crate::run::{Means, room_for, run};
 use crate::scene::{Plan, Scene};
-use crate::told::{answer_in, bounds_in};
 use crate::walk::Walk;
 use oth_book::Book;
 use oth_pieces::{Collector, Floor, Frontier, Reply, is_crew};
@@ -75,14 +75,14 @@ pub fn solve<R: Threads + Sync, G: Gate>(
     if let Some(answer) = answer_in(book, board, scoring) {
         return Ok(answer);
     }
-    let told = bounds_in(book, board, scoring);
+    let by_book = bounds_in(book, board, scoring);
     let means = Means {
         rt,
         alloc,
         gate,
         workers: crew(workers, empties),
     };
-    Ok(answer(&means, &told, cells))
+    Ok(answer(&means, &by_book, cells))
 }
 
 // So many of the workers as pay for a board with so many empty squares.
@@ -97,48 +97,48 @@ fn crew(workers: u8, empties: u8) -> u8
     }
 }
 
-// The answer of the board of which so much is told.
-fn answer<R: Threads + Sync, G: Gate>(means: &Means<R, G>, told: &Solved, cells: u32) -> Answer
-    requires few { IsSolvable told.now.board }
+// The answer of the board of which the book tells so much.
+fn answer<R: Threads + Sync, G: Gate>(means: &Means<R, G>, by_book: &Solved, cells: u32) -> Answer
+    requires few { IsSolvable by_book.now.board }
     requires crew { IsCrew means.now.workers }
-    ensures board { result.board ≡ told.now.board }
-    ensures scoring { result.scoring ≡ told.now.scoring }
+    ensures board { result.board ≡ by_book.now.board }
+    ensures scoring { result.scoring ≡ by_book.now.scoring }
 {
-    let board = told.board;
+    let board = by_book.board;
     if board.is_over() {
-        return ended(board, told.scoring);
+        return ended(board, by_book.scoring);
     }
     if board.moves() == 0 {
-        let answer = answer_moves(means, &told.passed(), cells);
+        let answer = answer_moves(means, &by_book.passed(), cells);
         return before_pass(board, answer);
     }
-    answer_moves(means, told, cells)
+    answer_moves(means, by_book, cells)
 }
 
 // The answer where the mover has a move, over a table where there is one.
 fn answer_moves<R: Threads + Sync, G: Gate>(
     means: &Means<R, G>,
-    told: &Solved,
+    by_book: &Solved,
     cells: u32,
 ) -> Answer
-    requires some { can_move told.now.board ≡ true }
-    requires few { IsSolvable told.now.board }
+    requires some { can_move by_book.now.board ≡ true }
+    requires few { IsSolvable by_book.now.board }
     requires crew { IsCrew means.now.workers }
-    ensures board { result.board ≡ told.now.board }
-    ensures scoring { result.scoring ≡ told.now.scoring }
+    ensures board { result.board ≡ by_book.now.board }
+    ensures scoring { result.scoring ≡ by_book.now.scoring }
 {
-    let cells = useful(cells, told.board.empties());
-    match SharedTable::new(means.alloc, cells, told.scoring) {
+    let cells = cells_for(cells, by_book.board.empties());
+    match SharedTable::new(means.alloc, cells, by_book.scoring) {
         Ok((table, seat)) => {
             let mut access = Some(TableAccess::of(&table, seat));
-            answer_over(means, told, &mut access)
+            answer_over(means, by_book, &mut access)
         }
-        Err(_) => answer_over(means, told, &mut None),
+        Err(_) => answer_over(means, by_book, &mut None),
     }
 }
 
 // So many of the cells as a search of so many empty squares can use, since it takes time to make a table.
-fn useful(cells: u32, empties: u8) -> u32 {
+fn cells_for(cells: u32, empties: u8) -> u32 {
     match empties {
         0..=9 => cells.min(1 << 6),
         10..=12 => cells.min(1 << 10),
@@ -152,85 +152,85 @@ fn useful(cells: u32, empties: u8) -> u32 {
 // The same: by the items of the frontier, and then by what they left open.
 fn answer_over<'t, R: Threads + Sync, G: Gate>(
     means: &Means<R, G>,
-    told: &Solved,
+    by_book: &Solved,
     access: &mut Option<TableAccess<'t>>,
 ) -> Answer
-    requires some { can_move told.now.board ≡ true }
-    requires few { IsSolvable told.now.board }
+    requires some { can_move by_book.now.board ≡ true }
+    requires few { IsSolvable by_book.now.board }
     requires crew { IsCrew means.now.workers }
-    ensures board { result.board ≡ told.now.board }
-    ensures scoring { result.scoring ≡ told.now.scoring }
+    ensures board { result.board ≡ by_book.now.board }
+    ensures scoring { result.scoring ≡ by_book.now.scoring }
 {
-    let frontier = Frontier::of(&told.board, 2);
-    let squares = order(&told.board);
+    let frontier = Frontier::of(&by_book.board, 2);
+    let squares = order(&by_book.board);
     let plan = Plan::of(
-        told.scoring,
-        told.board.empties(),
+        by_book.scoring,
+        by_book.board.empties(),
         means.workers,
         access.is_some(),
     );
     let scene = Scene {
         frontier: &frontier,
-        root: told.board,
+        root: by_book.board,
         squares: squares.as_slice(),
         plan,
     };
-    let (known, mut cells) = searched(means, &scene, told, access);
-    let root = root_by(told, known.as_slice());
-    solve_moves(root, known.as_slice(), &mut cells)
+    let (children, mut cells) = search_items(means, &scene, by_book, access);
+    let root = root_bounds(by_book, children.as_slice());
+    solve_moves(root, children.as_slice(), &mut cells)
 }
 
 // What is found of the boards after the root's moves, by the workers, and by the caller where they left an item, and
 // what the caller searched over.
-fn searched<'t, R: Threads + Sync, G: Gate>(
+fn search_items<'t, R: Threads + Sync, G: Gate>(
     means: &Means<R, G>,
     scene: &Scene,
-    told: &Solved,
+    by_book: &Solved,
     access: &mut Option<TableAccess<'t>>,
 ) -> (Vec<Solved>, WorkerCells<'t>)
     requires { IsCrew means.now.workers }
 {
     let alloc = means.alloc;
-    let Ok((floor, mut seat)) = Floor::new(alloc, &told.board, told.scoring) else {
-        return searched_alone(means, scene, told, access);
+    let Ok((floor, mut seat)) = Floor::new(alloc, &by_book.board, by_book.scoring) else {
+        return search_items_alone(means, scene, by_book, access);
     };
-    let _ = floor.raise(&mut seat, told);
+    let _ = floor.raise(&mut seat, by_book);
     let (gathered, found) = run(means, scene, &floor, &mut seat, access);
-    let mut collector = Collector::new(scene.frontier, told.scoring);
+    let mut collector = Collector::new(scene.frontier, by_book.scoring);
     for reply in gathered.replies.as_slice() {
         let _ = collector.take(*reply);
     }
     let cells = WorkerCells::of(alloc, scene.plan, access);
-    let plan = Plan::alone(told.scoring, told.board.empties());
+    let plan = Plan::alone(by_book.scoring, by_book.board.empties());
     let mut walk = Walk::of(alloc, plan, cells, Height::shared(&floor, seat), None);
     walk.found = found;
     for number in gathered.drawn.left.as_slice() {
-        search_left(scene, *number, means.gate, &mut walk, &mut collector);
+        search_left_item(scene, *number, means.gate, &mut walk, &mut collector);
     }
-    let known = children_of(scene, &collector, &mut walk);
-    (known, walk.into_cells())
+    let children = children_of(scene, &collector, &mut walk);
+    (children, walk.into_cells())
 }
 
 // The same by the caller alone, where there is no memory for a floor.
-fn searched_alone<'t, R: Threads + Sync, G: Gate>(
+fn search_items_alone<'t, R: Threads + Sync, G: Gate>(
     means: &Means<R, G>,
     scene: &Scene,
-    told: &Solved,
+    by_book: &Solved,
     access: &mut Option<TableAccess<'t>>,
 ) -> (Vec<Solved>, WorkerCells<'t>) {
     let cells = WorkerCells::of(means.alloc, scene.plan, access);
-    let plan = Plan::alone(told.scoring, told.board.empties());
-    let mut walk = Walk::of(means.alloc, plan, cells, Height::Own(*told), None);
-    let mut collector = Collector::new(scene.frontier, told.scoring);
+    let plan = Plan::alone(by_book.scoring, by_book.board.empties());
+    let mut walk = Walk::of(means.alloc, plan, cells, Height::Own(*by_book), None);
+    let mut collector = Collector::new(scene.frontier, by_book.scoring);
     for number in 0..scene.frontier.len() {
-        search_left(scene, number, means.gate, &mut walk, &mut collector);
+        search_left_item(scene, number, means.gate, &mut walk, &mut collector);
     }
-    let known = children_of(scene, &collector, &mut walk);
-    (known, walk.into_cells())
+    let children = children_of(scene, &collector, &mut walk);
+    (children, walk.into_cells())
 }
 
 // Searches an item that no worker took, and keeps what is found of it.
-fn search_left<G: Gate, C: Cells>(
+fn search_left_item<G: Gate, C: Cells>(
     scene: &Scene,
     number: u32,
     gate: &G,
@@ -250,11 +250,11 @@ fn children_of<C: Cells>(scene: &Scene, collector: &Collector, walk: &mut Walk<C
     let mut children = room_for(walk.alloc, 64);
     for square in scene.squares {
         if let Some(child) = scene.root.play(*square) {
-            let by_workers = closest_of(child, walk.found.as_slice(), scene.plan.scoring);
+            let by_workers = joined_bounds(child, walk.found.as_slice(), scene.plan.scoring);
             let by_replies = known_below(child, 1, replies.as_slice(), scene.plan.scoring);
-            let known = by_workers.joined(&by_replies);
-            walk.raise_by(&scene.root, *square, &known);
-            let _ = children.push(known);
+            let bounds = by_workers.joined(&by_replies);
+            walk.raise_by(&scene.root, *square, &bounds);
+            let _ = children.push(bounds);
         }
     }
     children
@@ -272,32 +272,33 @@ fn replies_of(alloc: Global, count: u32, collector: &Collector) -> Vec<Solved> {
 }
 
 // What all of these tell of the board.
-fn closest_of(board: Board, found: &[Solved], scoring: Scoring) -> Solved
+fn joined_bounds(board: Board, found: &[Solved], scoring: Scoring) -> Solved
     ensures board { result.board ≡ board }
     ensures scoring { result.scoring ≡ scoring }
 {
-    let mut closest = Solved::unknown(board, scoring);
+    let mut joined = Solved::unknown(board, scoring);
     for solved in found {
-        closest = closest.joined(solved);
+        joined = joined.joined(solved);
     }
-    closest
+    joined
 }
 
-// The greatest lower bound of a board that what is told of it and what is known of the boards after its moves give.
-fn root_by(told: &Solved, known: &[Solved]) -> Solved
-    ensures board { result.board ≡ told.now.board }
-    ensures scoring { result.scoring ≡ told.now.scoring }
-    ensures lower { told.now.interval.lower ≤ℤ result.interval.lower }
+// The bounds of the root with the greatest lower one: those by the book, or those by what is known of the board after a
+// move.
+fn root_bounds(by_book: &Solved, children: &[Solved]) -> Solved
+    ensures board { result.board ≡ by_book.now.board }
+    ensures scoring { result.scoring ≡ by_book.now.scoring }
+    ensures lower { by_book.now.interval.lower ≤ℤ result.interval.lower }
 {
-    let mut best = *told;
+    let mut best = *by_book;
     for number in 0..64 {
         let square = Square::numbered(number);
-        if let Some(child) = told.board.play(square) {
-            best = higher(
+        if let Some(child) = by_book.board.play(square) {
+            best = with_greater_lower_bound(
                 best,
-                &told.board,
+                &by_book.board,
                 square,
-                known_of(child, known, told.scoring),
+                known_of(child, children, by_book.scoring),
             );
         }
     }
@@ -305,7 +306,7 @@ fn root_by(told: &Solved, known: &[Solved]) -> Solved
 }
 
 // The bounds with the greater lower one: those of the root that are known, or those by a move.
-fn higher(best: Solved, root: &Board, square: Square, child: Solved) -> Solved
+fn with_greater_lower_bound(best: Solved, root: &Board, square: Square, child: Solved) -> Solved
     requires root { best.board ≡ root.now }
     requires scoring { best.scoring ≡ child.scoring }
     ensures board { result.board ≡ root.now }

@@ -244,7 +244,7 @@ impl<'w, C: Cells> Walk<'w, C> {
     }
 
     /// What the cells tell of the board.
-    pub fn told(&mut self, board: &Board) -> Solved
+    pub fn look_up(&mut self, board: &Board) -> Solved
         ensures { result.board ≡ board.now }
     {
         Solved::looked_up(board, &mut self.cells, self.plan.scoring)
@@ -354,6 +354,6 @@ impl<'w, C: Cells> Walk<'w, C> {
 
 // Whether the cells tell what the search is to decide.
 fn is_decided<C: Cells>(goal: &Goal, cells: &mut C, plan: Plan) -> bool {
-    let told = Solved::looked_up(&goal.image, cells, plan.scoring);
-    goal.window.is_decided(told.interval)
+    let known = Solved::looked_up(&goal.image, cells, plan.scoring);
+    goal.window.is_decided(known.interval)
 }

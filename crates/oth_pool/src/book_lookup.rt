@@ -23,7 +23,7 @@ pub(crate) fn answer_in(book: Option<&Book>, board: &Board, scoring: Scoring) ->
 pub(crate) fn bounds_in(book: Option<&Book>, board: &Board, scoring: Scoring) -> Solved
     ensures board { result.board ≡ board.now }
     ensures scoring { result.scoring ≡ scoring }
-    ensures told { IfSome book.entry (λ b. b.now.scoring ≡ scoring → HasBoard b.now.entries (canonical board.now)
+    ensures by_book { IfSome book.entry (λ b. b.now.scoring ≡ scoring → HasBoard b.now.entries (canonical board.now)
         → Has b.now.entries (canonical board.now) result.interval.lower result.interval.upper) }
 {
     let Some(book) = book else {
@@ -33,7 +33,7 @@ pub(crate) fn bounds_in(book: Option<&Book>, board: &Board, scoring: Scoring) ->
         return Solved::unknown(*board, scoring);
     }
     match book.find_bounds(board) {
-        Some(told) => told,
+        Some(bounds) => bounds,
         None => Solved::unknown(*board, scoring),
     }
 }
