@@ -43,30 +43,30 @@ pub fn verify_by<R: Threads + Sync>(
         cells,
         scoring: claims.scoring(),
     };
-    let mut ahead = Ahead::of(batch);
+    let mut solver = ClaimSolver::of(batch);
     verify_knowing(
         alloc,
         claims,
         |rest: &[Claim]| -> Option<Answer>
             requires { IsSync R.row }
-        { ahead.next(rest) },
+        { solver.next(rest) },
     )
 }
 
-// Answers of boards of the next claims.
+// Solves the boards of claims as they come, those of as many of them as make a batch at a time.
 #[derive(Drop)]
-struct Ahead<'b, R> {
+struct ClaimSolver<'b, R> {
     batch: Batch<'b, R, Open>,
     answers: Vec<Answer>,
     // So many of the next claims were looked at.
     claims: usize,
 }
 
-impl<'b, R: Threads + Sync> Ahead<'b, R> {
+impl<'b, R: Threads + Sync> ClaimSolver<'b, R> {
     // No claim was looked at.
     fn of(batch: Batch<'b, R, Open>) -> Self {
         let answers = Vec::new(batch.alloc);
-        Ahead {
+        ClaimSolver {
             batch,
             answers,
             claims: 0,
