@@ -8,7 +8,7 @@ use Rattle.std.specs.Prelude.{Result, Ok, Err}
 use Rattle.oth_rules.specs.Score.{score_of}
 use Rattle.oth_rules.specs.Value.{value}
 use Rattle.oth_rules.specs.declared.scoring.Scoring.{Scoring}
-use Rattle.oth_search.specs.declared.bounds.Solved.{Solved}
+use Rattle.oth_search.specs.declared.solved.Solved.{Solved}
 use Rattle.oth_book.specs.declared.claim.Claim.{Claim}
 use Rattle.oth_book.specs.declared.add.Added.{Added}
 use Rattle.oth_book.specs.declared.add.AddError.{AddError}

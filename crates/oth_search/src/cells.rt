@@ -2,8 +2,8 @@
 ghost use Rattle.std.specs.Prelude.{◌≡◌, IfSome, IsNone};
 ghost use Rattle.oth_rules.specs.Symmetry.{IsCanonical};
 
-use crate::bounds::Solved;
 use crate::entry::Entry;
+use crate::solved::Solved;
 use oth_rules::{Board, Scoring};
 
 /// Where a search keeps what it found. Nothing is promised of what is kept, but that `look` gives only an entry of the

@@ -2,8 +2,8 @@
 ghost use Rattle.std.specs.Prelude.{◌≡◌, true};
 ghost use Rattle.oth_rules.specs.Move.{can_move};
 
-use crate::bounds::{Interval, Solved};
-use crate::searching::greater;
+use crate::interval::{Interval, greater};
+use crate::solved::Solved;
 use crate::squares::{first, without};
 use oth_rules::{Board, Scoring};
 

@@ -8,7 +8,6 @@ ghost use Rattle.oth_rules.specs.Symmetry.{IsCanonical};
 ghost use Rattle.oth_search.specs.Bound.{BoundsAt, IsThreshold};
 ghost use Rattle.oth_search.specs.Children.{IsChild};
 
-use crate::bounds::Solved;
 use crate::cells::Cells;
 use crate::child::Child;
 use crate::children::{children, looked_at, next_child};
@@ -17,6 +16,7 @@ use crate::few::probe_few;
 use crate::node::Node;
 use crate::outlook::FEWEST_EMPTIES_LOOKED;
 use crate::probe::probe;
+use crate::solved::Solved;
 use crate::squares::without;
 use arrayvec::ArrayVec;
 use oth_rules::{Board, Scoring};

@@ -3,7 +3,8 @@ ghost use Rattle.std.specs.Prelude.{◌≡◌, ℕ, ◌≤◌, ℤ, pos, neg_ℤ
 ghost use Rattle.oth_rules.specs.Symmetry.{canonical, IsCanonical};
 ghost use Rattle.oth_search.specs.Entries.{Bounded, IsTrueEntry, raised, words_of, joined};
 
-use crate::bounds::{Interval, Solved};
+use crate::interval::Interval;
+use crate::solved::Solved;
 use oth_rules::{Board, Scoring};
 use std::marker::Model;
 

@@ -3,11 +3,11 @@ ghost use Rattle.std.specs.Prelude.{◌≡◌, ◌<◌, ◌≤◌, ◌≤ℤ◌,
 ghost use Rattle.oth_rules.specs.Laws.{IsScore};
 ghost use Rattle.oth_search.specs.Bound.{IsThreshold};
 
-use crate::bounds::{Interval, Solved};
 use crate::cells::Cells;
 use crate::deep::probe_with;
+use crate::interval::{Interval, greater, lesser};
 use crate::ordering::order;
-use crate::searching::{greater, lesser};
+use crate::solved::Solved;
 use oth_rules::{Board, Scoring};
 
 // Boards with no more empty squares are searched in full.

@@ -10,8 +10,8 @@ ghost use Rattle.oth_rules.specs.Value.{value};
 ghost use Rattle.oth_search.specs.Bound.{BoundsAt, IsThreshold};
 ghost use Rattle.oth_search.specs.Lasts.{Leaves, GivesAt, MovesAt};
 
+use crate::interval::greater;
 use crate::quarter::share_quarter;
-use crate::searching::greater;
 use crate::squares::{flips_at, preferred, without};
 use oth_rules::{Board, Scoring, Square};
 

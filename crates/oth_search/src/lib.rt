@@ -2,7 +2,7 @@
 #![tactic(auto)]
 
 mod answer;
-mod bounds;
+mod asking;
 mod candidate;
 mod cells;
 mod child;
@@ -12,9 +12,9 @@ mod deep;
 mod entry;
 mod few;
 mod guess;
+mod interval;
 mod kind;
 mod last;
-mod lifting;
 mod memo;
 mod node;
 mod ordering;
@@ -23,22 +23,22 @@ mod probe;
 mod quarter;
 mod root;
 mod searching;
+mod solved;
 mod solving;
 mod squares;
-mod telling;
 mod window;
 
 pub use answer::Answer;
-pub use bounds::{Interval, Solved};
 pub use cells::{Cells, NoCells};
 pub use combining::{known_below, known_of};
 pub use entry::Entry;
+pub use interval::Interval;
 pub use kind::Kind;
-pub use lifting::NotChild;
 pub use memo::Memo;
 pub use ordering::order;
 pub use root::{guessed_score, settle_moves};
 pub use searching::search;
+pub use solved::{NotChild, Solved};
 pub use solving::{
     MOST_EMPTIES, TooManyEmpties, before_pass, ended, solve_alone, solve_moves, solve_with,
 };

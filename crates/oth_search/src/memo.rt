@@ -1,9 +1,9 @@
 //! A small memory of boards that were searched lately.
 ghost use Rattle.std.specs.Prelude.{◌≡◌, ◌<◌, IfSome, IsNone};
 
-use crate::bounds::Solved;
 use crate::cells::Cells;
 use crate::entry::Entry;
+use crate::solved::Solved;
 use oth_rules::{Board, Scoring};
 
 // So many boards are remembered at most: a power of two.

@@ -1,14 +1,14 @@
 //! What a search finds of the boards after the moves of a root, so far that the best moves are told from the rest.
-ghost use Rattle.std.specs.Prelude.{◌≡◌, ◌<◌, ◌≤◌, ◌≤ℤ◌, ◌+ℤ◌, ◌-ℤ◌, pos, negsuc, length, IfSome};
+ghost use Rattle.std.specs.Prelude.{◌≡◌, ◌<◌, ◌≤◌, ◌≤ℤ◌, pos, length, IfSome};
 ghost use Rattle.oth_rules.specs.Laws.{IsScore};
-ghost use Rattle.oth_search.specs.Bound.{Decides};
 
-use crate::bounds::Solved;
+use crate::asking::wider;
 use crate::cells::Cells;
 use crate::combining::known_of;
 use crate::guess::guess;
+use crate::interval::lesser;
 use crate::ordering::order;
-use crate::searching::{greater, lesser};
+use crate::solved::Solved;
 use arrayvec::ArrayVec;
 use oth_rules::{Board, Scoring};
 
@@ -17,16 +17,6 @@ const FEWEST_EMPTIES_GUESSED: u8 = 14;
 
 // So often a start that no move reaches is lowered.
 const ROUNDS: u8 = 6;
-
-// The widest step of a search for a value.
-const WIDEST: i8 = 63;
-
-impl Default for Solved {
-    /// The empty board, of which nothing is known.
-    fn default() -> Solved {
-        Solved::unknown(Board::default(), Scoring::Winner)
-    }
-}
 
 /// The boards after the root's moves, each with bounds of its value. One with the best score is searched to its value,
 /// and each other so far that it is exact or worse. Where `known` tells as much of a board, it is not searched.
@@ -190,70 +180,4 @@ fn better<C: Cells>(replies: &mut [Solved], most: i8, cells: &mut C) -> Option<u
         }
     }
     None
-}
-
-impl Solved {
-    // The board with bounds that tell whether its value is above `alpha`, by a search unless they are known.
-    fn decided_at<C: Cells>(&self, alpha: i8, cells: &mut C) -> Solved
-        requires low { negsuc 64 ≤ℤ alpha }
-        requires high { alpha ≤ℤ pos 64 }
-        ensures board { result.board ≡ self.now.board }
-        ensures scoring { result.scoring ≡ self.now.scoring }
-        ensures lower { self.now.interval.lower ≤ℤ result.interval.lower }
-        ensures upper { result.interval.upper ≤ℤ self.now.interval.upper }
-        ensures decides { Decides result.interval.lower result.interval.upper alpha (alpha +ℤ pos 1) }
-        ensures fixed { C.fixed cells.new ≡ C.fixed cells.old }
-    {
-        if self.interval.decides(alpha, alpha + 1) {
-            return *self;
-        }
-        let found = Solved::by_search(&self.board, alpha, alpha + 1, cells, self.scoring);
-        self.joined(&found)
-    }
-
-    // The board with bounds that tell whether its value is above `most`, below it, or which number it is.
-    fn against<C: Cells>(&self, most: i8, cells: &mut C) -> Solved
-        requires { IsScore most }
-        ensures board { result.board ≡ self.now.board }
-        ensures scoring { result.scoring ≡ self.now.scoring }
-        ensures decides { Decides result.interval.lower result.interval.upper (most -ℤ pos 1) (most +ℤ pos 1) }
-        ensures fixed { C.fixed cells.new ≡ C.fixed cells.old }
-    {
-        let reply = self.decided_at(most, cells);
-        if reply.interval.lower > most {
-            return reply;
-        }
-        reply.decided_at(most - 1, cells)
-    }
-
-    // The board with its value, by questions ever further below what it is known to reach.
-    fn exact<C: Cells>(&self, cells: &mut C) -> Solved
-        ensures board { result.board ≡ self.now.board }
-        ensures scoring { result.scoring ≡ self.now.scoring }
-        ensures exact { result.interval.lower ≡ result.interval.upper }
-        ensures fixed { C.fixed cells.new ≡ C.fixed cells.old }
-    {
-        let mut reply = *self;
-        let mut step = 1;
-        while reply.interval.lower < reply.interval.upper {
-            let alpha = greater(reply.interval.lower, reply.interval.upper - step);
-            reply = reply.decided_at(alpha, cells);
-            step = if reply.interval.upper <= alpha {
-                wider(step)
-            } else {
-                1
-            };
-        }
-        reply
-    }
-}
-
-// The next step after one that was reached.
-fn wider(step: i8) -> i8
-    requires low { pos 1 ≤ℤ step }
-    requires high { step ≤ℤ pos 63 }
-    ensures low { pos 1 ≤ℤ result }
-    ensures high { result ≤ℤ pos 63 }
-{
-    if step < 31 { 2 * step + 1 } else { WIDEST }
 }

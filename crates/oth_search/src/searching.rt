@@ -1,17 +1,15 @@
-//! Searches over all scores, over a window, and of one threshold.
-ghost use Rattle.std.specs.Prelude.{◌≡◌, ℕ, ℤ, ◌<◌, neg_ℤ, pos, true, ◌⊎◌, ◌≤ℤ◌, ◌<ℤ◌, ◌+ℤ◌};
-ghost use Rattle.oth_rules.specs.Position.{pass};
-ghost use Rattle.oth_rules.specs.Move.{can_move};
+//! Searches over all scores, over a window, and of one threshold; and what the cells tell without one.
+ghost use Rattle.std.specs.Prelude.{◌≡◌, ℤ, ◌<◌, pos, ◌+ℤ◌};
 ghost use Rattle.oth_rules.specs.Score.{score_of};
 ghost use Rattle.oth_rules.specs.Value.{value};
-ghost use Rattle.oth_rules.specs.Symmetry.{canonical, IsCanonical};
-ghost use Rattle.oth_search.specs.Bound.{BoundsAt, IsThreshold, IsWindow, Encloses, Decides, IsOpen, Splits};
+ghost use Rattle.oth_rules.specs.Symmetry.{canonical};
+ghost use Rattle.oth_search.specs.Bound.{IsThreshold, IsWindow, Encloses, Decides, IsOpen};
 
-use crate::answer::Answer;
-use crate::bounds::{Interval, Solved};
 use crate::cells::Cells;
 use crate::deep::{known, probe_with};
 use crate::entry::Entry;
+use crate::interval::{Interval, greater, lesser};
+use crate::solved::Solved;
 use crate::window::search_window;
 use oth_rules::{Board, Scoring};
 
@@ -78,17 +76,17 @@ impl Solved {
         Solved::unknown(*board, scoring).narrowed(alpha, found)
     }
 
-    /// The board of an answer with its score as both bounds.
-    pub fn of_answer(answer: &Answer) -> Solved
-        ensures board { result.board ≡ answer.now.board }
-        ensures scoring { result.scoring ≡ answer.now.scoring }
-        ensures lower { result.interval.lower ≡ answer.now.score }
-        ensures upper { result.interval.upper ≡ answer.now.score }
+    /// What the cells tell of the board, by its canonical image.
+    pub fn looked_up<C: Cells>(board: &Board, cells: &mut C, scoring: Scoring) -> Solved
+        ensures board { result.board ≡ board.now }
+        ensures scoring { result.scoring ≡ scoring }
+        ensures fixed { C.fixed cells.new ≡ C.fixed cells.old }
     {
+        let found = known(&board.canonical().0, cells, scoring);
         Solved {
-            board: answer.board,
-            scoring: answer.scoring,
-            interval: Interval::exactly(answer.score),
+            board: *board,
+            scoring,
+            interval: found.interval,
         }
     }
 }
@@ -113,24 +111,4 @@ fn narrow<C: Cells>(board: Board, known: Solved, alpha: i8, beta: i8, cells: &mu
         return Solved::between(known.board, known.scoring, found, known.interval.upper);
     }
     Solved::between(known.board, known.scoring, found, found)
-}
-
-/// The greater of two scores.
-pub fn greater(a: i8, b: i8) -> i8
-    ensures left { a ≤ℤ result }
-    ensures right { b ≤ℤ result }
-    ensures one { (result ≡ a) ⊎ (result ≡ b) }
-    ensures least { (z : ℤ) → a <ℤ z → b <ℤ z → result <ℤ z }
-{
-    if a > b { a } else { b }
-}
-
-/// The lesser of two scores.
-pub fn lesser(a: i8, b: i8) -> i8
-    ensures left { result ≤ℤ a }
-    ensures right { result ≤ℤ b }
-    ensures one { (result ≡ a) ⊎ (result ≡ b) }
-    ensures greatest { (z : ℤ) → z <ℤ a → z <ℤ b → z <ℤ result }
-{
-    if a < b { a } else { b }
 }

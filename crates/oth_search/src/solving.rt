@@ -1,5 +1,5 @@
 //! The score and all best moves of a board.
-ghost use Rattle.std.specs.Prelude.{◌≡◌, ◌<◌, ◌↔◌, negsuc, pos, ◌+ℤ◌, ◌≤ℤ◌, true, false, IsErr, IfOk, IfErr};
+ghost use Rattle.std.specs.Prelude.{◌≡◌, ◌<◌, ◌↔◌, negsuc, pos, ◌+ℤ◌, true, false, IsErr, IfOk, IfErr};
 ghost use Rattle.oth_rules.specs.Position.{empty_count, pass};
 ghost use Rattle.oth_rules.specs.Move.{can_move, is_over};
 ghost use Rattle.oth_rules.specs.Score.{score_of};
@@ -9,14 +9,14 @@ ghost use Rattle.oth_search.specs.Bound.{Encloses, Decides};
 ghost use Rattle.oth_search.specs.Full.{IsFullMinimax};
 
 use crate::answer::Answer;
-use crate::bounds::{Interval, Solved};
 use crate::cells::{Cells, NoCells};
 use crate::combining::known_of;
+use crate::interval::Interval;
 use crate::kind::Kind;
 use crate::memo::MemoCells;
 use crate::ordering::order;
 use crate::root::settle_moves;
-use crate::searching::search;
+use crate::solved::Solved;
 use crate::squares::with;
 use oth_rules::{Board, Scoring};
 use thiserror::Error;
@@ -197,63 +197,5 @@ fn reply_below<C: Cells>(
     if told.interval.decides(-65, limit + 1) {
         return told.interval;
     }
-    at_most(board, limit, cells, scoring)
-}
-
-impl Solved {
-    /// The board with its value where that is at most the limit, and else with a lower bound above the limit.
-    pub fn at_most<C: Cells>(board: &Board, limit: i8, cells: &mut C, scoring: Scoring) -> Solved
-        requires { IsScore limit }
-        ensures board { result.board ≡ board.now }
-        ensures scoring { result.scoring ≡ scoring }
-        ensures decides { Decides result.interval.lower result.interval.upper (negsuc 64) (limit +ℤ pos 1) }
-        ensures fixed { C.fixed cells.new ≡ C.fixed cells.old }
-    {
-        let interval = at_most(board, limit, cells, scoring);
-        Solved {
-            board: *board,
-            scoring,
-            interval,
-        }
-    }
-}
-
-// The value of a board, or a lower bound of it above the limit: at most two probes, and a search only where it is
-// below.
-fn at_most<C: Cells>(board: &Board, limit: i8, cells: &mut C, scoring: Scoring) -> Interval
-    requires { IsScore limit }
-    ensures encloses { Encloses result.lower result.upper (value (score_of scoring) board.now) }
-    ensures decides { Decides result.lower result.upper (negsuc 64) (limit +ℤ pos 1) }
-    ensures fixed { C.fixed cells.new ≡ C.fixed cells.old }
-{
-    if limit == 64 {
-        return search(board, -65, 65, cells, scoring);
-    }
-    let above = search(board, limit, limit + 1, cells, scoring);
-    if above.lower > limit {
-        return above;
-    }
-    if above.upper < limit {
-        return exact_below(board, above.upper, cells, scoring);
-    }
-    let below = search(board, limit - 1, limit, cells, scoring);
-    if below.lower >= limit {
-        return Interval::exactly(limit);
-    }
-    exact_below(board, below.upper, cells, scoring)
-}
-
-// The value of a board that is at most `most`.
-fn exact_below<C: Cells>(board: &Board, most: i8, cells: &mut C, scoring: Scoring) -> Interval
-    requires score { IsScore most }
-    requires most { value (score_of scoring) board.now ≤ℤ most }
-    ensures encloses { Encloses result.lower result.upper (value (score_of scoring) board.now) }
-    ensures exact { result.lower ≡ result.upper }
-    ensures fixed { C.fixed cells.new ≡ C.fixed cells.old }
-{
-    let rest = search(board, -65, most, cells, scoring);
-    if rest.lower >= most {
-        return Interval::exactly(most);
-    }
-    rest
+    Solved::at_most(board, limit, cells, scoring).interval
 }

@@ -8,8 +8,8 @@ ghost use Rattle.oth_search.specs.Bound.{WithinAt, IsInner};
 
 use crate::cells::Cells;
 use crate::deep::probe_with;
+use crate::interval::greater;
 use crate::ordering::order;
-use crate::searching::greater;
 use oth_rules::{Board, Scoring};
 
 /// The value if it lies inside the window, else a bound of it on its side.

@@ -1,5 +1,5 @@
 use Rattle.oth_search.proofs.Enclosing.{Encloses-pass}
-use Rattle.oth_search.proofs.bounds.Solved.before_pass.Goals as goal
+use Rattle.oth_search.proofs.solved.Solved.before_pass.Goals as goal
 
 pub invariant_of-result : goal.invariant_of-result
 invariant_of-result c =

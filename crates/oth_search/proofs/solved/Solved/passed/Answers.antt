@@ -1,5 +1,5 @@
 use Rattle.oth_search.proofs.Enclosing.{Encloses-passed}
-use Rattle.oth_search.proofs.bounds.Solved.passed.Goals as goal
+use Rattle.oth_search.proofs.solved.Solved.passed.Goals as goal
 
 pub invariant_of-result : goal.invariant_of-result
 invariant_of-result c =

@@ -1,7 +1,7 @@
 use Rattle.std.proofs.Common.{arith}
 use Rattle.std.proofs.lemmas.Int.{ints}
 use Rattle.oth_search.proofs.RootSearch.{fewer, between}
-use Rattle.oth_search.proofs.bounds.Solved.exact.Goals as goal
+use Rattle.oth_search.proofs.solved.Solved.exact.Goals as goal
 
 pub loop-reply-smaller-then-reply-alpha : goal.loop-reply-smaller-then-reply-alpha
 loop-reply-smaller-then-reply-alpha g c =

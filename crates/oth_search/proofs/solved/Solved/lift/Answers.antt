@@ -2,7 +2,7 @@ use Rattle.std.proofs.Common.{◌≡◌, ◌∙◌, arith, rules}
 use Rattle.std.proofs.lemmas.Int.{ints}
 use Rattle.oth_rules.specs.Laws.{IsLegal}
 use Rattle.oth_search.proofs.Enclosing.{Encloses-lift}
-use Rattle.oth_search.proofs.bounds.Solved.lift.Goals as goal
+use Rattle.oth_search.proofs.solved.Solved.lift.Goals as goal
 
 pub invariant_of-result-in-Some : goal.invariant_of-result-in-Some
 invariant_of-result-in-Some c =

@@ -1,7 +1,7 @@
 use Rattle.std.proofs.Common.{arith}
 use Rattle.std.proofs.lemmas.Int.{ints}
 use Rattle.oth_search.proofs.RootSearch.{Decides-closer}
-use Rattle.oth_search.proofs.bounds.Solved.decided_at.Goals as goal
+use Rattle.oth_search.proofs.solved.Solved.decided_at.Goals as goal
 
 pub returns-clause-decides : goal.returns-clause-decides
 returns-clause-decides g c =

@@ -3,7 +3,7 @@ use Rattle.std.proofs.lemmas.Int.{ints}
 use Rattle.oth_rules.specs.Score.{score_of}
 use Rattle.oth_rules.specs.Value.{value}
 use Rattle.oth_search.proofs.Enclosing.{Encloses-same, joined-both}
-use Rattle.oth_search.proofs.bounds.Solved.joined.Goals as goal
+use Rattle.oth_search.proofs.solved.Solved.joined.Goals as goal
 
 pub between-requires-clause-bounds : goal.between-requires-clause-bounds
 between-requires-clause-bounds c =

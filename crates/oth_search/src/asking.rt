@@ -1,0 +1,137 @@
+//! Questions of a board's value, answered by as many searches as it takes.
+ghost use Rattle.std.specs.Prelude.{◌≡◌, negsuc, pos, ◌≤ℤ◌, ◌+ℤ◌, ◌-ℤ◌};
+ghost use Rattle.oth_rules.specs.Laws.{IsScore};
+ghost use Rattle.oth_rules.specs.Score.{score_of};
+ghost use Rattle.oth_rules.specs.Value.{value};
+ghost use Rattle.oth_search.specs.Bound.{Encloses, Decides};
+
+use crate::cells::Cells;
+use crate::interval::{Interval, greater};
+use crate::searching::search;
+use crate::solved::Solved;
+use oth_rules::{Board, Scoring};
+
+// The widest step of a search for a value.
+const WIDEST: i8 = 63;
+
+impl Solved {
+    /// The board with its value where that is at most the limit, and else with a lower bound above the limit.
+    pub fn at_most<C: Cells>(board: &Board, limit: i8, cells: &mut C, scoring: Scoring) -> Solved
+        requires { IsScore limit }
+        ensures board { result.board ≡ board.now }
+        ensures scoring { result.scoring ≡ scoring }
+        ensures decides { Decides result.interval.lower result.interval.upper (negsuc 64) (limit +ℤ pos 1) }
+        ensures fixed { C.fixed cells.new ≡ C.fixed cells.old }
+    {
+        let interval = at_most(board, limit, cells, scoring);
+        Solved {
+            board: *board,
+            scoring,
+            interval,
+        }
+    }
+
+    /// The board with bounds that tell whether its value is above `alpha`, by a search unless they are known.
+    pub(crate) fn decided_at<C: Cells>(&self, alpha: i8, cells: &mut C) -> Solved
+        requires low { negsuc 64 ≤ℤ alpha }
+        requires high { alpha ≤ℤ pos 64 }
+        ensures board { result.board ≡ self.now.board }
+        ensures scoring { result.scoring ≡ self.now.scoring }
+        ensures lower { self.now.interval.lower ≤ℤ result.interval.lower }
+        ensures upper { result.interval.upper ≤ℤ self.now.interval.upper }
+        ensures decides { Decides result.interval.lower result.interval.upper alpha (alpha +ℤ pos 1) }
+        ensures fixed { C.fixed cells.new ≡ C.fixed cells.old }
+    {
+        if self.interval.decides(alpha, alpha + 1) {
+            return *self;
+        }
+        let found = Solved::by_search(&self.board, alpha, alpha + 1, cells, self.scoring);
+        self.joined(&found)
+    }
+
+    /// The board with bounds that tell whether its value is above `most`, below it, or which number it is.
+    pub(crate) fn against<C: Cells>(&self, most: i8, cells: &mut C) -> Solved
+        requires { IsScore most }
+        ensures board { result.board ≡ self.now.board }
+        ensures scoring { result.scoring ≡ self.now.scoring }
+        ensures decides { Decides result.interval.lower result.interval.upper (most -ℤ pos 1) (most +ℤ pos 1) }
+        ensures fixed { C.fixed cells.new ≡ C.fixed cells.old }
+    {
+        let reply = self.decided_at(most, cells);
+        if reply.interval.lower > most {
+            return reply;
+        }
+        reply.decided_at(most - 1, cells)
+    }
+
+    /// The board with its value, by questions ever further below what it is known to reach.
+    pub(crate) fn exact<C: Cells>(&self, cells: &mut C) -> Solved
+        ensures board { result.board ≡ self.now.board }
+        ensures scoring { result.scoring ≡ self.now.scoring }
+        ensures exact { result.interval.lower ≡ result.interval.upper }
+        ensures fixed { C.fixed cells.new ≡ C.fixed cells.old }
+    {
+        let mut reply = *self;
+        let mut step = 1;
+        while reply.interval.lower < reply.interval.upper {
+            let alpha = greater(reply.interval.lower, reply.interval.upper - step);
+            reply = reply.decided_at(alpha, cells);
+            step = if reply.interval.upper <= alpha {
+                wider(step)
+            } else {
+                1
+            };
+        }
+        reply
+    }
+}
+
+// The value of a board, or a lower bound of it above the limit: at most two probes, and a search only where it is
+// below.
+fn at_most<C: Cells>(board: &Board, limit: i8, cells: &mut C, scoring: Scoring) -> Interval
+    requires { IsScore limit }
+    ensures encloses { Encloses result.lower result.upper (value (score_of scoring) board.now) }
+    ensures decides { Decides result.lower result.upper (negsuc 64) (limit +ℤ pos 1) }
+    ensures fixed { C.fixed cells.new ≡ C.fixed cells.old }
+{
+    if limit == 64 {
+        return search(board, -65, 65, cells, scoring);
+    }
+    let above = search(board, limit, limit + 1, cells, scoring);
+    if above.lower > limit {
+        return above;
+    }
+    if above.upper < limit {
+        return exact_below(board, above.upper, cells, scoring);
+    }
+    let below = search(board, limit - 1, limit, cells, scoring);
+    if below.lower >= limit {
+        return Interval::exactly(limit);
+    }
+    exact_below(board, below.upper, cells, scoring)
+}
+
+// The value of a board that is at most `most`.
+fn exact_below<C: Cells>(board: &Board, most: i8, cells: &mut C, scoring: Scoring) -> Interval
+    requires score { IsScore most }
+    requires most { value (score_of scoring) board.now ≤ℤ most }
+    ensures encloses { Encloses result.lower result.upper (value (score_of scoring) board.now) }
+    ensures exact { result.lower ≡ result.upper }
+    ensures fixed { C.fixed cells.new ≡ C.fixed cells.old }
+{
+    let rest = search(board, -65, most, cells, scoring);
+    if rest.lower >= most {
+        return Interval::exactly(most);
+    }
+    rest
+}
+
+/// The next step after one that was reached.
+pub(crate) fn wider(step: i8) -> i8
+    requires low { pos 1 ≤ℤ step }
+    requires high { step ≤ℤ pos 63 }
+    ensures low { pos 1 ≤ℤ result }
+    ensures high { result ≤ℤ pos 63 }
+{
+    if step < 31 { 2 * step + 1 } else { WIDEST }
+}
