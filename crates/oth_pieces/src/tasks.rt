@@ -167,7 +167,8 @@ impl Drawn {
     /// No list, and all numbers below the count are left. It takes no memory.
     pub fn nothing(alloc: Global, count: u32) -> Drawn
         requires { count ≤ 870 }
-        ensures { AreOnce count result }
+        ensures lists { lists_of result ≡ [] }
+        ensures once { AreOnce count result }
     {
         let lists = Vec::new(alloc);
         let left = left_of(count, lists.as_slice());

@@ -1,8 +1,9 @@
 -- What workers found.
 --     IsReplyOf items scoring reply      the reply is of the board of its number's item, by the scoring
 --     CanWork items scoring tasks work      the hand is one of these tasks, and each reply is of a number that the hand drew, once
+--     HasLists workers drawn      a list of drawn numbers for each of so many workers, or none at all
 --     AreGathered items scoring gathered      each number was drawn once or is left; each reply is of a drawn number, once, and of its item's board
-use Rattle.std.specs.Prelude.{◌≡◌, ℕ, ◌≤◌, List, length, map, All, slice_get, sum_by, Some, option_map}
+use Rattle.std.specs.Prelude.{◌≡◌, ℕ, ◌≤◌, ◌⊎◌, List, length, map, All, slice_get, sum_by, Some, option_map}
 use Rattle.oth_rules.specs.declared.scoring.Scoring.{Scoring}
 use Rattle.oth_pieces.specs.declared.frontier.item.Item.{Item}
 use Rattle.oth_pieces.specs.declared.reply.Reply.{Reply}
@@ -13,7 +14,8 @@ use Rattle.oth_pieces.specs.declared.tasks.state.Hand.{Hand}
 use Rattle.oth_pieces.specs.Below.{board_of}
 use Rattle.oth_pieces.specs.Hands.{IsHandOf, list_of}
 use Rattle.oth_pieces.specs.Dealing.{times}
-use Rattle.oth_pieces.specs.Drawing.{times_in_all, AreOnce}
+use Rattle.oth_pieces.specs.Drawing.{lists_of, times_in_all, AreOnce}
+use Rattle.oth_pieces.specs.declared.tasks.state.Drawn.{Drawn}
 
 pub record IsReplyOf (items : List Item) (scoring : Scoring) (r : Reply) : Type 0 where
   pub board : option_map board_of (slice_get items r.number) ≡ Some r.solved.board
@@ -37,6 +39,9 @@ hand_of w = w.hand
 -- how often the hands drew x
 abbrev pub times_by : ℕ → List Work → ℕ
 times_by x works = sum_by (λ w. times x (list_of (hand_of w))) works
+
+abbrev pub HasLists : ℕ → Drawn → Type 0
+HasLists workers drawn = (length (lists_of drawn) ≡ 0) ⊎ (length (lists_of drawn) ≡ workers)
 
 pub record AreGathered (items : List Item) (scoring : Scoring) (g : Gathered) : Type 0 where
   pub drawn : AreOnce (length items) g.drawn

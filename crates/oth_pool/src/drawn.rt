@@ -3,11 +3,9 @@ ghost use Rattle.std.specs.Prelude.{◌≡◌};
 
 use crate::gate::Gate;
 use crate::leading::{lead, moves_of};
-use crate::narrowing::narrow;
 use crate::root_move::RootMove;
 use crate::scene::Scene;
-use crate::walk::{MOST_PLIES, Walk};
-use crate::window::Window;
+use crate::walk::Walk;
 use oth_pieces::{Item, can_move};
 use oth_rules::{Board, Square};
 use oth_search::{Cells, Solved};
@@ -45,7 +43,7 @@ pub(crate) fn search_item<G: Gate, C: Cells>(
 // What a worker finds of a drawn item.
 fn search_drawn<C: Cells>(scene: &Scene, item: &Item, walk: &mut Walk<C>) -> Solved {
     let Some(root_move) = RootMove::of(scene.root, item.square) else {
-        return narrow(item.board, Window::all(), MOST_PLIES, walk);
+        return walk.look_up(&item.board);
     };
     if !walk.plan.shares {
         settle_alone(&root_move, walk);

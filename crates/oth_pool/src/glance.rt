@@ -165,9 +165,31 @@ fn reaching<C: Cells>(
                 if seen & square.word() == 0 && is_next {
                     seen |= square.word();
                     if seems_reached(&child, score, walk) {
+                        walk.tell_seen(root, score, true);
                         return Some(*square);
                     }
+                    if walk.seen(root, score).is_some() {
+                        return told_of(root, squares, score, walk);
+                    }
                 }
+            }
+        }
+    }
+    walk.tell_seen(root, score, false);
+    None
+}
+
+// The first of these moves of the root by which it seems to reach the score, if another worker has told of one.
+fn told_of<C: Cells>(
+    root: &Board,
+    squares: &[Square],
+    score: i8,
+    walk: &mut Walk<C>,
+) -> Option<Square> {
+    for square in squares {
+        if let Some(child) = root.play(*square) {
+            if walk.seen(&child, score) == Some(true) {
+                return Some(*square);
             }
         }
     }
@@ -208,6 +230,9 @@ fn all_leave<C: Cells>(child: &Board, score: i8, walk: &mut Walk<C>) -> bool
                     if !leaves(&reply, score, walk) {
                         return false;
                     }
+                    if let Some(told) = walk.seen(child, score) {
+                        return told;
+                    }
                 }
             }
         }
@@ -235,7 +260,7 @@ fn leaves<C: Cells>(reply: &Board, score: i8, walk: &mut Walk<C>) -> bool
 #[cycle(glancing)]
 fn reaches<C: Cells>(board: Board, window: Window, plies: u8, walk: &mut Walk<C>) -> bool {
     if plies == 0 || board.is_over() {
-        return search_alone(&board, window, walk).interval.lower >= window.beta;
+        return window.is_reached(search_alone(&board, window, walk).interval.lower);
     }
     if !can_move(&board) {
         return !reaches(board.pass(), window.turned(), plies - 1, walk);

@@ -65,11 +65,7 @@ fn narrow_past<C: Cells>(board: Board, window: Window, plies: u8, walk: &mut Wal
 pub(crate) fn search_alone<C: Cells>(board: &Board, window: Window, walk: &mut Walk<C>) -> Solved
     ensures { result.board ≡ board.now }
 {
-    let Window { alpha, beta } = window;
-    if window.is_null() && -64 <= alpha && alpha < 64 {
-        return Solved::by_probe(board, alpha, &mut walk.cells, walk.plan.scoring);
-    }
-    Solved::by_search(board, alpha, beta, &mut walk.cells, walk.plan.scoring)
+    window.search(board, &mut walk.cells, walk.plan.scoring)
 }
 
 // A board while its moves are searched.
@@ -127,6 +123,9 @@ fn narrow_moves<C: Cells>(board: Board, window: Window, plies: u8, walk: &mut Wa
     } else {
         MOVES_TOGETHER
     };
+    if let Some(found) = decided_by_child(&board, window, walk) {
+        return Solved::unknown(board, walk.plan.scoring).joined(&found);
+    }
     let squares = walk.order(&board);
     let mut node = Node::of(board, window, together, walk.alloc);
     for round in 0..ROUNDS {
@@ -141,6 +140,28 @@ fn narrow_moves<C: Cells>(board: Board, window: Window, plies: u8, walk: &mut Wa
         walk.prefer(&board, node.best);
     }
     solved
+}
+
+// What the cells tell of the board by one of the boards after its moves, if that decides the window.
+fn decided_by_child<C: Cells>(
+    board: &Board,
+    window: Window,
+    walk: &mut Walk<C>,
+) -> Option<Solved> {
+    let mut rest = board.moves();
+    for _ in 0..64 {
+        if rest == 0 {
+            break;
+        }
+        let square = Square::first_of(rest);
+        rest &= rest - 1;
+        let child = board.play(square)?;
+        let reply = walk.look_up(&child);
+        if window.is_reached(-upper_of(&reply)) {
+            return Some(lifted(board, square, &reply, walk));
+        }
+    }
+    None
 }
 
 // One round through the moves. What is found of the board, if no further move is to be searched.
@@ -181,46 +202,18 @@ fn visit<C: Cells>(
         return None;
     }
     walk.begin(&child);
-    let opens = node.searched == 0;
-    let solved = narrow_after(child, node.window, opens, plies, walk);
+    let solved = narrow(child, node.window.turned(), plies, walk);
     walk.end(&child);
     node.searched |= square.word();
-    let Some(window) = node.window.above(-upper_of(&solved)) else {
+    if node.window.is_reached(-upper_of(&solved)) {
         walk.prefer(&node.board, square);
         return Some(lifted(&node.board, square, &solved, walk));
-    };
-    node.window = window;
+    }
     node.take(square, solved);
-    if !is_leaf && walk.gives_up(&child) {
+    if walk.gives_up(&child) {
         return Some(Solved::unknown(node.board, walk.plan.scoring));
     }
     None
-}
-
-// What is found of the board after a move, where the window is that of the move: a later one is opened only where a
-// probe lies inside the window.
-#[cycle(narrowing)]
-fn narrow_after<C: Cells>(
-    child: Board,
-    window: Window,
-    opens: bool,
-    plies: u8,
-    walk: &mut Walk<C>,
-) -> Solved
-    ensures { result.board ≡ child }
-{
-    if opens || window.is_null() {
-        return narrow(child, window.turned(), plies, walk);
-    }
-    let probed = narrow(child, window.null().turned(), plies, walk);
-    let gain = -upper_of(&probed);
-    if gain <= window.alpha || probed.interval.lower == probed.interval.upper {
-        return probed;
-    }
-    match window.above(gain) {
-        Some(rest) => narrow(child, rest.turned(), plies, walk).joined(&probed),
-        None => probed,
-    }
 }
 
 // The same of the board after a forced pass, where there is one: bounds of the boards after the moves are combined by

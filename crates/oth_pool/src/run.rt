@@ -3,8 +3,9 @@ ghost use Rattle.std.specs.Prelude.{◌≡◌, ◌+◌, ◌≤◌, ℕ, IfSome, 
 ghost use Rattle.oth_pieces.specs.Watch.{IsSeatOf};
 ghost use Rattle.oth_pieces.specs.Hands.{AreAllHands, IsCrew, count_of};
 ghost use Rattle.oth_pieces.specs.Dealing.{times};
+ghost use Rattle.oth_pieces.specs.Drawing.{lists_of};
 ghost use Rattle.oth_pool.specs.Lending.{LendsFloor, LendsTable};
-ghost use Rattle.oth_pool.specs.Working.{Holds, AreGathered, IsReplyOf, numbers_of, times_by};
+ghost use Rattle.oth_pool.specs.Working.{Holds, HasLists, AreGathered, IsReplyOf, numbers_of, times_by};
 
 use crate::access::{TableAccess, WorkerCells};
 use crate::gate::Gate;
@@ -63,6 +64,7 @@ pub fn run_workers<'t, R: Threads + Sync, G: Gate>(
     ensures seat { LendsFloor seat.old seat.new }
     ensures table { LendsTable table.old table.new }
     ensures gathered { AreGathered frontier.now floor.now.root.scoring result }
+    ensures lists { HasLists workers result.drawn }
 {
     let root = floor.board();
     let squares = order(&root);
@@ -94,6 +96,7 @@ pub(crate) fn run<'t, R: Threads + Sync, G: Gate>(
     ensures seat { LendsFloor seat.old seat.new }
     ensures table { LendsTable table.old table.new }
     ensures gathered { AreGathered scene.now.frontier.now scene.now.plan.scoring result.0 }
+    ensures lists { HasLists means.now.workers result.0.drawn }
 {
     let hints = hints_for(means, scene);
     let shared = Shared {
@@ -117,6 +120,7 @@ fn run_sharing<'w, 't, R: Threads + Sync, G: Gate>(
     ensures seat { LendsFloor seat.old seat.new }
     ensures table { LendsTable table.old table.new }
     ensures gathered { AreGathered scene.now.frontier.now scene.now.plan.scoring result.0 }
+    ensures lists { HasLists means.now.workers result.0.drawn }
 {
     let alloc = means.alloc;
     let ranks = ranks(scene);
@@ -154,7 +158,8 @@ fn hints_for<R, G>(means: &Means<R, G>, scene: &Scene) -> Option<Hints> {
 
 // All is left.
 fn nothing(alloc: Global, scene: &Scene) -> (Gathered, Vec<Solved>)
-    ensures { AreGathered scene.now.frontier.now scene.now.plan.scoring result.0 }
+    ensures gathered { AreGathered scene.now.frontier.now scene.now.plan.scoring result.0 }
+    ensures lists { lists_of result.0.drawn ≡ [] }
 {
     let gathered = Gathered {
         drawn: Drawn::nothing(alloc, scene.frontier.len()),
@@ -172,7 +177,8 @@ fn without_jobs(
 ) -> (Gathered, Vec<Solved>)
     requires hands { AreAllHands tasks hands.items }
     requires count { count_of tasks ≡ length scene.now.frontier.now }
-    ensures { AreGathered scene.now.frontier.now scene.now.plan.scoring result.0 }
+    ensures gathered { AreGathered scene.now.frontier.now scene.now.plan.scoring result.0 }
+    ensures lists { length (lists_of result.0.drawn) ≡ length hands.items }
 {
     let _items = scene.frontier.len();
     let gathered = Gathered {

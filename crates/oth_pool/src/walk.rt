@@ -18,12 +18,9 @@ pub(crate) const MOST_PLIES: u8 = 30;
 // Boards with fewer empty squares are ordered anew each time.
 const FEWEST_EMPTIES_KEPT: u8 = 12;
 
-// After a board that has fewer empty squares than this, beyond those of the smallest that workers share, not all
-// searches under way are looked up: that would take longer than is saved.
+// Boards with fewer empty squares than this, beyond those of the smallest that workers share, are small: see
+// `goals_after`.
 const SMALL: u8 = 2;
-
-// So many of them are.
-const GOALS_LOOKED_UP: usize = 2;
 
 // A search under way: the canonical image of its board, and what it is to decide.
 #[derive(Clone, Copy)]
@@ -302,19 +299,27 @@ impl<'w, C: Cells> Walk<'w, C> {
     /// Whether what it searches is of no more use after this board was searched: the floor has risen, the root's move
     /// is settled, or the cells tell what one of the searches under way is to decide.
     pub fn gives_up(&mut self, searched: &Board) -> bool {
-        let is_small = searched.empties() < self.plan.fewest.saturating_add(SMALL);
-        self.floor() > self.least || self.is_settled(self.square) || self.is_any_decided(is_small)
+        let most = self.goals_after(searched.empties());
+        self.floor() > self.least || self.is_settled(self.square) || self.is_any_decided(most)
     }
 
-    // Whether the cells tell what one of the searches under way is to decide: one of the last ones, where only few are
-    // looked up.
-    fn is_any_decided(&mut self, few: bool) -> bool {
-        let goals = self.goals.as_slice();
-        let first = if few {
-            goals.len().saturating_sub(GOALS_LOOKED_UP)
+    // So many of the last searches under way are looked up after a board with so many empty squares was searched: all
+    // only where that takes little beside the search.
+    fn goals_after(&self, empties: u8) -> usize {
+        let fewest = self.plan.fewest;
+        if empties < fewest {
+            1
+        } else if empties < fewest.saturating_add(SMALL) {
+            2
         } else {
-            0
-        };
+            usize::MAX
+        }
+    }
+
+    // Whether the cells tell what one of so many of the last searches under way is to decide.
+    fn is_any_decided(&mut self, most: usize) -> bool {
+        let goals = self.goals.as_slice();
+        let first = goals.len().saturating_sub(most);
         for place in first..goals.len() {
             if is_decided(&goals[place], &mut self.cells, self.plan) {
                 return true;

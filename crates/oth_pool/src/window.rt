@@ -1,75 +1,48 @@
 //! The window of a search.
-ghost use Rattle.std.specs.Prelude.{pos, negsuc, ◌≤ℤ◌};
-ghost use Rattle.oth_search.specs.Bound.{IsWindow};
+ghost use Rattle.std.specs.Prelude.{◌≡◌, pos, negsuc, ◌≤ℤ◌};
+ghost use Rattle.oth_search.specs.Bound.{IsThreshold};
 
-use oth_search::{Interval, Solved};
+use oth_rules::{Board, Scoring};
+use oth_search::{Cells, Interval, Solved};
 
-/// What a search is to decide: whether a value is at most `alpha` or at least `beta`, or what it is between them.
+/// What a search is to decide: whether a value is above `alpha` or not. No window is wider: each is a null window.
 #[derive(Clone, Copy)]
 pub(crate) struct Window {
     pub alpha: i8,
-    pub beta: i8,
-    pub ghost is_window: { IsWindow alpha beta },
+    ghost is_threshold: { IsThreshold alpha },
 }
 
 impl Window {
-    /// The window in which each score lies.
-    pub fn all() -> Window {
-        Window {
-            alpha: -65,
-            beta: 65,
-        }
-    }
-
     /// The window that tells whether a value is at least this score.
     pub fn at(score: i8) -> Window
-        requires low { negsuc 63 ≤ℤ score }
+        requires low { negsuc 62 ≤ℤ score }
         requires high { score ≤ℤ pos 64 }
     {
-        Window {
-            alpha: score - 1,
-            beta: score,
-        }
+        Window { alpha: score - 1 }
     }
 
     /// The same window as the opponent sees it.
     pub fn turned(self) -> Window {
         Window {
-            alpha: -self.beta,
-            beta: -self.alpha,
+            alpha: -self.alpha - 1,
         }
     }
 
-    /// Whether no value lies inside.
-    pub fn is_null(self) -> bool {
-        self.beta - 1 == self.alpha
-    }
-
-    /// The window that tells whether a value is above `alpha`.
-    pub fn null(self) -> Window {
-        Window {
-            alpha: self.alpha,
-            beta: self.alpha + 1,
-        }
-    }
-
-    /// What is left of it above a score that is reached; none where that is all of it.
-    pub fn above(self, score: i8) -> Option<Window> {
-        if score >= self.beta {
-            return None;
-        }
-        if score <= self.alpha {
-            return Some(self);
-        }
-        Some(Window {
-            alpha: score,
-            beta: self.beta,
-        })
+    /// Whether a value of at least this score is above it.
+    pub fn is_reached(self, score: i8) -> bool {
+        score > self.alpha
     }
 
     /// Whether these bounds decide it.
     pub fn is_decided(self, bounds: Interval) -> bool {
-        bounds.decides(self.alpha, self.beta)
+        bounds.decides(self.alpha, self.alpha + 1)
+    }
+
+    /// Bounds of the board's value that decide it, by a search of this worker alone.
+    pub fn search<C: Cells>(self, board: &Board, cells: &mut C, scoring: Scoring) -> Solved
+        ensures { result.board ≡ board.now }
+    {
+        Solved::by_probe(board, self.alpha, cells, scoring)
     }
 }
 

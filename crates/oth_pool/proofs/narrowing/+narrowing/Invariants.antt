@@ -15,6 +15,3 @@ decreases-visit_all g l = 5 * l.plies + 3
 
 abbrev pub decreases-visit : goal.decreases-visit
 decreases-visit g l = 5 * l.plies + 2
-
-abbrev pub decreases-narrow_after : goal.decreases-narrow_after
-decreases-narrow_after g l = 5 * l.plies + 1
