@@ -1,7 +1,6 @@
 -- What becomes of a book by the lines of an input.
-use Rattle.std.proofs.Common.{◌≡◌, ◌<◌, ◌==◌, ℕ, List, [], ◌∷◌, ◌++◌, Bool, true, false, Result, Ok, Err, if◌then◌else◌, refl, sym, ap, ◌∙◌, subst, append-nil, append_assoc, arith, All, OnOk, length, take, drop, get_or, ◌+◌}
+use Rattle.std.proofs.Common.{◌≡◌, ◌<◌, ◌==◌, ℕ, List, [], ◌∷◌, ◌++◌, Bool, true, false, Result, Ok, Err, if◌then◌else◌, refl, sym, ap, ◌∙◌, append-nil, append_assoc, arith, All, OnOk}
 use Rattle.std.proofs.lemmas.List.Elements.{All-push, Contains-append_left, Contains-append_right}
-use Rattle.std.proofs.lemmas.List.{take_more, take-append-drop}
 use Rattle.std.specs.Prelude.{nat_lt}
 use Rattle.std.proofs.lemmas.Bool.{lt-ltb, ltb-true}
 use Rattle.oth_rules.specs.Position.{empty_count}
@@ -24,7 +23,7 @@ use Rattle.oth_main.specs.declared.book_commands.Stop.TheVariants.{Run, Refused}
 use Rattle.oth_main.specs.declared.fault.RunFault.TheVariants.{Read, Write, Workers, Cells}
 use Rattle.oth_main.specs.Report.{Cut, cut, last_line, lines_of}
 use Rattle.std.proofs.Common.{lit<}
-use Rattle.oth_main.proofs.CutLemmas.{cut_push, push}
+use Rattle.oth_main.proofs.CutLemmas.{HasNoEnd, cut_part, cut_push, push}
 
 -- ---- what a line is read as
 
@@ -73,7 +72,7 @@ refused_room old a refused.Full same h = (h.1, (refused.Full, h.2))
 refused_room old a refused.OneNumber same h = absurd h.2
 refused_room old a refused.Empties same h = absurd h.2
 
--- ---- an input, byte by byte
+-- ---- an input, part by part
 
 ended : (input : List ℕ) → cut (input ++ 10 ∷ []) ≡ record { lines = (cut input).lines ++ (cut input).rest ∷ []; rest = [] }
 ended input = cut_push input 10
@@ -100,12 +99,13 @@ adding_ended before old new kept kept' input so_far keeps holds line one = recor
   answered = rw (ap (λ (c : Cut). c.lines) (ended input)) (All-push (IsAnswered new) (cut input).lines (cut input).rest (answered_stay old new (cut input).lines keeps holds so_far.answered) one);
 }
 
-pub adding_more : (before book : Contents) (kept kept' input : List ℕ) (b : ℕ) → (b == 10) ≡ false → IsAdding before book kept input → KeepsLine kept' ((cut input).rest ++ b ∷ [])
-    → IsAdding before book kept' (input ++ b ∷ [])
-adding_more before book kept kept' input b is so_far line = record {
-  line = rw (ap (λ (c : Cut). c.rest) (went_on input b is)) line;
+-- a part of a line goes on the line that has begun
+pub adding_part : (before book : Contents) (kept kept' input part : List ℕ) → HasNoEnd part → IsAdding before book kept input → KeepsLine kept' ((cut input).rest ++ part)
+    → IsAdding before book kept' (input ++ part)
+adding_part before book kept kept' input part none so_far line = record {
+  line = rw (ap (λ (c : Cut). c.rest) (cut_part input part none)) line;
   extends = so_far.extends;
-  answered = rw (ap (λ (c : Cut). c.lines) (went_on input b is)) so_far.answered;
+  answered = rw (ap (λ (c : Cut). c.lines) (cut_part input part none)) so_far.answered;
 }
 
 -- the lines of an input whose last line was ended
@@ -156,25 +156,13 @@ full_more before xs ys full = let grown = lines_grow xs ys in rw grown.1 (full_a
 pub full_of : (before : Contents) (input : List ℕ) → FindsNoRoom before (cut input).lines → FindsNoRoom before (lines_of input)
 full_of before input full = full_among before (cut input).lines (last_line (cut input).rest) full
 
--- bytes up to a full line
-pub full_within : (before : Contents) (input bytes : List ℕ) (i d : ℕ) → i < length bytes → FindsNoRoom before (cut ((input ++ take i bytes) ++ get_or bytes i d ∷ [])).lines
+-- a full line within further bytes
+pub full_within : (before : Contents) (input bytes front line others : List ℕ) → bytes ≡ (front ++ line) ++ others → FindsNoRoom before (cut ((input ++ front) ++ line)).lines
     → FindsNoRoom before (cut (input ++ bytes)).lines
-full_within before input bytes i d within full =
-    let b = get_or bytes i d in
-    let front : take (i + 1) bytes ≡ take i bytes ++ b ∷ [] = take_more bytes i d within in
-    let whole : ((input ++ take i bytes) ++ b ∷ []) ++ drop (i + 1) bytes ≡ input ++ bytes =
-    append_assoc (input ++ take i bytes) (b ∷ []) (drop (i + 1) bytes) ∙ append_assoc input (take i bytes) _
-    ∙ ap (λ l. input ++ l) (sym (append_assoc (take i bytes) (b ∷ []) (drop (i + 1) bytes)) ∙ ap (λ l. l ++ drop (i + 1) bytes) (sym front) ∙ take-append-drop (i + 1) bytes) in
-    rw whole at (full_more before ((input ++ take i bytes) ++ b ∷ []) (drop (i + 1) bytes) full)
-
--- by the same book and line
-pub adding_same : (before book book' : Contents) (kept kept' input : List ℕ) → book' ≡ book → kept' ≡ kept → IsAdding before book kept input → IsAdding before book' kept' input
-adding_same before book book' kept kept' input same line so_far = rw (same, line) so_far
-
-pub adding_byte : (before book : Contents) (kept input bytes : List ℕ) (i d : ℕ) → i < length bytes → IsAdding before book kept ((input ++ take i bytes) ++ get_or bytes i d ∷ [])
-    → IsAdding before book kept (input ++ take (i + 1) bytes)
-adding_byte before book kept input bytes i d within so_far =
-    subst (IsAdding before book kept) (append_assoc input (take i bytes) (get_or bytes i d ∷ []) ∙ ap (λ l. input ++ l) (sym (take_more bytes i d within))) so_far
+full_within before input bytes front line others same full =
+    let joined : ((input ++ front) ++ line) ++ others ≡ input ++ bytes =
+    ap (λ l. l ++ others) (append_assoc input front line) ∙ append_assoc input (front ++ line) others ∙ ap (λ l. input ++ l) (sym same) in
+    rw joined at (full_more before ((input ++ front) ++ line) others full)
 
 -- ---- the last line
 

@@ -88,7 +88,7 @@ cut_plain xs (y ∷ ys) all =
     ∙ ap (λ (r : List ℕ). let c : Cut = record { lines = (cut xs).lines; rest = r } in c) (append_assoc (cut xs).rest (y ∷ []) ys)
 
 -- a part of a line goes on the line that has begun
-cut_part : (xs part : List ℕ) → HasNoEnd part → cut (xs ++ part) ≡ record { lines = (cut xs).lines; rest = (cut xs).rest ++ part }
+pub cut_part : (xs part : List ℕ) → HasNoEnd part → cut (xs ++ part) ≡ record { lines = (cut xs).lines; rest = (cut xs).rest ++ part }
 cut_part xs part none = cut_plain xs part (recursion_from_All (λ b. b ≢ 10) part none)
 
 module _ (reply : List ℕ → List ℕ) where

@@ -1,6 +1,7 @@
 //! The commands of the book.
 
-ghost use Rattle.std.specs.Prelude.{◌≡◌, ◌↔◌, ◌≤◌, ◌⊎◌, ◌++◌, ◌∷◌, [], ℕ, List, false, true, IfErr, IfOk, OnErr, OnOk};
+ghost use Rattle.std.specs.Prelude.{◌≡◌, ◌≢◌, ◌↔◌, ◌≤◌, ◌⊎◌, ◌++◌, ◌∷◌, [], ℕ, List, All, false, true};
+ghost use Rattle.std.specs.Prelude.{IfErr, IfOk, OnErr, OnOk};
 ghost use Rattle.std.specs.Io.KnownBytes.{Appends, IsAtEnd};
 ghost use Rattle.oth_rules.specs.Position.{empty_count};
 ghost use Rattle.oth_rules.specs.Symmetry.{canonical};
@@ -9,11 +10,11 @@ ghost use Rattle.oth_book.specs.Add.{HasNoRoom, IsAbsent, Keeps};
 ghost use Rattle.oth_book.specs.Book.{HasExact, IsTrueBook};
 ghost use Rattle.oth_book.specs.Contents.{Contents, IsText, written};
 ghost use Rattle.oth_book.specs.declared.add.AddError.{AddError as AnyRefusal};
-ghost use Rattle.oth_main.specs.Addition.{AddsLines, AddsTo, AnswersLine, DeviceFails, FindsNoRoom, HasAdded};
-ghost use Rattle.oth_main.specs.Addition.{HasNoPlace, IsAdding, IsAnswered, IsFullFor, IsRefusedLine, IsStatus};
-ghost use Rattle.oth_main.specs.Addition.{OfInput, StopsBy, StopsFull, StopsReading};
+ghost use Rattle.oth_main.specs.Addition.{AddsBytes, AddsLines, AddsTo, AnswersLine, DeviceFails, FindsNoRoom};
+ghost use Rattle.oth_main.specs.Addition.{HasAdded, HasNoPlace, IsAdding, IsAnswered, IsFullFor, IsFullWithin};
+ghost use Rattle.oth_main.specs.Addition.{IsRefusedLine, IsStatus, OfInput, StopsBy, StopsFull, StopsReading};
 ghost use Rattle.oth_main.specs.BookFile.{IsRefused, IsVerdict};
-ghost use Rattle.oth_main.specs.Report.{cut, lines_of};
+ghost use Rattle.oth_main.specs.Report.{lines_of};
 ghost use Rattle.oth_main.specs.Run.{AreLawful, status_of};
 ghost use Rattle.oth_main.specs.declared.book_commands.Stop.TheVariants.{Run};
 ghost use Rattle.oth_main.specs.declared.fault.RunFault.TheVariants.{Write};
@@ -22,6 +23,7 @@ use crate::ahead::Ahead;
 use crate::book_file::{REFUSED, open_book, print_refusal};
 use crate::checking::Lawful;
 use crate::fault::RunFault;
+use crate::lines::split_line;
 use crate::message::Message;
 use crate::solver::Solver;
 use oth_book::{AddError, Book, write};
@@ -270,60 +272,37 @@ impl Addition {
         errors: &mut E,
         settings: &Lawful,
     ) -> Result<(), Stop>
-        ensures ok { OnOk result ((before : Contents) (input : List ℕ)
-            → IsAdding before self.old.book self.old.line input
-            → IsAdding before self.new.book self.new.line (input ++ bytes.now)) }
-        ensures full { OnErr result ((before : Contents) (input : List ℕ)
-            → IsAdding before self.old.book self.old.line input
-            → FindsNoRoom before (cut (input ++ bytes.now)).lines) }
+        ensures ok { OnOk result (AddsBytes self.old.book self.old.line self.new.book self.new.line bytes.now) }
+        ensures full { OnErr result (IsFullWithin self.old.book self.old.line bytes.now) }
         ensures refused { IfErr result IsRefusedLine }
     {
-        for place in 0..bytes.len() {
-            self.look_ahead(rt, alloc, &bytes[place..], settings);
-            self.take_byte(rt, alloc, bytes[place], errors, settings)?;
+        let mut rest = bytes;
+        while let Some((line, others)) = split_line(rest) {
+            pass_line(&mut self.ahead, rt, alloc, &self.book, rest, settings);
+            self.take_line(rt, alloc, line, errors, settings)?;
+            rest = others;
         }
+        self.line.push(rest);
         Ok(())
     }
 
-    // Where a line begins with these bytes: solves boards of the next lines side by side, unless that was done.
-    fn look_ahead<T: Threads + Sync>(
+    // Takes the last part of a line, and ends the line.
+    fn take_line<T: Threads + Sync, E: Sink>(
         &mut self,
         rt: &T,
         alloc: Global,
-        bytes: &[u8],
-        settings: &Lawful,
-    )
-        ensures book { self.new.book ≡ self.old.book }
-        ensures line { self.new.line ≡ self.old.line }
-    {
-        let is_first = self.line.is_empty();
-        if is_first {
-            pass_line(&mut self.ahead, rt, alloc, &self.book, bytes, settings);
-        }
-    }
-
-    // Takes a further byte.
-    fn take_byte<T: Threads + Sync, E: Sink>(
-        &mut self,
-        rt: &T,
-        alloc: Global,
-        byte: u8,
+        part: &[u8],
         errors: &mut E,
         settings: &Lawful,
     ) -> Result<(), Stop>
-        ensures ok { OnOk result ((before : Contents) (input : List ℕ)
-            → IsAdding before self.old.book self.old.line input
-            → IsAdding before self.new.book self.new.line (input ++ byte ∷ [])) }
-        ensures full { OnErr result ((before : Contents) (input : List ℕ)
-            → IsAdding before self.old.book self.old.line input
-            → FindsNoRoom before (cut (input ++ byte ∷ [])).lines) }
+        requires part { All (λ b. b ≢ 10) part.now }
+        ensures ok { OnOk result (AddsBytes self.old.book self.old.line self.new.book self.new.line
+            (part.now ++ 10 ∷ [])) }
+        ensures full { OnErr result (IsFullWithin self.old.book self.old.line (part.now ++ 10 ∷ [])) }
         ensures refused { IfErr result IsRefusedLine }
     {
-        if byte == b'\n' {
-            return self.end_line(rt, alloc, errors, settings);
-        }
-        self.line.push(&[byte]);
-        Ok(())
+        self.line.push(part);
+        self.end_line(rt, alloc, errors, settings)
     }
 
     // Adds the last line, unless it is empty.
@@ -356,12 +335,8 @@ impl Addition {
         errors: &mut E,
         settings: &Lawful,
     ) -> Result<(), Stop>
-        ensures ok { OnOk result ((before : Contents) (input : List ℕ)
-            → IsAdding before self.old.book self.old.line input
-            → IsAdding before self.new.book self.new.line (input ++ 10 ∷ [])) }
-        ensures full { OnErr result ((before : Contents) (input : List ℕ)
-            → IsAdding before self.old.book self.old.line input
-            → FindsNoRoom before (cut (input ++ 10 ∷ [])).lines) }
+        ensures ok { OnOk result (AddsBytes self.old.book self.old.line self.new.book self.new.line (10 ∷ [])) }
+        ensures full { OnErr result (IsFullWithin self.old.book self.old.line (10 ∷ [])) }
         ensures refused { IfErr result IsRefusedLine }
     {
         self.add_line(rt, alloc, errors, settings)?;

@@ -9,10 +9,10 @@ mod refused;
 mod rows;
 
 use crate::scene::Plan;
-use crate::{Floor, Frontier, Open, TableAccess, WorkerCells, run_workers, solve};
+use crate::{Floor, Frontier, Open, SolveError, TableAccess, WorkerCells, run_workers, solve};
 use oth_rules::samples::board;
 use oth_rules::{Board, Scoring, Square};
-use oth_search::{Cells, Kind};
+use oth_search::{Answer, Cells, Kind};
 use oth_table::SharedTable;
 use std::alloc::Global;
 use std::test::Fail;
@@ -27,7 +27,19 @@ const CORNERS: [u64; 2] = [0x3cff_ffff_ffff_ff3c, 0x4200_0000_0000_0042];
 
 const C: [u64; 2] = [0xffff_ffff_ffff_ff3c, 0x42];
 
-// What `solve` answers: the score, the best moves and the kind; None where it refuses.
+// What `solve` answers, which asks no book and whose gate does nothing.
+fn answered<R: Threads + Sync>(
+    rt: &R,
+    alloc: Global,
+    board: &Board,
+    workers: u8,
+    cells: u32,
+    scoring: Scoring,
+) -> Result<Answer, SolveError> {
+    solve(rt, alloc, board, workers, cells, &Open, None, scoring)
+}
+
+// The same: the score, the best moves and the kind; None where it refuses.
 fn solved<R: Threads + Sync>(
     rt: &R,
     alloc: Global,
@@ -37,7 +49,7 @@ fn solved<R: Threads + Sync>(
     scoring: Scoring,
 ) -> Option<(i8, u64, Kind)> {
     let board = Board::of(words[0], words[1]).ok()?;
-    let answer = solve(rt, alloc, &board, workers, cells, &Open, None, scoring).ok()?;
+    let answer = answered(rt, alloc, &board, workers, cells, scoring).ok()?;
     Some((answer.score, answer.best, answer.kind))
 }
 

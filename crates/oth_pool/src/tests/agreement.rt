@@ -1,6 +1,6 @@
 //! The parallel solver, the solver alone and plain minimax answer alike.
 
-use crate::{Open, solve};
+use super::answered;
 use oth_rules::Scoring;
 use oth_rules::samples::after_least_moves;
 use oth_search::solve_alone;
@@ -18,16 +18,7 @@ fn all_solvers_agree_where_the_least_moves_lead(rt: HostRuntime) -> Result<(), F
         };
         assert!(rt; alone.score == board.plain_score(scoring));
         for (workers, cells) in [(1, 0), (2, 1), (16, 64)] {
-            let found = solve(
-                &rt,
-                rt.alloc(),
-                &board,
-                workers,
-                cells,
-                &Open,
-                None,
-                scoring,
-            );
+            let found = answered(&rt, rt.alloc(), &board, workers, cells, scoring);
             assert!(rt; found == Ok(alone), "{workers} workers, {cells} cells");
         }
     }

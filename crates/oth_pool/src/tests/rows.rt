@@ -1,7 +1,7 @@
 //! The worked boards by every crew and table, and the refusals of `solve`.
 
-use super::{A, B, C, CORNERS, solved};
-use crate::{Open, SolveError, solve};
+use super::{A, B, C, CORNERS, answered, solved};
+use crate::SolveError;
 use oth_rules::{Board, Scoring};
 use oth_search::Kind;
 use std::process::Abort;
@@ -113,16 +113,7 @@ fn refusals_come_in_order(rt: HostRuntime) -> Result<(), Fail> {
         (limit, 0, 0, SolveError::TooManyEmpties(31)),
         (limit, 0, 3, SolveError::TooManyEmpties(31)),
     ] {
-        let found = solve(
-            &rt,
-            rt.alloc(),
-            &board,
-            workers,
-            cells,
-            &Open,
-            None,
-            Scoring::Winner,
-        );
+        let found = answered(&rt, rt.alloc(), &board, workers, cells, Scoring::Winner);
         assert!(rt;
             found.err() == Some(refusal),
             "{workers} workers, {cells} cells"

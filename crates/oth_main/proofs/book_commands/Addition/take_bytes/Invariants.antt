@@ -1,9 +1,10 @@
--- what held before the bytes holds after those so far
-use Rattle.std.proofs.Common.{◌++◌, ℕ, List, take}
-use Rattle.oth_book.specs.Contents.{Contents}
-use Rattle.oth_main.specs.Addition.{IsAdding}
+-- what held before the bytes holds after the lines so far
+use Rattle.std.proofs.Common.{◌≡◌, ◌++◌, ℕ, List, length}
+use Rattle.oth_main.specs.Addition.{AddsBytes}
 use Rattle.oth_main.proofs.book_commands.Addition.take_bytes.Given as goal
 
-abbrev pub invariant-loop-place : goal.invariant-loop-place
-invariant-loop-place g l = (before : Contents) (input : List ℕ) → IsAdding before l.fn.self.book l.fn.self.line input
-    → IsAdding before l.self.book l.self.line (input ++ take l.place l.bytes)
+abbrev pub invariant-loop-line : goal.invariant-loop-line
+invariant-loop-line g l = (front : List ℕ) × (l.bytes ≡ front ++ l.rest) × AddsBytes l.fn.self.book l.fn.self.line l.self.book l.self.line front
+
+abbrev pub decreases-loop-line : goal.decreases-loop-line
+decreases-loop-line g l = length l.rest
