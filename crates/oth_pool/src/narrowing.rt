@@ -143,11 +143,7 @@ fn narrow_moves<C: Cells>(board: Board, window: Window, plies: u8, walk: &mut Wa
 }
 
 // What the cells tell of the board by one of the boards after its moves, if that decides the window.
-fn decided_by_child<C: Cells>(
-    board: &Board,
-    window: Window,
-    walk: &mut Walk<C>,
-) -> Option<Solved> {
+fn decided_by_child<C: Cells>(board: &Board, window: Window, walk: &mut Walk<C>) -> Option<Solved> {
     let mut rest = board.moves();
     for _ in 0..64 {
         if rest == 0 {
