@@ -57,8 +57,8 @@ impl Ahead {
         }
     }
 
-    /// Passes the first of the lines in these bytes, which begin with a line. Where it wasn't looked at, the boards of
-    /// as many of the lines as make a batch are solved side by side.
+    /// Passes the first of the lines in these bytes, which may be the rest of one. Where it wasn't looked at, the
+    /// boards of as many of the lines as make a batch are solved side by side.
     pub fn pass<T: Threads + Sync, G: Gate>(
         &mut self,
         solver: &Solver<'_, T, G>,

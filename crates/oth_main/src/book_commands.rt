@@ -110,7 +110,13 @@ pub fn book_add<T: Wait + Threads + Sync, R: Source, W: Sink, E: Sink>(
         Err(fault) => return print_run_fault(fault, errors),
     };
     match open_book(rt, alloc, file, settings.workers, settings.cells) {
-        Ok(book) => add_lines(rt, alloc, book, reader, writer, errors, &lawful),
+        Ok(book) => add_lines(
+            rt,
+            Addition::of(alloc, book, lawful),
+            reader,
+            writer,
+            errors,
+        ),
         Err(refusal) => {
             print_refusal(&refusal, errors);
             REFUSED
@@ -146,44 +152,37 @@ fn pass_line<T: Threads + Sync>(
     alloc: Global,
     book: &Book,
     bytes: &[u8],
-    settings: &Lawful,
+    asked: &Lawful,
 ) {
-    let asked = settings.to_solve_by(book.scoring());
     let solver = Solver {
         rt,
         alloc,
         gate: &Open,
         book: Some(book),
     };
-    ahead.pass(&solver, &asked, bytes);
+    ahead.pass(&solver, asked, bytes);
 }
 
 // Adds the lines of the input to the book, and writes it.
 fn add_lines<T: Wait + Threads + Sync, R: Source, W: Sink, E: Sink>(
     rt: &T,
-    alloc: Global,
-    book: Book,
+    addition: Addition,
     reader: &mut R,
     writer: &mut W,
     errors: &mut E,
-    settings: &Lawful,
 ) -> u8
-    requires holds { IsTrueBook book }
+    requires line { KeepsLine addition.line [] }
+    requires holds { IsTrueBook addition.book }
     ensures status { IsStatus result
-        (AddsLines book (R.remaining reader.old) (R.remaining reader.new)
+        (AddsLines addition.book (R.remaining reader.old) (R.remaining reader.new)
         (W.contents writer.old) (W.contents writer.new))
         (DeviceFails (R.failed reader.new) (W.failed writer.new) (writer.new ≡ writer.old))
-        ((writer.new ≡ writer.old) × StopsFull book (R.remaining reader.old) (R.remaining reader.new)) }
+        ((writer.new ≡ writer.old) × StopsFull addition.book (R.remaining reader.old) (R.remaining reader.new)) }
     ensures works { result ≡ 0 → (R.failed reader.new ≡ R.failed reader.old)
         × (W.failed writer.new ≡ false) × (W.flushed writer.new ≡ true) }
 {
-    let mut addition = Addition {
-        book,
-        line: BoardReader::new(),
-        ahead: Ahead::nothing(alloc),
-        number: 1,
-    };
-    match addition.run(rt, alloc, reader, writer, errors, settings) {
+    let mut addition = addition;
+    match addition.run(rt, reader, writer, errors) {
         Ok(()) => DONE,
         Err(Stop::Run(fault)) => print_run_fault(fault, errors),
         Err(Stop::Refused(line, error)) => {
@@ -197,25 +196,40 @@ fn add_lines<T: Wait + Threads + Sync, R: Source, W: Sink, E: Sink>(
     }
 }
 
-// The book so far, the line that has begun, answers of the next lines, and the line's number from 1.
+// The book so far, the line that has begun and its number from 1, answers of the next lines, and how they are solved.
 #[derive(Drop)]
 struct Addition {
     book: Book,
     line: BoardReader,
-    ahead: Ahead,
     number: u64,
+    ahead: Ahead,
+    alloc: Global,
+    settings: Lawful,
 }
 
 impl Addition {
+    // Nothing is added to the book so far.
+    fn of(alloc: Global, book: Book, settings: Lawful) -> Addition
+        ensures book { result.book ≡ book }
+        ensures line { KeepsLine result.line [] }
+    {
+        Addition {
+            book,
+            line: BoardReader::new(),
+            number: 1,
+            ahead: Ahead::nothing(alloc),
+            alloc,
+            settings,
+        }
+    }
+
     // Adds all lines, and writes the book.
     fn run<T: Wait + Threads + Sync, R: Source, W: Sink, E: Sink>(
         &mut self,
         rt: &T,
-        alloc: Global,
         reader: &mut R,
         writer: &mut W,
         errors: &mut E,
-        settings: &Lawful,
     ) -> Result<(), Stop>
         requires line { KeepsLine self.old.line [] }
         requires holds { IsTrueBook self.old.book }
@@ -227,8 +241,8 @@ impl Addition {
             (writer.new ≡ writer.old)
             (StopsFull self.old.book (R.remaining reader.old) (R.remaining reader.new))) }
     {
-        self.read_lines(rt, alloc, reader, errors, settings)?;
-        self.end_last(rt, alloc, errors, settings)?;
+        self.read_lines(rt, reader, errors)?;
+        self.end_last(rt, errors)?;
         self.write_to(writer)
     }
 
@@ -236,10 +250,8 @@ impl Addition {
     fn read_lines<T: Wait + Threads + Sync, R: Source, E: Sink>(
         &mut self,
         rt: &T,
-        alloc: Global,
         reader: &mut R,
         errors: &mut E,
-        settings: &Lawful,
     ) -> Result<(), Stop>
         requires line { KeepsLine self.old.line [] }
         requires holds { IsTrueBook self.old.book }
@@ -258,7 +270,7 @@ impl Addition {
             if count == 0 {
                 break;
             }
-            self.take_bytes(rt, alloc, &buffer[..count], errors, settings)?;
+            self.take_bytes(rt, &buffer[..count], errors)?;
         }
         Ok(())
     }
@@ -267,10 +279,8 @@ impl Addition {
     fn take_bytes<T: Threads + Sync, E: Sink>(
         &mut self,
         rt: &T,
-        alloc: Global,
         bytes: &[u8],
         errors: &mut E,
-        settings: &Lawful,
     ) -> Result<(), Stop>
         ensures ok { OnOk result (AddsBytes self.old.book self.old.line self.new.book self.new.line bytes.now) }
         ensures full { OnErr result (IsFullWithin self.old.book self.old.line bytes.now) }
@@ -278,22 +288,28 @@ impl Addition {
     {
         let mut rest = bytes;
         while let Some((line, others)) = split_line(rest) {
-            pass_line(&mut self.ahead, rt, alloc, &self.book, rest, settings);
-            self.take_line(rt, alloc, line, errors, settings)?;
+            let asked = self.asked();
+            pass_line(&mut self.ahead, rt, self.alloc, &self.book, rest, &asked);
+            self.take_line(rt, line, errors)?;
             rest = others;
         }
         self.line.push(rest);
         Ok(())
     }
 
+    // The settings, by the book's scoring.
+    fn asked(&self) -> Lawful
+        ensures scoring { result.scoring ≡ self.now.book.scoring }
+    {
+        self.settings.to_solve_by(self.book.scoring())
+    }
+
     // Takes the last part of a line, and ends the line.
     fn take_line<T: Threads + Sync, E: Sink>(
         &mut self,
         rt: &T,
-        alloc: Global,
         part: &[u8],
         errors: &mut E,
-        settings: &Lawful,
     ) -> Result<(), Stop>
         requires part { All (λ b. b ≢ 10) part.now }
         ensures ok { OnOk result (AddsBytes self.old.book self.old.line self.new.book self.new.line
@@ -302,17 +318,11 @@ impl Addition {
         ensures refused { IfErr result IsRefusedLine }
     {
         self.line.push(part);
-        self.end_line(rt, alloc, errors, settings)
+        self.end_line(rt, errors)
     }
 
     // Adds the last line, unless it is empty.
-    fn end_last<T: Threads + Sync, E: Sink>(
-        &mut self,
-        rt: &T,
-        alloc: Global,
-        errors: &mut E,
-        settings: &Lawful,
-    ) -> Result<(), Stop>
+    fn end_last<T: Threads + Sync, E: Sink>(&mut self, rt: &T, errors: &mut E) -> Result<(), Stop>
         ensures ok { OnOk result ((before : Contents) (input : List ℕ)
             → IsAdding before self.old.book self.old.line input
             → HasAdded before self.new.book input) }
@@ -324,35 +334,23 @@ impl Addition {
         if self.line.is_empty() {
             return Ok(());
         }
-        self.end_line(rt, alloc, errors, settings)
+        self.end_line(rt, errors)
     }
 
     // Ends the line that has begun, and begins a new one.
-    fn end_line<T: Threads + Sync, E: Sink>(
-        &mut self,
-        rt: &T,
-        alloc: Global,
-        errors: &mut E,
-        settings: &Lawful,
-    ) -> Result<(), Stop>
+    fn end_line<T: Threads + Sync, E: Sink>(&mut self, rt: &T, errors: &mut E) -> Result<(), Stop>
         ensures ok { OnOk result (AddsBytes self.old.book self.old.line self.new.book self.new.line (10 ∷ [])) }
         ensures full { OnErr result (IsFullWithin self.old.book self.old.line (10 ∷ [])) }
         ensures refused { IfErr result IsRefusedLine }
     {
-        self.add_line(rt, alloc, errors, settings)?;
+        self.add_line(rt, errors)?;
         self.line.clear();
         self.number = self.number.saturating_add(1);
         Ok(())
     }
 
     // Adds the answer of the line that has begun, or prints its fault.
-    fn add_line<T: Threads + Sync, E: Sink>(
-        &mut self,
-        rt: &T,
-        alloc: Global,
-        errors: &mut E,
-        settings: &Lawful,
-    ) -> Result<(), Stop>
+    fn add_line<T: Threads + Sync, E: Sink>(&mut self, rt: &T, errors: &mut E) -> Result<(), Stop>
         ensures line { self.new.line ≡ self.old.line }
         ensures kept { Keeps self.old.book self.new.book }
         ensures holds { IsTrueBook self.old.book → IsTrueBook self.new.book }
@@ -361,7 +359,7 @@ impl Addition {
         ensures full { OnErr result ((line : List ℕ) → KeepsLine self.old.line line → HasNoPlace self.old.book line) }
         ensures refused { IfErr result IsRefusedLine }
     {
-        match self.answer(rt, alloc, settings) {
+        match self.answer(rt) {
             Ok(answer) => self.add(&answer),
             Err(fault) => {
                 Message::of(b"line ")
@@ -375,21 +373,16 @@ impl Addition {
     }
 
     // The answer of the line that has begun, by the book's scoring.
-    fn answer<T: Threads + Sync>(
-        &self,
-        rt: &T,
-        alloc: Global,
-        settings: &Lawful,
-    ) -> Result<Answer, LineFault>
+    fn answer<T: Threads + Sync>(&self, rt: &T) -> Result<Answer, LineFault>
         ensures answers { (line : List ℕ) → KeepsLine self.now.line line → AnswersLine (solvable_reading line) result }
         ensures scoring { IfOk result (λ a. a.scoring ≡ self.now.book.scoring) }
         ensures few { IfOk result (λ a. empty_count a.board ≤ 30) }
     {
         let position = self.line.read()?;
-        let asked = settings.to_solve_by(self.book.scoring());
+        let asked = self.asked();
         let solver = Solver {
             rt,
-            alloc,
+            alloc: self.alloc,
             gate: &Open,
             book: Some(&self.book),
         };

@@ -18,6 +18,23 @@ use oth_rules::{Board, Scoring, Square};
 // Less than each score: there is no move.
 const NO_MOVE: i8 = -65;
 
+// Three squares, in the order in which they are tried.
+#[derive(Clone, Copy)]
+struct Three {
+    a: Square,
+    b: Square,
+    c: Square,
+}
+
+// Four squares, in the order in which they are tried.
+#[derive(Clone, Copy)]
+struct Four {
+    a: Square,
+    b: Square,
+    c: Square,
+    d: Square,
+}
+
 /// A bound of the value, where at most four squares are empty. Those in `odd` are tried first.
 pub fn probe_last(board: Board, odd: u64, alpha: i8, scoring: Scoring) -> Option<i8>
     requires { IsThreshold alpha }
@@ -44,7 +61,8 @@ pub fn probe_last(board: Board, odd: u64, alpha: i8, scoring: Scoring) -> Option
     }
     let d = preferred(rest, odd);
     if without(rest, d) == 0 {
-        return Some(last_four(board, alpha, a, b, c, d, scoring));
+        let squares = Four { a, b, c, d };
+        return Some(last_four(board, alpha, &squares, scoring));
     }
     None
 }
@@ -160,21 +178,15 @@ fn last_three(board: Board, alpha: i8, a: Square, b: Square, c: Square, scoring:
 
 // The same, where a square alone in its quarter is tried first. Who moves there moves last there.
 #[inline(always)]
-fn last_three_by_quarters(
-    board: Board,
-    alpha: i8,
-    a: Square,
-    b: Square,
-    c: Square,
-    scoring: Scoring,
-) -> i8
+fn last_three_by_quarters(board: Board, alpha: i8, squares: Three, scoring: Scoring) -> i8
     requires threshold { IsThreshold alpha }
-    requires a_on_board { a < 64 }
-    requires b_on_board { b < 64 }
-    requires c_on_board { c < 64 }
-    requires last { Leaves board (a ∷ b ∷ c ∷ []) }
+    requires a_on_board { squares.a < 64 }
+    requires b_on_board { squares.b < 64 }
+    requires c_on_board { squares.c < 64 }
+    requires last { Leaves board (squares.a ∷ squares.b ∷ squares.c ∷ []) }
     ensures { BoundsAt (value (score_of scoring) board) alpha result }
 {
+    let Three { a, b, c } = squares;
     if share_quarter(a, b) {
         return last_three(board, alpha, c, a, b, scoring);
     }
@@ -223,29 +235,21 @@ fn reply_two(board: Board, alpha: i8, square: Square, a: Square, b: Square, scor
 }
 
 // The same, of four squares.
-fn last_four(
-    board: Board,
-    alpha: i8,
-    a: Square,
-    b: Square,
-    c: Square,
-    d: Square,
-    scoring: Scoring,
-) -> i8
+fn last_four(board: Board, alpha: i8, squares: &Four, scoring: Scoring) -> i8
     requires threshold { IsThreshold alpha }
-    requires a_on_board { a < 64 }
-    requires b_on_board { b < 64 }
-    requires c_on_board { c < 64 }
-    requires d_on_board { d < 64 }
-    requires last { Leaves board (a ∷ b ∷ c ∷ d ∷ []) }
+    requires a_on_board { squares.now.a < 64 }
+    requires b_on_board { squares.now.b < 64 }
+    requires c_on_board { squares.now.c < 64 }
+    requires d_on_board { squares.now.d < 64 }
+    requires last { Leaves board (squares.now.a ∷ squares.now.b ∷ squares.now.c ∷ squares.now.d ∷ []) }
     ensures { BoundsAt (value (score_of scoring) board) alpha result }
 {
-    let found = moves_four(board, alpha, a, b, c, d, scoring);
+    let found = moves_four(board, alpha, squares, scoring);
     if found != NO_MOVE {
         return found;
     }
     let passed = board.pass();
-    let found = moves_four(passed, -alpha - 1, a, b, c, d, scoring);
+    let found = moves_four(passed, -alpha - 1, squares, scoring);
     if found != NO_MOVE {
         return -found;
     }
@@ -254,67 +258,54 @@ fn last_four(
 
 // The best of the moves to four squares.
 #[inline(always)]
-fn moves_four(
-    board: Board,
-    alpha: i8,
-    a: Square,
-    b: Square,
-    c: Square,
-    d: Square,
-    scoring: Scoring,
-) -> i8
+fn moves_four(board: Board, alpha: i8, squares: &Four, scoring: Scoring) -> i8
     requires threshold { IsThreshold alpha }
-    requires a_on_board { a < 64 }
-    requires b_on_board { b < 64 }
-    requires c_on_board { c < 64 }
-    requires d_on_board { d < 64 }
-    requires last { Leaves board (a ∷ b ∷ c ∷ d ∷ []) }
+    requires a_on_board { squares.now.a < 64 }
+    requires b_on_board { squares.now.b < 64 }
+    requires c_on_board { squares.now.c < 64 }
+    requires d_on_board { squares.now.d < 64 }
+    requires last { Leaves board (squares.now.a ∷ squares.now.b ∷ squares.now.c ∷ squares.now.d ∷ []) }
     ensures { MovesAt (score_of scoring) board alpha result }
 {
-    let best = reply_three(board, alpha, a, b, c, d, scoring);
+    let Four { a, b, c, d } = *squares;
+    let best = reply_three(board, alpha, a, Three { a: b, b: c, c: d }, scoring);
     if best > alpha {
         return best;
     }
-    let best = greater(best, reply_three(board, alpha, b, a, c, d, scoring));
+    let best = greater(
+        best,
+        reply_three(board, alpha, b, Three { a, b: c, c: d }, scoring),
+    );
     if best > alpha {
         return best;
     }
-    let best = greater(best, reply_three(board, alpha, c, a, b, d, scoring));
+    let best = greater(
+        best,
+        reply_three(board, alpha, c, Three { a, b, c: d }, scoring),
+    );
     if best > alpha {
         return best;
     }
-    greater(best, reply_three(board, alpha, d, a, b, c, scoring))
+    greater(
+        best,
+        reply_three(board, alpha, d, Three { a, b, c }, scoring),
+    )
 }
 
 // A move to `square`, with three more empty squares.
 #[inline(always)]
-fn reply_three(
-    board: Board,
-    alpha: i8,
-    square: Square,
-    a: Square,
-    b: Square,
-    c: Square,
-    scoring: Scoring,
-) -> i8
+fn reply_three(board: Board, alpha: i8, square: Square, rest: Three, scoring: Scoring) -> i8
     requires threshold { IsThreshold alpha }
     requires on_board { square < 64 }
-    requires a_on_board { a < 64 }
-    requires b_on_board { b < 64 }
-    requires c_on_board { c < 64 }
-    requires last { Leaves board (square ∷ a ∷ b ∷ c ∷ []) }
+    requires a_on_board { rest.a < 64 }
+    requires b_on_board { rest.b < 64 }
+    requires c_on_board { rest.c < 64 }
+    requires last { Leaves board (square ∷ rest.a ∷ rest.b ∷ rest.c ∷ []) }
     ensures { GivesAt (score_of scoring) board square alpha result }
 {
     let flips = flips_at(&board, square);
     if flips == 0 {
         return NO_MOVE;
     }
-    -last_three_by_quarters(
-        board.play_flipped(square, flips),
-        -alpha - 1,
-        a,
-        b,
-        c,
-        scoring,
-    )
+    -last_three_by_quarters(board.play_flipped(square, flips), -alpha - 1, rest, scoring)
 }

@@ -263,49 +263,67 @@ fn makes_rounds(table: &SharedTable, mut seat: TableSeat, three: &Three, rounds:
     all_right
 }
 
-// Rounds by so many threads at once, each with a seat of its own. Every fourth thread drops its seat in the middle.
+// The numbers of some threads.
+#[derive(Clone, Copy)]
+struct Numbers {
+    first: u32,
+    count: u32,
+}
+
+// Sixteen threads.
+const ALL: Numbers = Numbers {
+    first: 0,
+    count: 16,
+};
+
+// Rounds by the threads of these numbers at once, each with a seat of its own. Every fourth thread drops its seat in
+// the middle.
 fn crowd<R: Threads + Sync>(
     rt: &R,
     alloc: Global,
     table: &SharedTable,
     seat: TableSeat,
     three: &Three,
-    first: u32,
-    threads: u32,
+    numbers: Numbers,
 ) -> bool
     requires seat { IsSeatOf table.now seat }
     requires cell { 0 < table.now.cells }
     requires scoring { table.now.terms.scoring ≡ Winner }
-    requires few { first + threads < 100 }
+    requires few { numbers.first + numbers.count < 100 }
 {
     let mut seat = seat;
+    let Numbers { first, count } = numbers;
     let rounds = if first % 4 == 3 { 500 } else { 1000 };
-    if threads <= 1 {
+    if count <= 1 {
         return makes_rounds(table, seat, three, rounds);
     }
     let Ok(other) = table.seat(alloc, &mut seat) else {
         return makes_rounds(table, seat, three, rounds);
     };
-    let half = threads / 2;
-    let rest = threads - half;
-    let (left, right) = join(
+    let half = count / 2;
+    let left = Numbers { first, count: half };
+    let right = Numbers {
+        first: first + half,
+        count: count - half,
+    };
+    let (first_half, second_half) = join(
         rt,
         || -> bool
             requires sync { IsSync R.row }
             requires seat { IsSeatOf table.now seat }
             requires cell { 0 < table.now.cells }
             requires scoring { table.now.terms.scoring ≡ Winner }
-            requires few { first + half < 100 }
-        { crowd(rt, alloc, table, seat, three, first, half) },
+            requires few { left.first + left.count < 100 }
+        { crowd(rt, alloc, table, seat, three, left) },
         || -> bool
             requires sync { IsSync R.row }
             requires seat { IsSeatOf table.now other }
             requires cell { 0 < table.now.cells }
             requires scoring { table.now.terms.scoring ≡ Winner }
-            requires few { first + half + rest < 100 }
-        { crowd(rt, alloc, table, other, three, first + half, rest) },
+            requires few { right.first + right.count < 100 }
+        { crowd(rt, alloc, table, other, three, right) },
     );
-    left && right
+    first_half && second_half
 }
 
 #[test]
@@ -319,7 +337,7 @@ fn threads_share_a_cell(rt: HostRuntime) -> Result<(), Fail> {
     let Ok(other) = table.seat(rt.alloc(), &mut seat) else {
         panic!(rt; "no seat")
     };
-    assert!(rt; crowd(&rt, rt.alloc(), &table, other, &three, 0, 16));
+    assert!(rt; crowd(&rt, rt.alloc(), &table, other, &three, ALL));
     assert!(rt; table.put(&mut seat, 0, &three.other) == Put::Stored);
     assert!(rt; bounds(&table.look(&mut seat, 0), C) == Some(32896));
     Ok(())
@@ -338,7 +356,7 @@ fn threads_wear_out_a_cell(rt: HostRuntime) -> Result<(), Fail> {
         let Ok(other) = table.seat(rt.alloc(), &mut seat) else {
             panic!(rt; "no seat")
         };
-        assert!(rt; crowd(&rt, rt.alloc(), &table, other, &three, 0, 16));
+        assert!(rt; crowd(&rt, rt.alloc(), &table, other, &three, ALL));
         let published = table.published(&mut seat, 0);
         assert!(rt; published <= wear);
         if published == wear {

@@ -4,7 +4,7 @@ use Rattle.oth_search.proofs.Lasts as l
 use Rattle.oth_search.proofs.last.last_four.Goals as goal
 
 pub moves_four-found-requires-2-clause-last : goal.moves_four-found-requires-2-clause-last
-moves_four-found-requires-2-clause-last c = l.Leaves-pass c.args.board c.pass-passed.result (c.args.a ∷ c.args.b ∷ c.args.c ∷ c.args.d ∷ []) c.requires.last c.pass-passed.ensures
+moves_four-found-requires-2-clause-last c = l.Leaves-pass c.args.board c.pass-passed.result (c.args.squares.now.a ∷ c.args.squares.now.b ∷ c.args.squares.now.c ∷ c.args.squares.now.d ∷ []) c.requires.last c.pass-passed.ensures
 
 pub returns-then-found : goal.returns-then-found
 returns-then-found c = l.BoundsAt-moves c.args.scoring c.args.board c.args.alpha _ c.moves_four-found.result (omega (arith, ints)) (l.MovesAt-at c.args.scoring c.args.board c.args.alpha _ c.moves_four-found.result (omega (arith, ints)) c.moves_four-found.ensures) (λ e. absurd (omega (arith, ints, e, c.if-found.true)))
