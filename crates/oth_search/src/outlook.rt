@@ -1,7 +1,7 @@
 //! A guess of how well a board stands by a look a ply ahead, for the order of moves. No answer depends on it.
 ghost use Rattle.std.specs.Prelude.{◌<◌, ◌≤◌, pos, neg_ℤ, ◌≤ℤ◌};
 
-use crate::ordering::{CORNERS, around, count};
+use crate::ordering::{CORNERS, X_SQUARES, around, count};
 use crate::squares::{first, without};
 use oth_rules::Board;
 
@@ -121,12 +121,72 @@ fn standing(board: &Board, moves: u64) -> Outlook {
     }
 }
 
-// How strong the mover is: moves, corners among them, squares beside opposing discs, and corners that are taken.
+// How strong the mover is: moves, corners among them, squares beside opposing discs, corners that are taken, discs that
+// are held along an edge, and opposing discs that give a corner away.
 fn strength(board: &Board, moves: u64) -> u16
     ensures { result ≤ 4800 }
 {
     16 * count(moves)
         + 16 * count(moves & CORNERS)
         + 3 * count(around(board.opp()) & board.empty_squares())
-        + 40 * count(board.own() & CORNERS)
+        + 20 * count(board.own() & CORNERS)
+        + 10 * count(held(board.own()))
+        + 10 * count(board.opp() & diagonal_to(board.empty_squares() & CORNERS))
+}
+
+// The first and the last row.
+const END_ROWS: u64 = 0xff00_0000_0000_00ff;
+
+// The first square of each of them.
+const ROW_STARTS: u64 = 0x0100_0000_0000_0001;
+
+// The squares of the columns a and h.
+const END_COLUMNS: u64 = 0x8181_8181_8181_8181;
+
+// All squares but those of column h.
+const BEFORE_H: u64 = 0x7f7f_7f7f_7f7f_7f7f;
+
+// The squares of the set that stand without a gap in a row with a corner of the set, along an edge: discs there are
+// never flipped.
+fn held(set: u64) -> u64 {
+    let corners = set & CORNERS;
+    if corners == 0 {
+        return 0;
+    }
+    let rows = set & END_ROWS;
+    let columns = set & END_COLUMNS;
+    let eastwards = rows & !rows.wrapping_add(ROW_STARTS);
+    eastwards
+        | westwards(corners, rows & BEFORE_H)
+        | northwards(corners, columns)
+        | southwards(corners, columns)
+}
+
+// The squares of `from`, and those of the set that follow them to the west without a gap.
+fn westwards(from: u64, set: u64) -> u64 {
+    let one = from | (set & (from >> 1));
+    let pairs = set & (set >> 1);
+    let three = one | (pairs & (one >> 2));
+    three | (pairs & (pairs >> 2) & (three >> 4))
+}
+
+// The same to the north.
+fn northwards(from: u64, set: u64) -> u64 {
+    let one = from | (set & (from >> 8));
+    let pairs = set & (set >> 8);
+    let three = one | (pairs & (one >> 16));
+    three | (pairs & (pairs >> 16) & (three >> 32))
+}
+
+// The same to the south.
+fn southwards(from: u64, set: u64) -> u64 {
+    let one = from | (set & (from << 8));
+    let pairs = set & (set << 8);
+    let three = one | (pairs & (one << 16));
+    three | (pairs & (pairs << 16) & (three << 32))
+}
+
+// The squares diagonal to these corners.
+fn diagonal_to(corners: u64) -> u64 {
+    ((corners << 9) | (corners << 7) | (corners >> 7) | (corners >> 9)) & X_SQUARES
 }
