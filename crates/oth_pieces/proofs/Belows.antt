@@ -55,8 +55,8 @@ module _ (legal : ℕ → Bool) (item : ℕ → Item) where
   pub grows : (start items items' : List Item) (n : ℕ) → items ≡ start ++ items_below n → items' ≡ items ++ item_at n → items' ≡ start ++ items_below (n + 1)
   grows start items items' n is more = more ∙ (ap (λ l. l ++ item_at n) is ∙ (append_assoc start (items_below n) (item_at n) ∙ ap (λ l. start ++ l) (sym (items_below-more n))))
 
-  pub room : (start items : List Item) (n : ℕ) → items ≡ start ++ items_below n → n < 64 → length start + length (items_below 64) ≤ 870 → length items + length (item_at n) ≤ 870
-  room start items n is below fits =
+  pub room : (most : ℕ) (start items : List Item) (n : ℕ) → items ≡ start ++ items_below n → n < 64 → length start + length (items_below 64) ≤ most → length items + length (item_at n) ≤ most
+  room most start items n is below fits =
       let all : (n + 1) + (63 - n) ≡ 64 = omega arith in
       let most : length (items_below (n + 1)) ≤ length (items_below 64) = let P : ℕ → Type 0 = λ k. length (items_below (n + 1)) ≤ length (items_below k) in subst P all (items_below-room (n + 1) (63 - n)) in
       omega (arith, ap length is, length-append start (items_below n), ap length (items_below-more n), length-append (items_below n) (item_at n))

@@ -64,7 +64,7 @@ all_below r few (s ∷ xs) all =
 all_legal : (r : Position) → All (IsLegal r) (legal_squares r)
 all_legal r k d within = IsLegal-from_contains r (get_or (legal_squares r) k d) (k, within, get_or_default (legal_squares r) k (get_or (legal_squares r) k d) d within)
 
-pub one_room : (p : Position) → empty_count p ≤ 30 → length (one_ply p) ≤ 870
+pub one_room : (p : Position) → empty_count p ≤ 30 → length (one_ply p) ≤ 64
 one_room p few = omega (arith, length-map (legal_squares (awake p)) (move_of (awake p)), most_moves (awake p), awake_count p)
 
 pub two_room : (p : Position) → empty_count p ≤ 30 → length (two_plies p) ≤ 870

@@ -15,6 +15,9 @@ use std::marker::Model;
 /// The most boards of a frontier.
 pub const MOST_ITEMS: usize = 870;
 
+// No board has more moves.
+const MOST_MOVES: usize = 64;
+
 /// The numbered boards one or two plies below a root, seen as the list of its items.
 #[derive(Drop)]
 pub struct Frontier {
@@ -42,14 +45,13 @@ impl Frontier {
         ensures { result ≡ frontier plies board.now }
     {
         let (root, _) = awake(*board);
-        let items = first_ply(root);
-        if plies == 1 {
-            Frontier { items }
+        let first = first_ply(root);
+        let items = if plies == 1 {
+            all_of(first.as_slice())
         } else {
-            Frontier {
-                items: second_ply(&items),
-            }
-        }
+            second_ply(first.as_slice())
+        };
+        Frontier { items }
     }
 
     /// How many items there are, at most 870.
@@ -137,12 +139,12 @@ fn push_children(items: &mut ArrayVec<Item, MOST_ITEMS>, parent: &Item)
 }
 
 // The items one ply below these. One that is over stands itself.
-fn second_ply(first: &ArrayVec<Item, MOST_ITEMS>) -> ArrayVec<Item, MOST_ITEMS>
-    requires { length (flat_map below first.now.items) ≤ 870 }
-    ensures { result.items ≡ flat_map below first.now.items }
+fn second_ply(first: &[Item]) -> ArrayVec<Item, MOST_ITEMS>
+    requires { length (flat_map below first.now) ≤ 870 }
+    ensures { result.items ≡ flat_map below first.now }
 {
     let mut items = ArrayVec::new();
-    for item in first.as_slice() {
+    for item in first {
         push_below(&mut items, item);
     }
     items
@@ -161,8 +163,8 @@ fn push_below(items: &mut ArrayVec<Item, MOST_ITEMS>, item: &Item)
 }
 
 // The items one ply below a root that needn't pass.
-fn first_ply(root: Board) -> ArrayVec<Item, MOST_ITEMS>
-    requires { length (moves_of root) ≤ 870 }
+fn first_ply(root: Board) -> ArrayVec<Item, MOST_MOVES>
+    requires { length (moves_of root) ≤ 64 }
     ensures { result.items ≡ moves_of root }
 {
     let mut items = ArrayVec::new();
@@ -173,7 +175,27 @@ fn first_ply(root: Board) -> ArrayVec<Item, MOST_ITEMS>
             square,
             same_mover: true,
         };
-        push_child(&mut items, &from, square);
+        push_move(&mut items, &from, square);
     }
+    items
+}
+
+// Where the root's move is legal, adds the item after it, to a list as short as the root's moves need.
+fn push_move(items: &mut ArrayVec<Item, MOST_MOVES>, from: &Item, square: Square)
+    requires { length items.old.items + length (child_of from.now square) ≤ 64 }
+    ensures { items.new.items ≡ items.old.items ++ child_of from.now square }
+{
+    if let Some(after) = from.board.play(square) {
+        items.push(item_after(from, after));
+    }
+}
+
+// These items, with room for as many as a frontier has.
+fn all_of(first: &[Item]) -> ArrayVec<Item, MOST_ITEMS>
+    requires { length first.now ≤ 870 }
+    ensures { result.items ≡ first.now }
+{
+    let mut items = ArrayVec::new();
+    let _ = items.try_extend_from_slice(first);
     items
 }

@@ -14,7 +14,7 @@ pub(crate) struct SharedHeight<'f> {
 }
 
 /// The greatest score that the root is known to reach, which a worker reads and raises: the floor that workers share,
-/// or bounds of its own where there is no memory for a floor.
+/// or bounds of its own where it is the only worker or there is no memory for a floor.
 #[derive(Drop)]
 pub(crate) enum Height<'f> {
     Shared(SharedHeight<'f>),

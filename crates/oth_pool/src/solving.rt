@@ -12,9 +12,11 @@ use crate::book_lookup::{answer_in, bounds_in};
 use crate::drawn::search_item;
 use crate::gate::Gate;
 use crate::height::Height;
+use crate::root_move::RootMove;
 use crate::run::{Means, room_for, run};
 use crate::scene::{Plan, Scene};
 use crate::walk::Walk;
+use crate::window::is_settled;
 use oth_book::Book;
 use oth_pieces::{Collector, Floor, Frontier, Reply, is_crew};
 use oth_rules::{Board, Scoring, Square};
@@ -190,6 +192,9 @@ fn search_items<'t, R: Threads + Sync, G: Gate>(
 ) -> (Vec<Solved>, WorkerCells<'t>)
     requires { IsCrew means.now.workers }
 {
+    if means.workers == 1 {
+        return search_items_alone(means, scene, by_book, access);
+    }
     let alloc = means.alloc;
     let Ok((floor, mut seat)) = Floor::new(alloc, &by_book.board, by_book.scoring) else {
         return search_items_alone(means, scene, by_book, access);
@@ -207,11 +212,13 @@ fn search_items<'t, R: Threads + Sync, G: Gate>(
     for number in gathered.drawn.left.as_slice() {
         search_left_item(scene, *number, means.gate, &mut walk, &mut collector);
     }
-    let children = children_of(scene, &collector, &mut walk);
+    let replies = replies_of(alloc, scene.frontier.len(), &collector);
+    let children = children_of(scene, replies.as_slice(), &mut walk);
     (children, walk.into_cells())
 }
 
-// The same by the caller alone, where there is no memory for a floor.
+// The same by the caller alone, where it is the only worker or there is no memory for a floor. What it finds of the
+// boards after the moves tells all.
 fn search_items_alone<'t, R: Threads + Sync, G: Gate>(
     means: &Means<R, G>,
     scene: &Scene,
@@ -221,12 +228,25 @@ fn search_items_alone<'t, R: Threads + Sync, G: Gate>(
     let cells = WorkerCells::of(means.alloc, scene.plan, access);
     let plan = Plan::alone(by_book.scoring, by_book.board.empties());
     let mut walk = Walk::of(means.alloc, plan, cells, Height::Own(*by_book), None);
-    let mut collector = Collector::new(scene.frontier, by_book.scoring);
     for number in 0..scene.frontier.len() {
-        search_left_item(scene, number, means.gate, &mut walk, &mut collector);
+        settle_item(scene, number, means.gate, &mut walk);
     }
-    let children = children_of(scene, &collector, &mut walk);
+    let children = children_of(scene, &[], &mut walk);
     (children, walk.into_cells())
+}
+
+// Settles the item's move of the root, of which the gate hears.
+fn settle_item<G: Gate, C: Cells>(scene: &Scene, number: u32, gate: &G, walk: &mut Walk<C>) {
+    let Some(item) = scene.frontier.entry(number) else {
+        return;
+    };
+    gate.before(number);
+    if !walk.is_settled(item.square) {
+        if let Some(root_move) = RootMove::of(scene.root, item.square) {
+            root_move.settle(walk);
+        }
+    }
+    gate.after(number);
 }
 
 // Searches an item that no worker took, and keeps what is found of it.
@@ -243,16 +263,18 @@ fn search_left_item<G: Gate, C: Cells>(
     }
 }
 
-// What is known of the boards after the root's moves, by what workers found of them and by the replies. The floor is
-// raised by each.
-fn children_of<C: Cells>(scene: &Scene, collector: &Collector, walk: &mut Walk<C>) -> Vec<Solved> {
-    let replies = replies_of(walk.alloc, scene.frontier.len(), collector);
+// What is known of the boards after the root's moves, by what workers found of them, and by the replies where that
+// leaves something open. The floor is raised by each.
+fn children_of<C: Cells>(scene: &Scene, replies: &[Solved], walk: &mut Walk<C>) -> Vec<Solved> {
     let mut children = room_for(walk.alloc, 64);
     for square in scene.squares {
         if let Some(child) = scene.root.play(*square) {
             let by_workers = joined_bounds(child, walk.found.as_slice(), scene.plan.scoring);
-            let by_replies = known_below(child, 1, replies.as_slice(), scene.plan.scoring);
-            let bounds = by_workers.joined(&by_replies);
+            let bounds = if is_settled(&by_workers, walk.floor()) {
+                by_workers
+            } else {
+                by_workers.joined(&known_below(child, 1, replies, scene.plan.scoring))
+            };
             walk.raise_by(&scene.root, *square, &bounds);
             let _ = children.push(bounds);
         }

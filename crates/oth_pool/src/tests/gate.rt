@@ -67,10 +67,29 @@ fn by_two<R: Threads + Sync, G: Gate>(
     Some((answer.score, answer.best))
 }
 
+fn alone<R: Threads + Sync, G: Gate>(
+    rt: &R,
+    alloc: Global,
+    words: [u64; 2],
+    gate: &G,
+) -> Option<(i8, u64)> {
+    let board = Board::of(words[0], words[1]).ok()?;
+    let answer = solve(rt, alloc, &board, 1, 64, gate, None, Scoring::Winner).ok()?;
+    Some((answer.score, answer.best))
+}
+
 #[test]
 fn the_gate_hears_each_item_once(rt: HostRuntime) {
     let gate = Hearing::new();
     let found = by_two(&rt, rt.alloc(), CORNERS, 0, &gate);
+    assert!(rt; found == Some((64, 0x8100_0000_0000_0081)));
+    assert!(rt; gate.heard_once(12));
+}
+
+#[test]
+fn the_gate_hears_each_item_once_from_one_worker(rt: HostRuntime) {
+    let gate = Hearing::new();
+    let found = alone(&rt, rt.alloc(), CORNERS, &gate);
     assert!(rt; found == Some((64, 0x8100_0000_0000_0081)));
     assert!(rt; gate.heard_once(12));
 }

@@ -7,7 +7,5 @@ use Rattle.oth_pieces.proofs.frontier.second_ply.Goals as goal
 
 pub push_below-requires : goal.push_below-requires
 push_below-requires c =
-    let xs : List Item = c.as_slice-item-items.result.now in
-    let same : length (flat_map below xs) ≡ length (flat_map below c.args.first.now.items) = ap (λ l. length (flat_map below l)) c.as_slice-item-items.ensures.value in
-    let room = room_below xs c.loop-item.item-index c.item-item.result c.loop-item-test.true c.item-item.is in
+    let room = room_below c.args.first.now c.loop-item.item-index c.item-item.result c.loop-item-test.true c.item-item.is in
     omega (arith, ap length c.loop-item.invariant)

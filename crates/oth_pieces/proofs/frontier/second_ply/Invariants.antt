@@ -4,4 +4,4 @@ use Rattle.oth_pieces.specs.Below.{below}
 use Rattle.oth_pieces.proofs.frontier.second_ply.Given as goal
 
 abbrev pub invariant-loop-item : goal.invariant-loop-item
-invariant-loop-item l = l.items.items ≡ flat_map below (take l.item-index l.item-items)
+invariant-loop-item l = l.items.items ≡ flat_map below (take l.item-index l.first)
