@@ -65,7 +65,7 @@ int pthread_create(pthread_t *thread, const pthread_attr_t *attributes, void *(*
 """
 
 
-CRATES = ("oth_book", "oth_pieces", "oth_pool", "oth_batch", "oth_main")
+CRATES = ("oth_book", "oth_pieces", "oth_pool", "oth_batch", "oth_main_tests")
 
 
 class Walk:

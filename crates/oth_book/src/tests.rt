@@ -92,105 +92,73 @@ fn text(alloc: Global, header: &[u8], bounds: &[u8], end: &[u8]) -> Result<Vec<u
 
 const ONE: &[u8] = b"\nEND 000001\n";
 
-fn first(rt: &HostRuntime, bounds: &[u8], end: &[u8]) -> Result<Outcome, AllocError> {
-    let bytes = text(rt.alloc(), b"OBOOK1\n", bounds, end)?;
-    Ok(judged(rt.alloc(), bytes.as_slice()))
-}
+// Texts, and what becomes of each.
+const TEXTS: [(&[u8], Outcome); 13] = [
+    (EMPTY_1, Outcome::Good(0)),
+    (b"OBOOK1\nEND 000000", Outcome::Fault(BookFault::CutShort)),
+    (
+        b"OBOOK1\nEND 000000\n\n",
+        Outcome::Fault(BookFault::Trailing),
+    ),
+    (b"", Outcome::Fault(BookFault::CutShort)),
+    (BOOK_1, Outcome::Good(1)),
+    (TWICE, Outcome::Fault(BookFault::Order(2))),
+    (WRONG_ORDER_1, Outcome::Fault(BookFault::Order(2))),
+    (EMPTY_2, Outcome::Good(0)),
+    (b"OBOOK3\n", Outcome::Fault(BookFault::Header)),
+    (b"OBOOK2", Outcome::Fault(BookFault::CutShort)),
+    (BOOK_2, Outcome::Good(1)),
+    (BOTH, Outcome::Good(2)),
+    (WRONG_ORDER, Outcome::Fault(BookFault::Order(2))),
+];
 
-fn second(rt: &HostRuntime, header: &[u8], bounds: &[u8]) -> Result<Outcome, AllocError> {
-    let bytes = text(rt.alloc(), header, bounds, ONE)?;
-    Ok(judged(rt.alloc(), bytes.as_slice()))
+// A header, and what stands after the cells of A and at the end, of texts with one entry, and what becomes of each.
+const ENTRIES: [(&[u8], &[u8], &[u8], Outcome); 11] = [
+    (V1, b" -48 0000000000000080", ONE, WRONG_BOUNDS),
+    (V1, b" -50 0000000000000002", ONE, WRONG_BEST),
+    (V1, b" -00 0000000000000080", ONE, BAD_LINE),
+    (
+        V1,
+        b" -50 0000000000000080",
+        b"\nEND 000002\n",
+        Outcome::Fault(BookFault::Count),
+    ),
+    (DISCS, b" -50 -50 0000000000000080", ONE, WRONG_BOUNDS),
+    (DISCS, b" -49 -49 0000000000000080", ONE, Outcome::Good(1)),
+    (WINNER, b" -64 -40 0000000000000000", ONE, Outcome::Good(1)),
+    (WINNER, b" -48 +64 0000000000000000", ONE, WRONG_BOUNDS),
+    (WINNER, b" -40 -64 0000000000000000", ONE, BAD_LINE),
+    (WINNER, b" -64 -40 0000000000000080", ONE, BAD_LINE),
+    (WINNER, b" -50 -50 0000000000000000", ONE, WRONG_BEST),
+];
+
+const V1: &[u8] = b"OBOOK1\n";
+
+const WINNER: &[u8] = b"OBOOK2 W\n";
+
+const DISCS: &[u8] = b"OBOOK2 D\n";
+
+const WRONG_BOUNDS: Outcome = Outcome::Wrong(Wrong::Entry(1, Cause::Bounds));
+
+const WRONG_BEST: Outcome = Outcome::Wrong(Wrong::Entry(1, Cause::Best));
+
+const BAD_LINE: Outcome = Outcome::Fault(BookFault::Line(1));
+
+#[test]
+fn texts_of_both_versions_are_judged(rt: HostRuntime) {
+    for (bytes, outcome) in TEXTS {
+        assert_eq!(rt; judged(rt.alloc(), bytes), outcome);
+    }
+    assert!(rt; EMPTY_1.len() == 18 && BOOK_1.len() == 104);
+    assert!(rt; EMPTY_2.len() == 20 && BOOK_2.len() == 110);
 }
 
 #[test]
-fn texts_of_version_1_are_judged(rt: HostRuntime) -> Result<(), Fail> {
-    let alloc = rt.alloc();
-    assert_eq!(rt; EMPTY_1.len(), 18);
-    assert_eq!(rt; judged(alloc, EMPTY_1), Outcome::Good(0));
-    assert_eq!(rt;
-        judged(alloc, b"OBOOK1\nEND 000000"),
-        Outcome::Fault(BookFault::CutShort)
-    );
-    assert_eq!(rt;
-        judged(alloc, b"OBOOK1\nEND 000000\n\n"),
-        Outcome::Fault(BookFault::Trailing)
-    );
-    assert_eq!(rt; judged(alloc, b""), Outcome::Fault(BookFault::CutShort));
-    assert_eq!(rt; BOOK_1.len(), 104);
-    assert_eq!(rt; judged(alloc, BOOK_1), Outcome::Good(1));
-    assert_eq!(rt;
-        first(&rt, b" -48 0000000000000080", ONE)?,
-        Outcome::Wrong(Wrong::Entry(1, Cause::Bounds))
-    );
-    assert_eq!(rt;
-        first(&rt, b" -50 0000000000000002", ONE)?,
-        Outcome::Wrong(Wrong::Entry(1, Cause::Best))
-    );
-    assert_eq!(rt;
-        first(&rt, b" -00 0000000000000080", ONE)?,
-        Outcome::Fault(BookFault::Line(1))
-    );
-    assert_eq!(rt;
-        first(&rt, b" -50 0000000000000080", b"\nEND 000002\n")?,
-        Outcome::Fault(BookFault::Count)
-    );
-    assert_eq!(rt; judged(alloc, TWICE), Outcome::Fault(BookFault::Order(2)));
-    assert_eq!(rt;
-        judged(alloc, WRONG_ORDER_1),
-        Outcome::Fault(BookFault::Order(2))
-    );
-    Ok(())
-}
-
-#[test]
-fn texts_of_version_2_are_judged(rt: HostRuntime) -> Result<(), Fail> {
-    let alloc = rt.alloc();
-    let winner = b"OBOOK2 W\n";
-    assert_eq!(rt; EMPTY_2.len(), 20);
-    assert_eq!(rt; judged(alloc, EMPTY_2), Outcome::Good(0));
-    assert_eq!(rt;
-        judged(alloc, b"OBOOK3\n"),
-        Outcome::Fault(BookFault::Header)
-    );
-    assert_eq!(rt;
-        judged(alloc, b"OBOOK2"),
-        Outcome::Fault(BookFault::CutShort)
-    );
-    assert_eq!(rt; BOOK_2.len(), 110);
-    assert_eq!(rt; judged(alloc, BOOK_2), Outcome::Good(1));
-    assert_eq!(rt; judged(alloc, BOTH), Outcome::Good(2));
-    assert_eq!(rt;
-        judged(alloc, WRONG_ORDER),
-        Outcome::Fault(BookFault::Order(2))
-    );
-    assert_eq!(rt;
-        second(&rt, b"OBOOK2 D\n", b" -50 -50 0000000000000080")?,
-        Outcome::Wrong(Wrong::Entry(1, Cause::Bounds))
-    );
-    assert_eq!(rt;
-        second(&rt, b"OBOOK2 D\n", b" -49 -49 0000000000000080")?,
-        Outcome::Good(1)
-    );
-    assert_eq!(rt;
-        second(&rt, winner, b" -64 -40 0000000000000000")?,
-        Outcome::Good(1)
-    );
-    assert_eq!(rt;
-        second(&rt, winner, b" -48 +64 0000000000000000")?,
-        Outcome::Wrong(Wrong::Entry(1, Cause::Bounds))
-    );
-    assert_eq!(rt;
-        second(&rt, winner, b" -40 -64 0000000000000000")?,
-        Outcome::Fault(BookFault::Line(1))
-    );
-    assert_eq!(rt;
-        second(&rt, winner, b" -64 -40 0000000000000080")?,
-        Outcome::Fault(BookFault::Line(1))
-    );
-    assert_eq!(rt;
-        second(&rt, winner, b" -50 -50 0000000000000000")?,
-        Outcome::Wrong(Wrong::Entry(1, Cause::Best))
-    );
+fn entries_of_both_versions_are_judged(rt: HostRuntime) -> Result<(), Fail> {
+    for (header, bounds, end, outcome) in ENTRIES {
+        let bytes = text(rt.alloc(), header, bounds, end)?;
+        assert_eq!(rt; judged(rt.alloc(), bytes.as_slice()), outcome);
+    }
     Ok(())
 }
 
@@ -315,35 +283,34 @@ fn answers_are_added_and_found(rt: HostRuntime) -> Result<(), Fail> {
     Ok(())
 }
 
+// Bounds of A that are added to a book one after the other, what each addition says, and the bounds that the book has
+// of A then.
+const CLOSER: [(i8, i8, Result<Added, AddError>, Option<(i8, i8)>); 6] = [
+    (-50, -50, Err(AddError::OneNumber), None),
+    (-64, -40, Ok(Added::New), Some((-64, -40))),
+    (-60, 64, Ok(Added::Sharper), Some((-60, -40))),
+    (-60, 64, Ok(Added::Present), Some((-60, -40))),
+    (-50, 64, Ok(Added::Sharper), Some((-50, -40))),
+    (-64, -50, Err(AddError::OneNumber), Some((-50, -40))),
+];
+
 #[test]
-fn bounds_are_kept_and_made_closer(rt: HostRuntime) -> Result<(), Fail> {
+fn bounds_are_kept_and_made_closer(rt: HostRuntime) {
     let mut book = Book::new(rt.alloc(), Scoring::Winner);
     assert!(rt; is_written(&book, EMPTY_2));
-    assert_eq!(rt;
-        add_bounds(&mut book, -50, -50),
-        Some(Err(AddError::OneNumber))
-    );
-    assert_eq!(rt; add_bounds(&mut book, -64, -40), Some(Ok(Added::New)));
-    assert_eq!(rt; found(&book, A), None);
-    assert_eq!(rt; bounds(&book, FIRST_IMAGE), Some((-64, -40)));
+    for (lower, upper, said, known) in CLOSER {
+        assert_eq!(rt; add_bounds(&mut book, lower, upper), Some(said));
+        assert_eq!(rt; bounds(&book, A), known);
+        assert_eq!(rt; bounds(&book, FIRST_IMAGE), known);
+        assert_eq!(rt; found(&book, A), None);
+    }
     assert_eq!(rt; bounds(&book, C), None);
-    assert_eq!(rt; add_bounds(&mut book, -60, 64), Some(Ok(Added::Sharper)));
-    assert_eq!(rt; bounds(&book, A), Some((-60, -40)));
-    assert_eq!(rt; add_bounds(&mut book, -60, 64), Some(Ok(Added::Present)));
-    assert_eq!(rt; add_bounds(&mut book, -50, 64), Some(Ok(Added::Sharper)));
-    assert_eq!(rt; bounds(&book, A), Some((-50, -40)));
-    assert_eq!(rt;
-        add_bounds(&mut book, -64, -50),
-        Some(Err(AddError::OneNumber))
-    );
-    assert_eq!(rt; bounds(&book, A), Some((-50, -40)));
     assert_eq!(rt;
         add(&mut book, A, Scoring::Winner),
         Some(Ok(Added::Sharper))
     );
     assert_eq!(rt; found(&book, A), Some((-50, 0x80)));
     assert!(rt; is_written(&book, BOOK_2));
-    Ok(())
 }
 
 #[test]

@@ -12,8 +12,6 @@ mod lines;
 mod message;
 mod running;
 mod solver;
-#[cfg(test)]
-mod tests;
 mod waiting;
 
 pub use book_commands::{book_add, book_verify, print_run_fault};

@@ -242,7 +242,8 @@ impl<'w, C: Cells> Walk<'w, C> {
 
     /// What the cells tell of the board.
     pub fn look_up(&mut self, board: &Board) -> Solved
-        ensures { result.board ≡ board.now }
+        ensures board { result.board ≡ board.now }
+        ensures scoring { result.scoring ≡ self.old.plan.scoring }
     {
         Solved::looked_up(board, &mut self.cells, self.plan.scoring)
     }

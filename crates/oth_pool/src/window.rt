@@ -1,6 +1,6 @@
 //! The window of a search.
-ghost use Rattle.std.specs.Prelude.{◌≡◌, pos, negsuc, ◌≤ℤ◌};
-ghost use Rattle.oth_search.specs.Bound.{IsThreshold};
+ghost use Rattle.std.specs.Prelude.{◌≡◌, pos, negsuc, ◌≤ℤ◌, ◌+ℤ◌};
+ghost use Rattle.oth_search.specs.Bound.{IsThreshold, Decides};
 
 use oth_rules::{Board, Scoring};
 use oth_search::{Cells, Interval, Solved};
@@ -40,7 +40,9 @@ impl Window {
 
     /// Bounds of the board's value that decide it, by a search of this worker alone.
     pub fn search<C: Cells>(self, board: &Board, cells: &mut C, scoring: Scoring) -> Solved
-        ensures { result.board ≡ board.now }
+        ensures board { result.board ≡ board.now }
+        ensures scoring { result.scoring ≡ scoring }
+        ensures decides { Decides result.interval.lower result.interval.upper self.alpha (self.alpha +ℤ pos 1) }
     {
         Solved::by_probe(board, self.alpha, cells, scoring)
     }

@@ -42,12 +42,3 @@ pub use solved::{NotChild, Solved};
 pub use solving::{
     MOST_EMPTIES, TooManyEmpties, before_pass, ended, solve_alone, solve_moves, solve_with,
 };
-
-#[cfg(test)]
-mod combining_tests;
-#[cfg(test)]
-mod keeping_tests;
-#[cfg(test)]
-mod root_tests;
-#[cfg(test)]
-mod tests;

@@ -7,12 +7,10 @@ mod devices;
 mod refused;
 mod rows;
 
-use crate::fault::RunFault;
-use crate::running::run;
+use oth_main::{Command, RunFault, Settings, run};
 use oth_pool::Open;
 use oth_rules::Scoring;
 use oth_text::fakes::{BrokenSource, ByteSink};
-use oth_words::{Command, Settings};
 use std::sync::Wait;
 use std::thread::Threads;
 

@@ -1,14 +1,11 @@
 //! The commands of the book, and runs with a book.
 
 use super::{NO_FAILURE, by_two_workers, settings};
-use crate::book_commands::{book_add, book_verify};
-use crate::book_file::open_book;
-use crate::running::run;
 use oth_book::Book;
+use oth_main::{Command, Settings, book_add, book_verify, open_book, run};
 use oth_pool::Gate;
 use oth_rules::Scoring;
 use oth_text::fakes::{BrokenSource, ByteSink};
-use oth_words::{Command, Settings};
 use std::alloc::{AllocError, Global};
 use std::process::Abort;
 use std::sync::Wait;

@@ -1,8 +1,8 @@
 //! What no clause says of a root: what is asked, and what is not.
 ghost use Rattle.std.specs.Prelude.{◌≡◌};
 
-use crate::{Cells, Entry, NoCells, Solved, settle_moves, solve_alone};
 use oth_rules::{Board, Scoring};
+use oth_search::{Cells, Entry, NoCells, Solved, settle_moves, solve_alone};
 use std::test::Fail;
 
 /// Keeps nothing, and counts the calls.

@@ -4,7 +4,7 @@
 use super::books::{BOOK_OF_A, BOOK_OF_TWO, EMPTY_BOOK, TWO_LINES as NEW_LINES, add};
 use super::devices::{SOLVED_TWO, TWO_LINES};
 use super::{NO_FAILURE, by_two_workers, walk};
-use crate::book_commands::book_verify;
+use oth_main::book_verify;
 use oth_rules::Scoring;
 use oth_text::fakes::ByteSink;
 

@@ -1,9 +1,9 @@
 //! What no clause says of looking up and putting, and how many boards a search comes to.
 ghost use Rattle.std.specs.Prelude.{◌≡◌, IfSome};
 
-use crate::{Cells, Entry, Memo, NoCells, Solved, search, solve_with};
 use oth_rules::samples::after_least_moves;
 use oth_rules::{Board, Scoring};
+use oth_search::{Cells, Entry, Memo, NoCells, Solved, search, solve_with};
 use std::test::Fail;
 
 /// The board with row 1 `--OXOOO-` and all else `O`, seen by `X`. It is its own canonical form.

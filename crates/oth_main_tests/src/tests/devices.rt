@@ -2,13 +2,11 @@
 //! again.
 
 use super::{NO_FAILURE, by_two_workers, settings, walk};
-use crate::fault::RunFault;
-use crate::running::run;
+use oth_main::{Command, RunFault, Settings, run};
 use oth_pool::Open;
 use oth_rules::Scoring;
 use oth_text::fakes::{BrokenSource, ByteSink};
 use oth_text::{FromRead, ToWrite};
-use oth_words::{Command, Settings};
 use std::alloc::{AllocError, Global};
 use std::io::{Error, ErrorKind, Write};
 use std::process::Abort;

@@ -2,15 +2,13 @@
 //! however the bytes come and wherever a device fails.
 
 use super::{NO_FAILURE, settings};
-use crate::fault::RunFault;
-use crate::running::run;
+use oth_main::{Command, RunFault, Settings, run};
 use oth_pool::Open;
 use oth_rules::samples::after_least_moves;
 use oth_rules::{Board, Scoring, Sym};
 use oth_search::solve_alone;
 use oth_text::fakes::{BrokenSource, ByteSink};
 use oth_text::{Position, Side, report_line, write_board};
-use oth_words::{Command, Settings};
 use std::alloc::Global;
 use std::sync::Wait;
 use std::test::Fail;

@@ -1,7 +1,7 @@
 //! What is told of a board by all boards so many plies below it, where a side passes on the way.
 
-use crate::{NoCells, Solved, known_below};
 use oth_rules::{Board, Scoring, Square};
+use oth_search::{NoCells, Solved, known_below};
 use std::alloc::Global;
 use std::test::Fail;
 

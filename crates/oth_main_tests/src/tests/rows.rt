@@ -1,9 +1,8 @@
 //! Lines, each run by itself, and what is written of them.
 
 use super::{NO_FAILURE, by_two_workers, settings, walk};
-use crate::fault::RunFault;
+use oth_main::{Command, RunFault, Settings};
 use oth_rules::Scoring;
-use oth_words::{Command, Settings};
 use std::process::Abort;
 use std::sync::Wait;
 use std::thread::Threads;

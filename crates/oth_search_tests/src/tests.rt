@@ -1,12 +1,12 @@
 //! The worked boards, and what no clause says of bounds, words and memories.
 ghost use Rattle.std.specs.Prelude.{◌≡◌, IfSome};
 
-use crate::{
+use oth_rules::samples::after_least_moves;
+use oth_rules::{Board, Scoring};
+use oth_search::{
     Cells, Entry, Kind, Memo, NoCells, Solved, TooManyEmpties, known_below, search, solve_alone,
     solve_with,
 };
-use oth_rules::samples::after_least_moves;
-use oth_rules::{Board, Scoring};
 use std::test::Fail;
 
 /// The board with row 1 `--OXOOO-` and all else `O`, seen by `X`.
