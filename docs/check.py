@@ -22,7 +22,8 @@ It tests, in each document and, where it says so, in the code:
   crate, and each other name with an underscore an edit, a function or a part of a crate;
 - that the headline is word for word the same wherever it stands, and that the README has at most 120 lines;
 - of each file of code: that its first line is a head (`//!`), and that no line is longer than 120 characters;
-- that the tables and the plot of the measured figures are those of bench/figures.txt (`bench/plot.py --check`);
+- that the tables and the plot of the measured figures are those of bench/figures.txt (`bench/plot.py --check`), and that a plain Rust
+  copy of the search can be made (`bench/plain.py --check`);
 - that the version is the same in the code, docs/FORMATS.md, the man page and hostile/statuses.py;
 - that groff, where there is one, shows the man page without a warning.
 """
@@ -449,6 +450,8 @@ def test_version():
 def test_made():
     found = subprocess.run([sys.executable, ROOT / "bench/plot.py", "--check"], stdout=subprocess.PIPE, text=True)
     test(found.returncode == 0, found.stdout.strip())
+    found = subprocess.run([sys.executable, ROOT / "bench/plain.py", "--check"], stderr=subprocess.PIPE, text=True)
+    test(found.returncode == 0, found.stderr.strip())
     if shutil.which("groff"):
         page = ROOT / "docs/othsolve.1"
         found = subprocess.run(["groff", "-man", "-Tutf8", "-ww", "-z", page], stderr=subprocess.PIPE, text=True)

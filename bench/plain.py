@@ -1,0 +1,137 @@
+#!/usr/bin/env python3
+"""Makes a plain Rust copy of the search, in which an idea takes seconds to try, and builds it.
+
+    bench/plain.py OUT [TREE]     puts the copy of TREE (default: this repository) into OUT/src and builds OUT/plain
+    bench/plain.py --build OUT    builds OUT/plain of what stands in OUT/src
+    bench/plain.py --check        tests that a copy can be made, and builds nothing
+
+The copy has the code of the crates below without what is there for the prover: contracts, ghost items, models. What they
+take from the toolchain's libraries stands in bench/plain. It is for measuring alone: nothing of it is proved, and what
+pays there is then brought into the crates. It needs `rustc`; the levels of the processor and of the optimizer are those
+of the program.
+
+    OUT/plain WORKERS CELLS FILE [RUNS]    as `OUT/plain 1,2,4 65536 bench/game-16.txt 5`; see bench/plain/counting.rs
+"""
+import os
+import pathlib
+import re
+import subprocess
+import sys
+
+ROOT = pathlib.Path(__file__).resolve().parent.parent
+CRATES = ["oth_history", "oth_rules", "oth_search", "oth_table", "oth_pieces", "oth_pool"]
+LIBRARIES = ["shim", "arrayvec", "atomic_table", "crossbeam_deque", "oth_book", "counting"]
+FROM_SHIM = r"std::(?:alloc|thread)::"
+
+# Where the copy counts: a file, a line (or a part of one) that stands in it once, and what takes its place.
+COUNTS = [
+    ("oth_pool/access.rs", "        self.memory.recall(board, scoring)\n",
+     "        crate::counting::count(board);\n        self.memory.recall(board, scoring)\n"),
+    ("oth_pool/glance.rs", "    let squares = walk.order(root);\n    let mut best = match",
+     "    let _guess = crate::counting::For::part(crate::counting::Part::Guess);\n"
+     "    let squares = walk.order(root);\n    let mut best = match"),
+]
+
+
+def end_of_braces(text, start):
+    """The place behind the brace that closes the one at `start`."""
+    depth = 0
+    for place in range(start, len(text)):
+        if text[place] == "{":
+            depth += 1
+        elif text[place] == "}":
+            depth -= 1
+            if depth == 0:
+                return place + 1
+    raise SystemExit(f"bench/plain.py: a brace is not closed: {text[start:start + 60]!r}")
+
+
+def without_blocks(text, head, behind=""):
+    """The text without what matches `head`, which ends with a brace, up to the brace that closes it and what is behind."""
+    pattern = re.compile(head, re.M)
+    while match := pattern.search(text):
+        end = end_of_braces(text, match.end() - 1)
+        if behind and text[end:end + 1] in behind:
+            end += 1
+        text = text[:match.start()] + text[end:]
+    return text
+
+
+def plain(text, crate):
+    """The code of a file without what is there for the prover."""
+    text = re.sub(r"^ *//.*\n", "", text, flags=re.M)
+    text = re.sub(r"^ *ghost use [^;]*;\n", "", text, flags=re.M)
+    text = without_blocks(text, r"^impl(?:<[^{]*?>)? Model for [^{]*\{")
+    text = without_blocks(text, r"\n *(?:requires|ensures)(?: \w+)? \{")
+    text = without_blocks(text, r"^ *(?:pub(?:\(crate\))? )?ghost \w+(?::| =) \{", behind=",;")
+    text = re.sub(r"^ *#!?\[(?:tactic|cycle|error)\(.*\)\]\n|^#\[cfg\(test\)\]\nmod tests;\n", "", text,
+                  flags=re.M)
+    text = re.sub(r"\bDrop, |, Drop\b|\bDrop\b(?=\)\])", "", text)
+    text = re.sub(r"^#\[derive\(\)\]\n", "", text, flags=re.M)
+    text = re.sub(r"(?<=[<,])( ?\w+): Drop\b|(: [^,>]*) \+ Drop\b", r"\1\2", text)
+    text = re.sub(r"(#\[derive\([^)]*), Error\b", r"\1", text)
+    text = re.sub(r"^use (?:std::marker::Model|thiserror::Error);\n", "", text, flags=re.M)
+    text = re.sub(r"\bcrate::", f"crate::{crate}::", text)
+    text = re.sub(rf"^use {FROM_SHIM}", "use crate::shim::", text, flags=re.M)
+    names = "|".join(CRATES + LIBRARIES)
+    text = re.sub(rf"(?<!::)\b({names})::", r"crate::\1::", text)
+    needed = [name for name in ("Box", "Vec", "vec") if re.search(rf"\b{name}(?:<|::|!)", text)]
+    if needed:
+        text = f"use crate::shim::{{{', '.join(needed)}}};\n" + text
+    return text
+
+
+def copy_of(tree):
+    """The files of the copy: a text for each path."""
+    files = {}
+    for crate in CRATES:
+        source = tree / "crates" / crate / "src"
+        for path in sorted(source.rglob("*.rt")):
+            name = path.relative_to(source)
+            if name.parts[0] in ("tests", "tests.rt"):
+                continue
+            place = f"{crate}/mod.rs" if str(name) == "lib.rt" else f"{crate}/{name.with_suffix('.rs')}"
+            files[place] = plain(path.read_text(encoding="utf-8"), crate)
+    for path, old, new in COUNTS:
+        if files[path].count(old) != 1:
+            raise SystemExit(f"bench/plain.py: where the copy counts has changed: {path}: {old.strip()!r}")
+        files[path] = files[path].replace(old, new)
+    for library in LIBRARIES:
+        files[f"{library}.rs"] = (ROOT / "bench" / "plain" / f"{library}.rs").read_text(encoding="utf-8")
+    modules = "".join(f"mod {name};\n" for name in LIBRARIES + CRATES)
+    files["main.rs"] = ("#![feature(portable_simd)]\n#![allow(dead_code, unused)]\n"
+                        + modules + "\nfn main() {\n    counting::main();\n}\n")
+    return files
+
+
+def build(out):
+    """Builds what stands in OUT/src, and ends."""
+    # The copy needs `std::simd`, which a stable compiler takes only so.
+    environment = dict(os.environ, RUSTC_BOOTSTRAP="1")
+    flags = ["--edition", "2024", "-C", "opt-level=3", "-C", "codegen-units=1", "-C", "panic=abort",
+             "-C", "target-cpu=x86-64-v2"]
+    built = subprocess.run(["rustc", *flags, "-o", str(out / "plain"), str(out / "src" / "main.rs")], env=environment)
+    if built.returncode == 0:
+        print(f"{out / 'plain'} WORKERS CELLS FILE [RUNS]")
+    raise SystemExit(built.returncode)
+
+
+def main():
+    if sys.argv[1:] == ["--check"]:
+        copy_of(ROOT)
+        return
+    if len(sys.argv) == 3 and sys.argv[1] == "--build":
+        build(pathlib.Path(sys.argv[2]))
+    if len(sys.argv) not in (2, 3) or sys.argv[1].startswith("-"):
+        raise SystemExit(__doc__)
+    out = pathlib.Path(sys.argv[1])
+    tree = pathlib.Path(sys.argv[2]) if len(sys.argv) == 3 else ROOT
+    for name, text in copy_of(tree).items():
+        path = out / "src" / name
+        path.parent.mkdir(parents=True, exist_ok=True)
+        path.write_text(text, encoding="utf-8")
+    build(out)
+
+
+if __name__ == "__main__":
+    main()
