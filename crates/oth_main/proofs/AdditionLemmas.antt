@@ -20,10 +20,10 @@ use Rattle.oth_book.proofs.KeepLemmas.{exact_stays, keeps_same, keeps_trans}
 use Rattle.oth_main.specs.Addition.{AnswersLine, FindsNoRoom, HasAdded, HasNoPlace, IsAdding, IsAnswered, IsRefusedLine, StopsBy, StopsReading}
 use Rattle.oth_main.specs.declared.book_commands.Stop.{Stop}
 use Rattle.oth_main.specs.declared.book_commands.Stop.TheVariants.{Run, Refused}
-use Rattle.oth_main.specs.declared.fault.RunFault.TheVariants.{Read, Write, Workers, Cells}
-use Rattle.oth_main.specs.Report.{Cut, cut, last_line, lines_of}
+use Rattle.oth_run.specs.declared.fault.RunFault.TheVariants.{Read, Write, Workers, Cells}
+use Rattle.oth_run.specs.Report.{Cut, cut, last_line, lines_of}
 use Rattle.std.proofs.Common.{lit<}
-use Rattle.oth_main.proofs.CutLemmas.{HasNoEnd, cut_part, cut_push, push}
+use Rattle.oth_run.proofs.CutLemmas.{HasNoEnd, cut_part, cut_push, push}
 
 -- ---- what a line is read as
 

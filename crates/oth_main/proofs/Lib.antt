@@ -1,5 +1,2 @@
-pub mod CutLemmas
-pub mod GatherLemmas
-pub mod ReplyLemmas
 pub mod AdditionLemmas
 pub mod FileLemmas

@@ -17,9 +17,9 @@ use Rattle.oth_book.specs.Contents.{Contents, IsText, written}
 use Rattle.oth_book.specs.declared.add.AddError.{AddError}
 use Rattle.oth_main.specs.declared.book_commands.Stop.{Stop}
 use Rattle.oth_main.specs.declared.book_commands.Stop.TheVariants.{Run, Refused}
-use Rattle.oth_main.specs.declared.fault.RunFault.TheVariants.{Read, Write, Workers, Cells}
+use Rattle.oth_run.specs.declared.fault.RunFault.TheVariants.{Read, Write, Workers, Cells}
 use Rattle.oth_main.specs.BookFile.{IsBookOf}
-use Rattle.oth_main.specs.Report.{cut, lines_of}
+use Rattle.oth_run.specs.Report.{cut, lines_of}
 
 -- a true book by the same scoring, with every board of the one before, whose bounds are at least as close
 pub record Extends (before after : Contents) : Type 0 where

@@ -1,8 +1,2 @@
 pub mod Addition
 pub mod BookFile
-pub mod Gathered
-pub mod Halfway
-pub mod Line
-pub mod Reply
-pub mod Report
-pub mod Run

@@ -14,20 +14,16 @@ ghost use Rattle.oth_main.specs.Addition.{AddsBytes, AddsLines, AddsTo, AnswersL
 ghost use Rattle.oth_main.specs.Addition.{HasAdded, HasNoPlace, IsAdding, IsAnswered, IsFullFor, IsFullWithin};
 ghost use Rattle.oth_main.specs.Addition.{IsRefusedLine, IsStatus, OfInput, StopsBy, StopsFull, StopsReading};
 ghost use Rattle.oth_main.specs.BookFile.{IsRefused, IsVerdict};
-ghost use Rattle.oth_main.specs.Report.{lines_of};
-ghost use Rattle.oth_main.specs.Run.{AreLawful, status_of};
 ghost use Rattle.oth_main.specs.declared.book_commands.Stop.TheVariants.{Run};
-ghost use Rattle.oth_main.specs.declared.fault.RunFault.TheVariants.{Write};
+ghost use Rattle.oth_run.specs.Report.{lines_of};
+ghost use Rattle.oth_run.specs.Run.{AreLawful, status_of};
+ghost use Rattle.oth_run.specs.declared.fault.RunFault.TheVariants.{Write};
 
-use crate::ahead::Ahead;
 use crate::book_file::{REFUSED, open_book, print_refusal};
-use crate::checking::Lawful;
-use crate::fault::RunFault;
-use crate::lines::split_line;
 use crate::message::Message;
-use crate::solver::Solver;
 use oth_book::{AddError, Book, write};
 use oth_pool::Open;
+use oth_run::{Ahead, Lawful, RunFault, Solver, split_line};
 use oth_search::Answer;
 use oth_text::{BoardReader, LineFault, Sink, Source, fault_line};
 use oth_words::{DEFAULT_CELLS, Settings};

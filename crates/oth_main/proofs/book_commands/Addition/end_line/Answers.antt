@@ -1,5 +1,5 @@
 use Rattle.oth_main.proofs.AdditionLemmas.{adding_ended, full_line}
-use Rattle.oth_main.proofs.GatherLemmas.{on_err_always}
+use Rattle.oth_run.proofs.GatherLemmas.{on_err_always}
 use Rattle.oth_main.proofs.book_commands.Addition.end_line.Goals as goal
 
 pub returns-in_err-add_line-clause-full : goal.returns-in_err-add_line-clause-full

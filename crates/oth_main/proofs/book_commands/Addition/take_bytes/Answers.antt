@@ -1,6 +1,6 @@
 use Rattle.std.proofs.Common.{[], ◌++◌, ◌∙◌, ap, refl, sym, append_assoc, append-nil}
 use Rattle.oth_main.proofs.AdditionLemmas.{adding_part, full_within}
-use Rattle.oth_main.proofs.GatherLemmas.{on_err_always}
+use Rattle.oth_run.proofs.GatherLemmas.{on_err_always}
 use Rattle.oth_main.proofs.book_commands.Addition.take_bytes.Goals as goal
 
 pub returns-in_err-take_line-clause-full : goal.returns-in_err-take_line-clause-full

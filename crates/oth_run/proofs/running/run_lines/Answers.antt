@@ -1,0 +1,25 @@
+use Rattle.std.proofs.Common.{refl}
+use Rattle.std.proofs.lemmas.Result.{err_from_is_err_and}
+use Rattle.oth_run.specs.Reply.{reply}
+use Rattle.oth_run.proofs.CutLemmas.{after_fault, up_to_waiting, written_report, written_beginning}
+use Rattle.oth_run.proofs.running.run_lines.Goals as goal
+
+pub returns-in_err-run_ended-clause-bytes : goal.returns-in_err-run_ended-clause-bytes
+returns-in_err-run_ended-clause-bytes g c =
+    let p = err_from_is_err_and c.from_residual.result c.from_residual.ensures.1 in
+    let ended = c.in_err-run_ended.ensures.bytes in
+    let after = after_fault c.args.settings.now c.run_ended.new.self _ _ c.in_err-run_ended.field-0.0 _ ended.2 in
+    rw (p.1, p.2) (ended.0, after.0, ended.1, after.1, after.2)
+
+pub returns-in-Ok-clause-bytes : goal.returns-in-Ok-clause-bytes
+returns-in-Ok-clause-bytes g c =
+    let ended = c.in_ok-run_ended.ensures.bytes in
+    let so_far = up_to_waiting _ _ _ _ _ _ c.in_ok-run_ended.ensures.empty ended.2 in
+    (ended.0, _, ended.1, written_report (reply c.args.settings.now) _ _ ended.0 (c.in-Ok.ensures.ok _ _ _ so_far.line so_far.gathered), refl)
+
+pub returns-clause-bytes : goal.returns-clause-bytes
+returns-clause-bytes g c =
+    let ended = c.in_ok-run_ended.ensures.bytes in
+    let so_far = up_to_waiting _ _ _ _ _ _ c.in_ok-run_ended.ensures.empty ended.2 in
+    let part = written_beginning (reply c.args.settings.now) _ _ ended.0 (c.in-Err.ensures.err _ _ _ so_far.line so_far.gathered) in
+    (ended.0, part.0, ended.1, part.1, part.2)

@@ -1,0 +1,51 @@
+-- A run halfway. A sink held the bytes `before` when the run began and holds `sink`, or `sink'` after a call.
+--     IsUpTo, IsAt      the reports of the lines that ended are gathered, and the engine holds the line that has begun
+--     Takes, StopsWithin      what a call makes of further bytes of the input, and what is left where the sink fails
+--     Answers, Ends, StopsInside      the same of the line that has begun, of which `told line` is written
+--     WritesEnded      a run over the lines that a byte 10 ends, by how it ended
+use Rattle.std.specs.Prelude.{ℕ, List, [], ◌++◌, Option, Result, Ok, Err}
+use Rattle.std.specs.Io.KnownBytes.{Appends}
+use Rattle.oth_text.specs.Device.{AppendsBeginning}
+use Rattle.oth_words.specs.declared.settings.Settings.{Settings}
+use Rattle.oth_run.specs.declared.engine.Engine.{Engine}
+use Rattle.oth_run.specs.declared.fault.RunFault.{RunFault}
+use Rattle.oth_run.specs.declared.fault.RunFault.TheVariants.{Read, Write, Workers, Cells}
+use Rattle.oth_run.specs.Gathered.{IsGathered}
+use Rattle.oth_run.specs.Line.{Holds}
+use Rattle.oth_run.specs.Reply.{reply}
+use Rattle.oth_run.specs.Report.{cut, ended_report}
+
+pub record IsUpTo (reply : List ℕ → List ℕ) (holds : List ℕ → Type 0) (before sink : Option (List ℕ)) (waiting input : List ℕ) : Type 0 where
+  pub line : holds (cut input).rest
+  pub gathered : IsGathered before sink waiting (ended_report reply input)
+
+abbrev pub IsAt : Settings → Engine → Option (List ℕ) → Option (List ℕ) → List ℕ → Type 0
+IsAt settings engine before sink input = IsUpTo (reply settings) (Holds settings.command engine.line) before sink engine.waiting.bytes.items input
+
+abbrev pub Takes : Settings → Engine → Engine → Option (List ℕ) → Option (List ℕ) → List ℕ → Type 0
+Takes settings old new sink sink' bytes = (before : Option (List ℕ)) (input : List ℕ)
+    → IsAt settings old before sink input → IsAt settings new before sink' (input ++ bytes)
+
+abbrev pub StopsWithin : Settings → Engine → Option (List ℕ) → Option (List ℕ) → List ℕ → Type 0
+StopsWithin settings old sink sink' bytes = (before : Option (List ℕ)) (input : List ℕ)
+    → IsAt settings old before sink input → AppendsBeginning before sink' (ended_report (reply settings) (input ++ bytes))
+
+module _ (told : List ℕ → List ℕ) where
+  abbrev pub Answers : Settings → Engine → Engine → Option (List ℕ) → Option (List ℕ) → Type 0
+  Answers settings old new sink sink' = (before : Option (List ℕ)) (done line : List ℕ) → Holds settings.command old.line line
+      → IsGathered before sink old.waiting.bytes.items done → IsGathered before sink' new.waiting.bytes.items (done ++ told line)
+
+  abbrev pub Ends : Settings → Engine → Option (List ℕ) → Option (List ℕ) → Type 0
+  Ends settings old sink sink' = (before : Option (List ℕ)) (done line : List ℕ) → Holds settings.command old.line line
+      → IsGathered before sink old.waiting.bytes.items done → Appends before sink' (done ++ told line)
+
+  abbrev pub StopsInside : Settings → Engine → Option (List ℕ) → Option (List ℕ) → Type 0
+  StopsInside settings old sink sink' = (before : Option (List ℕ)) (done line : List ℕ) → Holds settings.command old.line line
+      → IsGathered before sink old.waiting.bytes.items done → AppendsBeginning before sink' (done ++ told line)
+
+abbrev pub WritesEnded : Settings → Engine → Option (List ℕ) → Option (List ℕ) → Result (Unit {0}) RunFault → List ℕ → Type 0
+WritesEnded settings engine before sink (Ok done) input = IsUpTo (reply settings) (Holds settings.command engine.line) before sink [] input
+WritesEnded settings engine before sink (Err Read) input = Appends before sink (ended_report (reply settings) input)
+WritesEnded settings engine before sink (Err Write) input = AppendsBeginning before sink (ended_report (reply settings) input)
+WritesEnded settings engine before sink (Err Workers) input = ⊥
+WritesEnded settings engine before sink (Err Cells) input = ⊥

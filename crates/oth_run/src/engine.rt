@@ -1,0 +1,214 @@
+//! The engine: the line that has begun, and the bytes of the report that wait to be written.
+
+ghost use Rattle.std.specs.Prelude.{◌≡◌, ◌≢◌, ℕ, List, [], ◌∷◌, ◌++◌, All, false, true, OnOk, OnErr};
+ghost use Rattle.std.specs.Io.KnownBytes.{Consumes, IsAtEnd};
+ghost use Rattle.oth_run.specs.Halfway.{Answers, Ends, StopsInside, StopsWithin, Takes, WritesEnded};
+ghost use Rattle.oth_run.specs.Line.{Holds};
+ghost use Rattle.oth_run.specs.Reply.{reply};
+ghost use Rattle.oth_run.specs.Report.{last_report, with_end};
+ghost use Rattle.oth_run.specs.Run.{FailsBy};
+
+use crate::ahead::Ahead;
+use crate::checking::Lawful;
+use crate::fault::RunFault;
+use crate::line::Line;
+use crate::lines::split_line;
+use crate::solver::Solver;
+use crate::waiting::Waiting;
+use oth_pool::Gate;
+use oth_text::{Failed, Sink, Source};
+use oth_words::Command;
+use std::alloc::Global;
+use std::sync::Wait;
+use std::thread::Threads;
+
+// So many bytes are read at once.
+const BUFFER_LEN: usize = 65_536;
+
+/// The line that has begun, answers of the next lines, and the bytes of the report that wait to be written.
+#[derive(Drop)]
+pub struct Engine {
+    line: Line,
+    ahead: Ahead,
+    waiting: Waiting,
+}
+
+impl Engine {
+    /// Nothing was read yet.
+    pub fn new(alloc: Global, command: Command) -> Self
+        ensures line { Holds command result.line [] }
+        ensures waiting { result.waiting.bytes.items ≡ [] }
+    {
+        Engine {
+            line: Line::new(command),
+            ahead: Ahead::nothing(alloc),
+            waiting: Waiting::new(),
+        }
+    }
+
+    // Answers the line that has begun, and begins a new one.
+    fn end_line<T: Threads + Sync, W: Sink, G: Gate>(
+        &mut self,
+        solver: &Solver<'_, T, G>,
+        settings: &Lawful,
+        writer: &mut W,
+    ) -> Result<(), Failed>
+        ensures line { OnOk result ((line : List ℕ) → Holds settings.now.command self.old.line line
+            → Holds settings.now.command self.new.line []) }
+        ensures ok { OnOk result (Answers (with_end (reply settings.now)) settings.now self.old self.new
+            (W.contents writer.old) (W.contents writer.new)) }
+        ensures err { OnErr result (StopsInside (with_end (reply settings.now)) settings.now self.old
+            (W.contents writer.old) (W.contents writer.new)) }
+        ensures works { OnOk result (W.failed writer.new ≡ W.failed writer.old) }
+        ensures fails { OnErr result (W.failed writer.new ≡ true) }
+    {
+        let answer = self.line.reply(solver, &self.ahead, settings);
+        self.waiting.push_text(writer, answer.as_slice())?;
+        self.waiting.push_text(writer, b"\n")?;
+        self.line.clear();
+        Ok(())
+    }
+
+    // Takes the last part of a line and answers the line. A solver's answers are written at once, since each took time.
+    fn take_line<T: Threads + Sync, W: Sink, G: Gate>(
+        &mut self,
+        solver: &Solver<'_, T, G>,
+        settings: &Lawful,
+        writer: &mut W,
+        part: &[u8],
+    ) -> Result<(), Failed>
+        requires part { All (λ b. b ≢ 10) part.now }
+        ensures ok { OnOk result (Takes settings.now self.old self.new
+            (W.contents writer.old) (W.contents writer.new) (part.now ++ 10 ∷ [])) }
+        ensures err { OnErr result (StopsWithin settings.now self.old
+            (W.contents writer.old) (W.contents writer.new) (part.now ++ 10 ∷ [])) }
+        ensures works { OnOk result (W.failed writer.new ≡ W.failed writer.old) }
+        ensures fails { OnErr result (W.failed writer.new ≡ true) }
+    {
+        self.line.push(part);
+        self.end_line(solver, settings, writer)?;
+        self.waiting
+            .write_if(settings.get().command == Command::Solve, writer)?;
+        Ok(())
+    }
+
+    // Takes further bytes of the input, and gathers the reports of the lines that end in them.
+    fn take_bytes<T: Threads + Sync, W: Sink, G: Gate>(
+        &mut self,
+        solver: &Solver<'_, T, G>,
+        settings: &Lawful,
+        writer: &mut W,
+        bytes: &[u8],
+    ) -> Result<(), Failed>
+        ensures ok { OnOk result (Takes settings.now self.old self.new
+            (W.contents writer.old) (W.contents writer.new) bytes.now) }
+        ensures err { OnErr result (StopsWithin settings.now self.old
+            (W.contents writer.old) (W.contents writer.new) bytes.now) }
+        ensures works { OnOk result (W.failed writer.new ≡ W.failed writer.old) }
+        ensures fails { OnErr result (W.failed writer.new ≡ true) }
+    {
+        let mut rest = bytes;
+        while let Some((line, others)) = split_line(rest) {
+            self.ahead.pass(solver, settings, rest);
+            self.take_line(solver, settings, writer, line)?;
+            rest = others;
+        }
+        self.line.push(rest);
+        Ok(())
+    }
+
+    // Takes further bytes of the input, and writes the reports of the lines that end in them.
+    fn take_chunk<T: Threads + Sync, W: Sink, G: Gate>(
+        &mut self,
+        solver: &Solver<'_, T, G>,
+        settings: &Lawful,
+        writer: &mut W,
+        bytes: &[u8],
+    ) -> Result<(), Failed>
+        ensures empty { OnOk result (self.new.waiting.bytes.items ≡ []) }
+        ensures ok { OnOk result (Takes settings.now self.old self.new
+            (W.contents writer.old) (W.contents writer.new) bytes.now) }
+        ensures err { OnErr result (StopsWithin settings.now self.old
+            (W.contents writer.old) (W.contents writer.new) bytes.now) }
+        ensures works { OnOk result (W.failed writer.new ≡ W.failed writer.old) }
+        ensures fails { OnErr result (W.failed writer.new ≡ true) }
+    {
+        self.take_bytes(solver, settings, writer, bytes)?;
+        self.waiting.write_to(writer)?;
+        Ok(())
+    }
+
+    /// Reads all lines that byte 10 ends, up to the end of input, and writes their reports. What is gathered is written
+    /// before each read, which may wait.
+    pub fn run_ended<T: Wait + Threads + Sync, R: Source, W: Sink, G: Gate>(
+        &mut self,
+        solver: &Solver<'_, T, G>,
+        reader: &mut R,
+        writer: &mut W,
+        settings: &Lawful,
+    ) -> Result<(), RunFault>
+        requires reader { R.failed reader.old ≡ false }
+        requires writer { W.failed writer.old ≡ false }
+        requires line { Holds settings.now.command self.old.line [] }
+        requires waiting { self.old.waiting.bytes.items ≡ [] }
+        ensures bytes { (input : List ℕ) × Consumes (R.remaining reader.old) (R.remaining reader.new) input
+            × WritesEnded settings.now self.new (W.contents writer.old) (W.contents writer.new) result input }
+        ensures empty { OnOk result (self.new.waiting.bytes.items ≡ []) }
+        ensures end { OnOk result (IsAtEnd (R.remaining reader.new)) }
+        ensures devices { FailsBy result (R.failed reader.new) (W.failed writer.new) }
+    {
+        let mut buffer = [0u8; BUFFER_LEN];
+        for _ in solver.rt.forever() {
+            let Ok(count) = reader.read(&mut buffer) else {
+                return Err(RunFault::Read);
+            };
+            if count == 0 {
+                break;
+            }
+            let Ok(()) = self.take_chunk(solver, settings, writer, &buffer[..count]) else {
+                return Err(RunFault::Write);
+            };
+        }
+        Ok(())
+    }
+
+    // Answers the last line, unless it is empty.
+    fn end_last<T: Threads + Sync, W: Sink, G: Gate>(
+        &mut self,
+        solver: &Solver<'_, T, G>,
+        settings: &Lawful,
+        writer: &mut W,
+    ) -> Result<(), Failed>
+        ensures ok { OnOk result (Answers (last_report (reply settings.now)) settings.now self.old self.new
+            (W.contents writer.old) (W.contents writer.new)) }
+        ensures err { OnErr result (StopsInside (last_report (reply settings.now)) settings.now self.old
+            (W.contents writer.old) (W.contents writer.new)) }
+        ensures works { OnOk result (W.failed writer.new ≡ W.failed writer.old) }
+        ensures fails { OnErr result (W.failed writer.new ≡ true) }
+    {
+        if self.line.is_empty() {
+            return Ok(());
+        }
+        self.end_line(solver, settings, writer)
+    }
+
+    /// Answers the last line, unless it is empty, writes what is left of the report, and flushes.
+    pub fn finish<T: Threads + Sync, W: Sink, G: Gate>(
+        &mut self,
+        solver: &Solver<'_, T, G>,
+        settings: &Lawful,
+        writer: &mut W,
+    ) -> Result<(), Failed>
+        ensures ok { OnOk result (Ends (last_report (reply settings.now)) settings.now self.old
+            (W.contents writer.old) (W.contents writer.new)) }
+        ensures flushed { OnOk result (W.flushed writer.new ≡ true) }
+        ensures err { OnErr result (StopsInside (last_report (reply settings.now)) settings.now self.old
+            (W.contents writer.old) (W.contents writer.new)) }
+        ensures works { OnOk result (W.failed writer.new ≡ W.failed writer.old) }
+        ensures fails { OnErr result (W.failed writer.new ≡ true) }
+    {
+        self.end_last(solver, settings, writer)?;
+        self.waiting.write_to(writer)?;
+        writer.flush()
+    }
+}

@@ -1,0 +1,19 @@
+//! The engine over bytes: it reads lines, and writes a report of each.
+#![tactic(auto)]
+
+mod ahead;
+mod checking;
+mod engine;
+mod fault;
+mod line;
+mod lines;
+mod running;
+mod solver;
+mod waiting;
+
+pub use ahead::Ahead;
+pub use checking::{Lawful, check_settings};
+pub use fault::RunFault;
+pub use lines::split_line;
+pub use running::run;
+pub use solver::Solver;

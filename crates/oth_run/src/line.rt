@@ -1,0 +1,146 @@
+//! The line that has begun, and what a line is answered with.
+
+ghost use Rattle.std.specs.Prelude.{◌≡◌, ◌≤◌, ◌++◌, ℕ, List, [], length};
+ghost use Rattle.oth_text.specs.BoardLine.{KeepsLine, reading, solvable_reading};
+ghost use Rattle.oth_text.specs.Transcript.{StandsFor, is_nil, transcript_reading};
+ghost use Rattle.oth_words.specs.declared.settings.Command.{Command as CommandGiven};
+ghost use Rattle.oth_run.specs.Line.{Holds};
+ghost use Rattle.oth_run.specs.Reply.{moves_reply, reply, solve_reply, transcript_reply};
+
+use crate::ahead::Ahead;
+use crate::checking::Lawful;
+use crate::solver::Solver;
+use arrayvec::ArrayVec;
+use oth_pool::Gate;
+use oth_text::{
+    BoardReader, LineFault, REPORT_LINE_LEN, TranscriptReader, fault_line, moves_line, report_line,
+    transcript_fault_line, write_board,
+};
+use oth_words::Command;
+use std::thread::Threads;
+
+/// The most bytes of a line that is written, without byte 10.
+pub const REPLY_LEN: usize = REPORT_LINE_LEN;
+
+/// A line of any length that is read in parts, by what is asked of it. It takes no more room than it is declared with.
+#[derive(Drop)]
+pub enum Line {
+    Solve(BoardReader),
+    Moves(BoardReader),
+    Transcript(TranscriptReader),
+}
+
+impl Line {
+    /// A line with no byte yet.
+    pub fn new(command: Command) -> Self
+        ensures { Holds command result [] }
+    {
+        match command {
+            Command::Solve => Line::Solve(BoardReader::new()),
+            Command::Moves => Line::Moves(BoardReader::new()),
+            Command::Transcript => Line::Transcript(TranscriptReader::new()),
+        }
+    }
+
+    /// Begins another line.
+    pub fn clear(&mut self)
+        ensures { (command : CommandGiven) (line : List ℕ) → Holds command self.old line → Holds command self.new [] }
+    {
+        match self {
+            Line::Solve(reader) => reader.clear(),
+            Line::Moves(reader) => reader.clear(),
+            Line::Transcript(reader) => reader.clear(),
+        }
+    }
+
+    /// Takes the next bytes of the line.
+    pub fn push(&mut self, bytes: &[u8])
+        ensures { (command : CommandGiven) (line : List ℕ) → Holds command self.old line
+            → Holds command self.new (line ++ bytes.now) }
+    {
+        match self {
+            Line::Solve(reader) => reader.push(bytes),
+            Line::Moves(reader) => reader.push(bytes),
+            Line::Transcript(reader) => reader.push(bytes),
+        }
+    }
+
+    /// Whether the line has no byte.
+    pub fn is_empty(&self) -> bool
+        ensures { (command : CommandGiven) (line : List ℕ) → Holds command self.now line → result ≡ is_nil line }
+    {
+        match self {
+            Line::Solve(reader) => reader.is_empty(),
+            Line::Moves(reader) => reader.is_empty(),
+            Line::Transcript(reader) => reader.is_empty(),
+        }
+    }
+
+    /// What is written of the line, without byte 10.
+    pub fn reply<T: Threads + Sync, G: Gate>(
+        &self,
+        solver: &Solver<'_, T, G>,
+        ahead: &Ahead,
+        settings: &Lawful,
+    ) -> ArrayVec<u8, REPLY_LEN>
+        ensures { (line : List ℕ) → Holds settings.now.command self.now line
+            → result.items ≡ reply settings.now line }
+    {
+        match self {
+            Line::Solve(reader) => solve_reply(reader, solver, ahead, settings),
+            Line::Moves(reader) => moves_reply(reader),
+            Line::Transcript(reader) => transcript_reply(reader),
+        }
+    }
+}
+
+// The score and all best moves, or the line's fault.
+fn solve_reply<T: Threads + Sync, G: Gate>(
+    reader: &BoardReader,
+    solver: &Solver<'_, T, G>,
+    ahead: &Ahead,
+    settings: &Lawful,
+) -> ArrayVec<u8, REPLY_LEN>
+    ensures { (line : List ℕ) → KeepsLine reader.now line
+        → result.items ≡ solve_reply settings.now.scoring (solvable_reading line) }
+{
+    let position = match reader.read() {
+        Ok(position) => position,
+        Err(fault) => return copied(fault_line(&fault).as_slice()),
+    };
+    match ahead.answer_of(solver, &position.board, settings) {
+        Ok(answer) => report_line(&answer),
+        Err(many) => copied(fault_line(&LineFault::Empties(many.empties)).as_slice()),
+    }
+}
+
+// All legal moves, or the line's fault.
+fn moves_reply(reader: &BoardReader) -> ArrayVec<u8, REPLY_LEN>
+    ensures { (line : List ℕ) → KeepsLine reader.now line → result.items ≡ moves_reply (reading line) }
+{
+    match reader.read() {
+        Ok(position) => copied(moves_line(&position.board).as_slice()),
+        Err(fault) => copied(fault_line(&fault).as_slice()),
+    }
+}
+
+// The board line of the position that a transcript leads to, or the line's fault.
+fn transcript_reply(reader: &TranscriptReader) -> ArrayVec<u8, REPLY_LEN>
+    ensures { (line : List ℕ) → StandsFor reader.now line
+        → result.items ≡ transcript_reply (transcript_reading line) }
+{
+    match reader.read() {
+        Ok(position) => copied(write_board(&position).as_slice()),
+        Err(fault) => copied(transcript_fault_line(&fault).as_slice()),
+    }
+}
+
+// The text as a reply.
+fn copied(text: &[u8]) -> ArrayVec<u8, REPLY_LEN>
+    requires { length text.now ≤ 196 }
+    ensures { result.items ≡ text.now }
+{
+    let mut line = ArrayVec::new();
+    line.try_extend_from_slice(text).unwrap();
+    line
+}

@@ -1,0 +1,86 @@
+//! A run over an input.
+
+ghost use Rattle.std.specs.Prelude.{◌≡◌, ℕ, List, [], false, true, OnOk};
+ghost use Rattle.std.specs.Io.KnownBytes.{Appends, Consumes, IsAtEnd};
+ghost use Rattle.oth_run.specs.Reply.{reply};
+ghost use Rattle.oth_run.specs.Run.{FailsBy, IsPastTests, OnRefusal, RefusesBy};
+ghost use Rattle.oth_run.specs.Run.{Writes};
+
+use crate::checking::Lawful;
+use crate::engine::Engine;
+use crate::fault::RunFault;
+use crate::solver::Solver;
+use oth_book::Book;
+use oth_pool::Gate;
+use oth_text::{Sink, Source};
+use oth_words::Settings;
+use std::alloc::Global;
+use std::sync::Wait;
+use std::thread::Threads;
+
+/// Reads lines from the reader until its end, and writes the report of them: for each line by itself its reply and byte
+/// 10. Byte 10 ends a line, and a last line without it counts if it isn't empty.
+///
+/// The numbers of workers and of cells are tested first, in this order, and where one is refused nothing is read or
+/// written. At `Ok` the writer was flushed behind the last byte. The reader's fault leaves the report of the lines that
+/// byte 10 had ended; the writer's fault, in a write or the flush at the end, leaves a beginning of the report. After a
+/// fault no device is called again. The run returns only if the input ends or a device fails.
+///
+/// A board is solved by so many workers over a table of so many cells, and a book that is given is asked first. Boards
+/// of lines that wait together may be solved side by side, each by one worker over a table of at most so many cells.
+/// None of this changes the report, nor does the gate, nor want of memory or threads. A line takes no memory, however
+/// long it is.
+pub fn run<T: Wait + Threads + Sync, R: Source, W: Sink, G: Gate>(
+    rt: &T,
+    alloc: Global,
+    reader: &mut R,
+    writer: &mut W,
+    settings: &Settings,
+    gate: &G,
+    book: Option<&Book>,
+) -> Result<(), RunFault>
+    requires reader { R.failed reader.old ≡ false }
+    requires writer { W.failed writer.old ≡ false }
+    ensures bytes { (input written : List ℕ) × Consumes (R.remaining reader.old) (R.remaining reader.new) input
+        × Appends (W.contents writer.old) (W.contents writer.new) written
+        × Writes (reply settings.now) result input written }
+    ensures end { OnOk result (IsAtEnd (R.remaining reader.new)) }
+    ensures flushed { OnOk result (W.flushed writer.new ≡ true) }
+    ensures devices { FailsBy result (R.failed reader.new) (W.failed writer.new) }
+    ensures refused { RefusesBy settings.now.workers settings.now.cells result }
+    ensures untouched { OnRefusal result ((reader.new ≡ reader.old) × (writer.new ≡ writer.old)) }
+{
+    let lawful = Lawful::of(settings)?;
+    let solver = Solver {
+        rt,
+        alloc,
+        gate,
+        book,
+    };
+    run_lines(&solver, reader, writer, &lawful)
+}
+
+// The run by settings that were tested.
+fn run_lines<T: Wait + Threads + Sync, R: Source, W: Sink, G: Gate>(
+    solver: &Solver<'_, T, G>,
+    reader: &mut R,
+    writer: &mut W,
+    settings: &Lawful,
+) -> Result<(), RunFault>
+    requires reader { R.failed reader.old ≡ false }
+    requires writer { W.failed writer.old ≡ false }
+    ensures bytes { (input written : List ℕ) × Consumes (R.remaining reader.old) (R.remaining reader.new) input
+        × Appends (W.contents writer.old) (W.contents writer.new) written
+        × Writes (reply settings.now) result input written }
+    ensures end { OnOk result (IsAtEnd (R.remaining reader.new)) }
+    ensures flushed { OnOk result (W.flushed writer.new ≡ true) }
+    ensures devices { FailsBy result (R.failed reader.new) (W.failed writer.new) }
+    ensures past_tests { IsPastTests result }
+{
+    let mut engine = Engine::new(solver.alloc, settings.get().command);
+    engine.run_ended(solver, reader, writer, settings)?;
+    match engine.finish(solver, settings, writer) {
+        Ok(()) => Ok(()),
+        Err(_) => Err(RunFault::Write),
+    }
+}

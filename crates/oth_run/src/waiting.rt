@@ -1,0 +1,74 @@
+//! Bytes that wait to be written, so that a sink is called a few times for many lines.
+
+ghost use Rattle.std.specs.Prelude.{◌≡◌, ◌≤◌, [], length, true, OnOk, OnErr};
+ghost use Rattle.oth_run.specs.Gathered.{Gathers, KeepsGathered, StopsInWaiting, WritesOut};
+
+use arrayvec::ArrayVec;
+use oth_text::{Failed, Sink, write_all};
+
+// So many bytes wait at most.
+const CAPACITY: usize = 16_384;
+
+/// Bytes that wait to be written.
+#[derive(Drop)]
+pub struct Waiting {
+    bytes: ArrayVec<u8, CAPACITY>,
+}
+
+impl Waiting {
+    /// No bytes.
+    pub fn new() -> Self
+        ensures { result.bytes.items ≡ [] }
+    {
+        Waiting {
+            bytes: ArrayVec::new(),
+        }
+    }
+
+    /// Adds the text, and writes those before it where there is no room for it.
+    pub fn push_text<W: Sink>(&mut self, writer: &mut W, text: &[u8]) -> Result<(), Failed>
+        requires { length text.now ≤ 16384 }
+        ensures ok { OnOk result (Gathers (W.contents writer.old) (W.contents writer.new)
+            self.old.bytes.items self.new.bytes.items text.now) }
+        ensures err { OnErr result
+            (StopsInWaiting (W.contents writer.old) (W.contents writer.new) self.old.bytes.items) }
+        ensures works { OnOk result (W.failed writer.new ≡ W.failed writer.old) }
+        ensures fails { OnErr result (W.failed writer.new ≡ true) }
+    {
+        if self.bytes.remaining_capacity() < text.len() {
+            self.write_to(writer)?;
+        }
+        self.bytes.try_extend_from_slice(text).unwrap();
+        Ok(())
+    }
+
+    /// Writes all of the bytes. Where the sink fails, a front of them was written.
+    pub fn write_to<W: Sink>(&mut self, writer: &mut W) -> Result<(), Failed>
+        ensures empty { OnOk result (self.new.bytes.items ≡ []) }
+        ensures ok { OnOk result (WritesOut (W.contents writer.old) (W.contents writer.new) self.old.bytes.items) }
+        ensures err { OnErr result
+            (StopsInWaiting (W.contents writer.old) (W.contents writer.new) self.old.bytes.items) }
+        ensures works { OnOk result (W.failed writer.new ≡ W.failed writer.old) }
+        ensures fails { OnErr result (W.failed writer.new ≡ true) }
+    {
+        write_all(writer, self.bytes.as_slice())?;
+        self.bytes.clear();
+        Ok(())
+    }
+
+    /// The same, where it is asked for.
+    pub fn write_if<W: Sink>(&mut self, is_asked: bool, writer: &mut W) -> Result<(), Failed>
+        ensures ok { OnOk result (KeepsGathered (W.contents writer.old) (W.contents writer.new)
+            self.old.bytes.items self.new.bytes.items) }
+        ensures err { OnErr result
+            (StopsInWaiting (W.contents writer.old) (W.contents writer.new) self.old.bytes.items) }
+        ensures works { OnOk result (W.failed writer.new ≡ W.failed writer.old) }
+        ensures fails { OnErr result (W.failed writer.new ≡ true) }
+    {
+        if !is_asked {
+            return Ok(());
+        }
+        self.write_to(writer)?;
+        Ok(())
+    }
+}
