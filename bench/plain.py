@@ -19,15 +19,15 @@ import subprocess
 import sys
 
 ROOT = pathlib.Path(__file__).resolve().parent.parent
-CRATES = ["oth_history", "oth_rules", "oth_search", "oth_table", "oth_pieces", "oth_pool"]
+CRATES = ["oth_history", "oth_rules", "oth_search", "oth_table", "oth_pieces", "oth_walk", "oth_pool"]
 LIBRARIES = ["shim", "arrayvec", "atomic_table", "crossbeam_deque", "oth_book", "counting"]
 FROM_SHIM = r"std::(?:alloc|thread)::"
 
 # Where the copy counts: a file, a line (or a part of one) that stands in it once, and what takes its place.
 COUNTS = [
-    ("oth_pool/access.rs", "        self.memory.recall(board, scoring)\n",
+    ("oth_walk/access.rs", "        self.memory.recall(board, scoring)\n",
      "        crate::counting::count(board);\n        self.memory.recall(board, scoring)\n"),
-    ("oth_pool/glance.rs", "    let squares = walk.order(root);\n    let mut best = match",
+    ("oth_walk/glance.rs", "    let squares = walk.order(root);\n    let mut best = match",
      "    let _guess = crate::counting::For::part(crate::counting::Part::Guess);\n"
      "    let squares = walk.order(root);\n    let mut best = match"),
 ]

@@ -65,7 +65,7 @@ int pthread_create(pthread_t *thread, const pthread_attr_t *attributes, void *(*
 """
 
 
-CRATES = ("oth_book", "oth_pieces", "oth_pool", "oth_batch", "oth_main_tests")
+CRATES = ("oth_book_tests", "oth_pieces_tests", "oth_pool_tests", "oth_batch_tests", "oth_main_tests")
 
 
 class Walk:
@@ -120,7 +120,7 @@ def steps(crates):
                 yield f"{test}: holds whichever request is refused", wrong
             if not counts:
                 yield f"{crate} has tests of refusals", "there are none"
-            if crate == "oth_pool":
+            if crate == "oth_pool_tests":
                 yield "64 cells take more requests than none, by more than the table alone takes", table(counts)
 
 

@@ -5,8 +5,6 @@ mod batch;
 mod boards;
 mod effort;
 mod found;
-#[cfg(test)]
-mod tests;
 mod verifying;
 
 pub use batch::Batch;

@@ -27,6 +27,3 @@ pub use verifying::{verify, verify_knowing};
 pub use version::Version;
 pub use writing::{WriteFault, write};
 pub use wrong::{Cause, Wrong};
-
-#[cfg(test)]
-mod tests;

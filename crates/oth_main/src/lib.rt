@@ -1,4 +1,4 @@
-//! The engine over bytes, which `oth_run` has, and the commands of the book.
+//! The commands of the book. What a program calls of the engine of `oth_run` is handed on from there.
 #![tactic(auto)]
 
 mod book_commands;

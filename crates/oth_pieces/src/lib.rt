@@ -7,8 +7,6 @@ pub mod floor;
 mod frontier;
 mod reply;
 pub mod tasks;
-#[cfg(test)]
-mod tests;
 
 pub use collector::Collector;
 pub use crew::is_crew;

@@ -1,4 +1,3 @@
 pub mod AtOnce
 pub mod Working
 pub mod Solving
-pub mod Lending

@@ -1,9 +1,9 @@
 //! The order in which the items of a frontier are drawn: those whose search promises most come first.
-use crate::scene::Scene;
 use arrayvec::ArrayVec;
 use oth_pieces::{MOST_ITEMS, can_move};
 use oth_rules::{Board, Square};
 use oth_search::order;
+use oth_walk::Scene;
 
 // A rank beyond the number of a board's moves.
 const BEYOND: u32 = 64;

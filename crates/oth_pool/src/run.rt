@@ -4,21 +4,18 @@ ghost use Rattle.oth_pieces.specs.Watch.{IsSeatOf};
 ghost use Rattle.oth_pieces.specs.Hands.{AreAllHands, IsCrew, count_of};
 ghost use Rattle.oth_pieces.specs.Dealing.{times};
 ghost use Rattle.oth_pieces.specs.Drawing.{lists_of};
-ghost use Rattle.oth_pool.specs.Lending.{LendsFloor, LendsTable};
+ghost use Rattle.oth_walk.specs.Lending.{LendsFloor, LendsTable};
 ghost use Rattle.oth_pool.specs.Working.{Holds, HasLists, AreGathered, IsReplyOf, numbers_of, times_by};
 
-use crate::access::{TableAccess, WorkerCells};
-use crate::gate::Gate;
-use crate::height::Height;
-use crate::hints::{HintSeat, Hints};
 use crate::promise::ranks;
-use crate::scene::{Plan, Scene, orders_for};
-use crate::walk::Walk;
 use crate::work::{Job, Work};
 use crate::workers::work_all;
 use oth_pieces::{Drawn, Floor, FloorSeat, Frontier, Hand, Reply, Tasks};
 use oth_rules::Scoring;
 use oth_search::{Cells, Solved, order};
+use oth_walk::{
+    Gate, Height, HintSeat, Hints, Plan, Scene, TableAccess, Walk, WorkerCells, orders_for,
+};
 use std::alloc::Global;
 use std::thread::Threads;
 

@@ -7,16 +7,8 @@ ghost use Rattle.oth_search.specs.Full.{IsFullMinimax};
 ghost use Rattle.oth_pieces.specs.Hands.{IsCrew};
 ghost use Rattle.oth_pieces.specs.Watch.{IsSeatOf};
 
-use crate::access::{TableAccess, WorkerCells};
 use crate::book_lookup::{answer_in, bounds_in};
-use crate::drawn::search_item;
-use crate::gate::Gate;
-use crate::height::Height;
-use crate::root_move::RootMove;
 use crate::run::{Means, room_for, run};
-use crate::scene::{Plan, Scene};
-use crate::walk::Walk;
-use crate::window::is_settled;
 use oth_book::Book;
 use oth_pieces::{Collector, Floor, Frontier, Reply, is_crew};
 use oth_rules::{Board, Scoring, Square};
@@ -25,6 +17,9 @@ use oth_search::{
     solve_moves,
 };
 use oth_table::{SharedTable, is_size};
+use oth_walk::{
+    Gate, Height, Plan, RootMove, Scene, TableAccess, Walk, WorkerCells, is_settled, search_item,
+};
 use std::alloc::Global;
 use std::thread::Threads;
 use thiserror::Error;

@@ -1,6 +1,6 @@
 //! What one worker has of its own.
-use crate::walk::Walk;
 use oth_pieces::{Hand, Reply};
+use oth_walk::Walk;
 
 /// What a worker draws with, and its replies.
 #[derive(Drop)]

@@ -4,13 +4,10 @@ ghost use Rattle.oth_pieces.specs.Hands.{number_of};
 ghost use Rattle.oth_pool.specs.Working.{CanWork};
 
 use crate::at_once::for_each_at_once;
-use crate::drawn::{search_item, settle_all};
-use crate::gate::Gate;
-use crate::scene::Scene;
-use crate::walk::Walk;
 use crate::work::{Job, Work};
 use oth_pieces::{Reply, Tasks};
 use oth_search::Cells;
+use oth_walk::{Gate, Scene, Walk, search_item, settle_all};
 use std::thread::Threads;
 
 /// Lets each job search items until no number is left and no move of the root is open, in a thread of its own where one

@@ -20,6 +20,3 @@ pub use board::{Board, Overlap};
 pub use scoring::Scoring;
 pub use square::Square;
 pub use sym::{Sym, map, unmap};
-
-#[cfg(test)]
-mod tests;

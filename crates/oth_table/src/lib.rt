@@ -8,8 +8,6 @@ mod laws;
 mod rule;
 mod size;
 mod table;
-#[cfg(test)]
-mod tests;
 
 pub use cells::TableCells;
 pub use choice::{pick, place, second};

@@ -19,6 +19,3 @@ pub use fault_text::{FAULT_LINE_LEN, fault_line, transcript_fault_line};
 pub use position::{Position, Side};
 pub use report::{MOVES_LINE_LEN, REPORT_LINE_LEN, moves_line, report_line};
 pub use transcript::{TranscriptReader, read_transcript};
-
-#[cfg(test)]
-mod tests;

@@ -4,8 +4,6 @@
 mod command_line;
 mod plan;
 mod settings;
-#[cfg(test)]
-mod tests;
 
 pub use command_line::read_words;
 pub use settings::{Command, DEFAULT_CELLS, Settings, Words};

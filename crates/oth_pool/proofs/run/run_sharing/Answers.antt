@@ -1,5 +1,5 @@
 use Rattle.std.proofs.Common.{◌≤◌, ◌∙◌, ℕ, List, map, subst}
-use Rattle.oth_pool.specs.declared.access.WorkerCells.{WorkerCells}
+use Rattle.oth_walk.specs.declared.access.WorkerCells.{WorkerCells}
 use Rattle.oth_pool.specs.declared.work.Job.{Job}
 use Rattle.oth_pool.specs.declared.run.Gathered.{Gathered}
 use Rattle.oth_pieces.specs.Hands.{count_of}

@@ -1,5 +1,5 @@
 use Rattle.std.proofs.Common.{arith, ◌∙◌}
-use Rattle.oth_pool.proofs.Lendings.{LendsFloor-made, LendsTable-then}
+use Rattle.oth_walk.proofs.Lendings.{LendsFloor-made, LendsTable-then}
 use Rattle.oth_pool.proofs.run.walks_of.Goals as goal
 
 pub loop-preserved : goal.loop-preserved

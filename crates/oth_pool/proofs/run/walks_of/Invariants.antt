@@ -1,7 +1,7 @@
 use Rattle.std.proofs.Common.{◌≡◌, vec_len}
 use Rattle.std.specs.Prelude.{vec_capacity}
 use Rattle.oth_pieces.specs.Watch.{IsSeatOf}
-use Rattle.oth_pool.specs.Lending.{LendsFloor, LendsTable}
+use Rattle.oth_walk.specs.Lending.{LendsFloor, LendsTable}
 use Rattle.oth_pool.proofs.run.walks_of.Given as goal
 
 abbrev pub invariant-loop : goal.invariant-loop

@@ -1,0 +1,99 @@
+//! Boards that wait together are answered as one worker alone answers them.
+
+mod refused;
+mod verifying;
+
+use oth_batch::{Batch, Boards};
+use oth_pool::Open;
+use oth_rules::samples::after_least_moves;
+use oth_rules::{Board, Scoring, Sym};
+use oth_search::{Answer, solve_alone};
+use std::test::Fail;
+use std::thread::Threads;
+
+/// The eight images of each of two boards of a game, with so many empty squares and one less.
+fn images(empties: u8) -> Option<Boards> {
+    let mut boards = Boards::new();
+    for most_empties in [empties, empties.saturating_sub(1)] {
+        let board = after_least_moves(most_empties)?;
+        for number in 0..8 {
+            boards.push(board.image(Sym::of(number)?));
+        }
+    }
+    Some(boards)
+}
+
+fn batch<T: Threads + Sync + AllocGlobal>(
+    rt: &T,
+    workers: u8,
+    cells: u32,
+    scoring: Scoring,
+) -> Batch<'_, T, Open> {
+    Batch {
+        rt,
+        alloc: rt.alloc(),
+        gate: &Open,
+        book: None,
+        workers,
+        cells,
+        scoring,
+    }
+}
+
+/// Whether each answer is the one of its board that one worker alone gives.
+fn are_right(answers: &[Answer], scoring: Scoring) -> bool {
+    answers.iter().all(|answer| solve_alone(&answer.board, scoring) == Ok(*answer))
+}
+
+/// How many of the boards have an answer.
+fn answered(boards: &Boards, answers: &[Answer]) -> usize {
+    boards
+        .as_slice()
+        .iter()
+        .filter(|board| answers.iter().any(|answer| answer.board == **board))
+        .count()
+}
+
+#[test]
+fn each_board_is_answered(rt: HostRuntime) -> Result<(), Fail> {
+    let Some(boards) = images(10) else {
+        panic!(rt; "no boards")
+    };
+    for scoring in [Scoring::Winner, Scoring::Discs] {
+        for (workers, cells) in [(2, 0), (3, 1), (16, 64)] {
+            let answers = batch(&rt, workers, cells, scoring).answers(&boards);
+            assert!(rt; answers.len() == 16, "{workers} workers, {cells} cells");
+            assert!(rt; answered(&boards, answers.as_slice()) == 16);
+            assert!(rt; are_right(answers.as_slice(), scoring));
+        }
+    }
+    Ok(())
+}
+
+#[test]
+fn a_batch_that_is_not_worth_a_second_thread_is_left(rt: HostRuntime) -> Result<(), Fail> {
+    let (Some(few), Some(boards)) = (images(4), images(10)) else {
+        panic!(rt; "no boards")
+    };
+    assert!(rt; few.as_slice().len() == 16);
+    assert!(rt; batch(&rt, 16, 64, Scoring::Winner).answers(&few).is_empty());
+    assert!(rt;
+        batch(&rt, 1, 64, Scoring::Winner)
+            .answers(&boards)
+            .is_empty()
+    );
+    Ok(())
+}
+
+#[test]
+fn a_board_that_is_worth_all_workers_is_left(rt: HostRuntime) -> Result<(), Fail> {
+    let (Some(mut boards), Some(large)) = (images(9), after_least_moves(14)) else {
+        panic!(rt; "no boards")
+    };
+    boards.push(large);
+    assert!(rt; boards.as_slice().len() == 17);
+    let answers = batch(&rt, 2, 64, Scoring::Winner).answers(&boards);
+    assert!(rt; answers.len() == 16);
+    assert!(rt; answers.iter().all(|answer| answer.board.empties() <= 9));
+    Ok(())
+}

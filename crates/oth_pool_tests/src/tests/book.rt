@@ -1,0 +1,111 @@
+//! Boards of a book: an exact one is not searched, and the bounds of another one change no answer.
+
+use super::gate::Hearing;
+use super::{A, B, C, board};
+use oth_book::{Added, Book};
+use oth_pool::solve;
+use oth_rules::{Board, Scoring};
+use oth_search::{Kind, NoCells, Solved, solve_alone};
+use std::alloc::Global;
+use std::thread::Threads;
+
+// The mirror image of A, whose canonical board is A.
+const IMAGE: [u64; 2] = [0x10, 0xffff_ffff_ffff_ff2e];
+
+// A with the other side to move, which must pass.
+const PASSING: [u64; 2] = [0xffff_ffff_ffff_ff74, 8];
+
+// The book of the board's answer.
+fn exact_book(alloc: Global, words: [u64; 2], scoring: Scoring) -> Option<Book> {
+    let answer = solve_alone(&board(words)?, scoring).ok()?;
+    let mut book = Book::new(alloc, scoring);
+    if book.add(&answer) == Ok(Added::New) {
+        Some(book)
+    } else {
+        None
+    }
+}
+
+// The book of bounds of the board, which enclose its value.
+fn bounded_book(
+    alloc: Global,
+    words: [u64; 2],
+    bounds: (i8, i8),
+    scoring: Scoring,
+) -> Option<Book> {
+    let value = Solved::by_search(&board(words)?, -65, 65, &mut NoCells, scoring);
+    let mut book = Book::new(alloc, scoring);
+    if book.add_bounds(&value.widen(bounds.0, bounds.1)?) == Ok(Added::New) {
+        Some(book)
+    } else {
+        None
+    }
+}
+
+// What two workers answer with the book, where the gate hears just once of each of so many items.
+fn solved_by<R: Threads + Sync>(
+    rt: &R,
+    alloc: Global,
+    book: &Book,
+    words: [u64; 2],
+    scoring: Scoring,
+    items: u32,
+) -> Option<(i8, u64, Kind)> {
+    let board = Board::of(words[0], words[1]).ok()?;
+    let gate = Hearing::new();
+    let answer = solve(rt, alloc, &board, 2, 64, &gate, Some(book), scoring).ok()?;
+    if gate.heard_once(items) {
+        Some((answer.score, answer.best, answer.kind))
+    } else {
+        None
+    }
+}
+
+#[test]
+fn the_gate_hears_nothing_of_a_board_that_the_book_has(rt: HostRuntime) {
+    let Some(book) = exact_book(rt.alloc(), A, Scoring::Winner) else {
+        panic!(rt; "no book")
+    };
+    let image = solved_by(&rt, rt.alloc(), &book, IMAGE, Scoring::Winner, 0);
+    assert!(rt; image == Some((-50, 0x1, Kind::Move)));
+    let absent = solved_by(&rt, rt.alloc(), &book, C, Scoring::Winner, 2);
+    assert!(rt; absent == Some((64, 0x81, Kind::Move)));
+    let discs = solved_by(&rt, rt.alloc(), &book, A, Scoring::Discs, 2);
+    assert!(rt; discs == Some((-49, 0x80, Kind::Move)));
+}
+
+// In most of these a bound is the value, so that the floor is as high before the workers start as it ever gets.
+#[test]
+fn bounds_of_the_book_change_no_answer(rt: HostRuntime) {
+    let a = (-50, 0x80, Kind::Move);
+    let passing = (50, 0, Kind::Pass);
+    for (words, bounds, scoring, expected) in [
+        (A, (-64, -40), Scoring::Winner, a),
+        (A, (-50, 64), Scoring::Winner, a),
+        (A, (-50, -48), Scoring::Winner, a),
+        (A, (-64, -50), Scoring::Winner, a),
+        (A, (-49, 64), Scoring::Discs, (-49, 0x80, Kind::Move)),
+        (PASSING, (-64, 50), Scoring::Winner, passing),
+        (PASSING, (48, 50), Scoring::Winner, passing),
+        (PASSING, (50, 64), Scoring::Winner, passing),
+        (B, (62, 64), Scoring::Winner, (64, 0x0101, Kind::Move)),
+        (B, (63, 64), Scoring::Discs, (64, 0x0100, Kind::Move)),
+        (C, (62, 64), Scoring::Winner, (64, 0x81, Kind::Move)),
+    ] {
+        let Some(book) = bounded_book(rt.alloc(), words, bounds, scoring) else {
+            panic!(rt; "no book")
+        };
+        let found = solved_by(&rt, rt.alloc(), &book, words, scoring, 2);
+        assert!(rt;
+            found == Some(expected),
+            "bounds {} to {}",
+            bounds.0,
+            bounds.1
+        );
+    }
+    let Some(book) = bounded_book(rt.alloc(), A, (-50, 64), Scoring::Winner) else {
+        panic!(rt; "no book")
+    };
+    let image = solved_by(&rt, rt.alloc(), &book, IMAGE, Scoring::Winner, 2);
+    assert!(rt; image == Some((-50, 0x1, Kind::Move)));
+}

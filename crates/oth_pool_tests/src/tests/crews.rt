@@ -1,0 +1,67 @@
+//! Boards whose moves several workers search together: what they answer.
+
+use oth_pool::{Open, solve};
+use oth_rules::{Board, Scoring};
+use oth_search::{Answer, solve_alone};
+use std::process::Abort;
+use std::thread::Threads;
+
+// Boards of games, of 14 empty squares.
+pub(super) const BOARDS: [[u64; 2]; 3] = [
+    [0x00fc_98c0_a010_0804, 0x0402_673b_5fef_75b8],
+    [0x8080_b1df_a743_2740, 0x4f67_4620_18bc_4082],
+    [0x450b_3b61_676b_5000, 0x18a4_c49c_9884_a2f0],
+];
+
+// The answer of the board of these discs by one thread that keeps nothing.
+fn answered_alone(words: [u64; 2], scoring: Scoring) -> Option<Answer> {
+    let board = Board::of(words[0], words[1]).ok()?;
+    solve_alone(&board, scoring).ok()
+}
+
+// The board by crews over so many cells.
+pub(super) fn check_board<R: Threads + Sync + AllocGlobal + Abort>(
+    rt: &R,
+    words: [u64; 2],
+    cells: u32,
+    scoring: Scoring,
+) {
+    let Some(alone) = answered_alone(words, scoring) else {
+        panic!(rt; "no answer")
+    };
+    for workers in [2, 4, 16] {
+        let found = solve(
+            rt,
+            rt.alloc(),
+            &alone.board,
+            workers,
+            cells,
+            &Open,
+            None,
+            scoring,
+        );
+        assert!(rt; found == Ok(alone), "{workers} workers");
+    }
+}
+
+fn check_boards<R: Threads + Sync + AllocGlobal + Abort>(rt: &R, cells: u32, scoring: Scoring) {
+    for words in &BOARDS {
+        check_board(rt, *words, cells, scoring);
+    }
+}
+
+#[test]
+fn crews_agree_with_one_without_a_table(rt: HostRuntime) {
+    check_boards(&rt, 0, Scoring::Winner);
+}
+
+#[test]
+fn crews_agree_with_one_over_one_cell(rt: HostRuntime) {
+    check_boards(&rt, 1, Scoring::Winner);
+}
+
+#[test]
+fn crews_agree_with_one_over_a_table(rt: HostRuntime) {
+    check_boards(&rt, 65_536, Scoring::Winner);
+    check_boards(&rt, 65_536, Scoring::Discs);
+}

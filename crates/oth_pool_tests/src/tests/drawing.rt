@@ -1,0 +1,225 @@
+//! What workers do between two calls of a gate, and what they leave behind them.
+
+use super::crews::{BOARDS, check_board};
+use super::{A, B, C, board, has_entry};
+use oth_pool::{Floor, Frontier, Gate, Open, TableAccess, WorkerCells, run_workers, solve};
+use oth_rules::{Board, Scoring, Square};
+use oth_search::solve_alone;
+use oth_table::{Look, SharedTable};
+use oth_walk::Plan;
+use std::process::Abort;
+use std::sync::Mutex;
+use std::sync::atomic::{AtomicU64, Ordering};
+use std::test::Fail;
+use std::thread;
+use std::thread::Threads;
+
+#[test]
+fn the_floor_is_raised_to_the_value(rt: HostRuntime) -> Result<(), Fail> {
+    let Some(a) = board(A) else {
+        panic!(rt; "no board")
+    };
+    for workers in [1, 2] {
+        let frontier = Frontier::of(&a, 1);
+        let Ok((floor, mut seat)) = Floor::new(rt.alloc(), &a, Scoring::Winner) else {
+            panic!(rt; "no floor")
+        };
+        let alloc = rt.alloc();
+        let found = run_workers(
+            &rt, alloc, &frontier, &floor, &mut seat, workers, &mut None, &Open,
+        );
+        assert!(rt; found.replies.len() == 2);
+        assert!(rt; floor.read(&mut seat) == -50);
+    }
+    Ok(())
+}
+
+#[test]
+fn the_callers_seat_looks_at_what_workers_left(rt: HostRuntime) -> Result<(), Fail> {
+    let Some(a) = board(A) else {
+        panic!(rt; "no board")
+    };
+    let frontier = Frontier::of(&a, 2);
+    let Ok((floor, mut seat)) = Floor::new(rt.alloc(), &a, Scoring::Winner) else {
+        panic!(rt; "no floor")
+    };
+    let Ok((table, own)) = SharedTable::new(rt.alloc(), 1, Scoring::Winner) else {
+        panic!(rt; "no table")
+    };
+    let mut access = Some(TableAccess::of(&table, own));
+    let alloc = rt.alloc();
+    let found = run_workers(
+        &rt,
+        alloc,
+        &frontier,
+        &floor,
+        &mut seat,
+        2,
+        &mut access,
+        &Open,
+    );
+    assert!(rt; found.drawn.left.is_empty());
+    let Some(access) = access else {
+        panic!(rt; "the table is gone")
+    };
+    let mut own = access.into_seat();
+    assert!(rt; table.cells() == 1);
+    assert!(rt; matches!(&table.look(&mut own, 0), Look::Whole(_)));
+    Ok(())
+}
+
+#[test]
+fn sixteen_workers_share_one_cell(rt: HostRuntime) {
+    for _ in 0..100 {
+        for (words, best) in [(A, 0x80), (B, 0x0101), (C, 0x81)] {
+            let Ok(board) = Board::of(words[0], words[1]) else {
+                panic!(rt; "no board")
+            };
+            let alloc = rt.alloc();
+            let found = solve(&rt, alloc, &board, 16, 1, &Open, None, Scoring::Winner);
+            assert!(rt; found.is_ok_and(|answer| answer.best == best));
+        }
+    }
+}
+
+#[test]
+fn crews_share_one_cell_where_they_search_together(rt: HostRuntime) {
+    for _ in 0..20 {
+        check_board(&rt, BOARDS[0], 1, Scoring::Winner);
+    }
+}
+
+// Looks for the boards after the root's moves, when the first item is announced and when it has been searched.
+#[derive(Drop)]
+struct Watching<'t> {
+    cells: Mutex<WorkerCells<'t>>,
+    root: Board,
+    // How many calls there were, and how many boards the first two found.
+    calls: AtomicU64,
+    first: AtomicU64,
+    second: AtomicU64,
+}
+
+impl<'t> Watching<'t> {
+    fn known(&self) -> u64 {
+        let Some(mut cells) = self.cells.try_lock() else {
+            return 64;
+        };
+        let mut known = 0;
+        for number in 0..64 {
+            if let Some(child) = self.root.play(Square::numbered(number)) {
+                if has_entry(&mut *cells, &child) {
+                    known = u64::saturating_add(known, 1);
+                }
+            }
+        }
+        known
+    }
+
+    fn watch(&self) {
+        match self.calls.fetch_add(1, Ordering::SeqCst) {
+            0 => self.first.store(self.known(), Ordering::SeqCst),
+            1 => self.second.store(self.known(), Ordering::SeqCst),
+            _ => {}
+        }
+    }
+}
+
+impl<'t> Gate for Watching<'t> {
+    fn before(&self, _task: u32) {
+        self.watch();
+    }
+
+    fn after(&self, _task: u32) {
+        self.watch();
+    }
+}
+
+#[test]
+fn nothing_is_searched_before_the_first_item_is_announced(rt: HostRuntime) -> Result<(), Fail> {
+    let Some(root) = board(BOARDS[0]) else {
+        panic!(rt; "no board")
+    };
+    let frontier = Frontier::of(&root, 2);
+    let Ok((floor, mut seat)) = Floor::new(rt.alloc(), &root, Scoring::Winner) else {
+        panic!(rt; "no floor")
+    };
+    let Ok((table, own)) = SharedTable::new(rt.alloc(), 4096, Scoring::Winner) else {
+        panic!(rt; "no table")
+    };
+    let mut access = Some(TableAccess::of(&table, own));
+    let gate = Watching {
+        cells: Mutex::new(WorkerCells::of(
+            rt.alloc(),
+            Plan::alone(Scoring::Winner, 0),
+            &mut access,
+        )),
+        root,
+        calls: AtomicU64::new(0),
+        first: AtomicU64::new(64),
+        second: AtomicU64::new(64),
+    };
+    let alloc = rt.alloc();
+    let found = run_workers(
+        &rt,
+        alloc,
+        &frontier,
+        &floor,
+        &mut seat,
+        1,
+        &mut access,
+        &gate,
+    );
+    assert!(rt; found.drawn.left.is_empty());
+    assert!(rt; gate.first.load(Ordering::SeqCst) == 0);
+    let second = gate.second.load(Ordering::SeqCst);
+    assert!(rt; 0 < second && second < 64);
+    Ok(())
+}
+
+// The first item whose search ends waits a while until that of another one has ended.
+#[derive(Drop)]
+struct Holding {
+    ended: AtomicU64,
+    given_up: AtomicU64,
+}
+
+impl Gate for Holding {
+    fn before(&self, _task: u32) {}
+
+    fn after(&self, _task: u32) {
+        if self.ended.fetch_add(1, Ordering::SeqCst) != 0 {
+            return;
+        }
+        for _ in 0..100_000_000 {
+            if self.ended.load(Ordering::SeqCst) > 1 {
+                return;
+            }
+            thread::yield_now();
+        }
+        self.given_up.store(1, Ordering::SeqCst);
+    }
+}
+
+fn check_held<R: Threads + Sync + AllocGlobal + Abort>(rt: &R, cells: u32) {
+    let Ok(board) = Board::of(BOARDS[1][0], BOARDS[1][1]) else {
+        panic!(rt; "no board")
+    };
+    let Ok(alone) = solve_alone(&board, Scoring::Winner) else {
+        panic!(rt; "no answer")
+    };
+    let gate = Holding {
+        ended: AtomicU64::new(0),
+        given_up: AtomicU64::new(0),
+    };
+    let alloc = rt.alloc();
+    let found = solve(rt, alloc, &board, 2, cells, &gate, None, Scoring::Winner);
+    assert!(rt; found == Ok(alone));
+    assert!(rt; gate.given_up.load(Ordering::SeqCst) == 0);
+}
+
+#[test]
+fn two_searches_end_in_two_threads(rt: HostRuntime) {
+    check_held(&rt, 0);
+    check_held(&rt, 65_536);
+}

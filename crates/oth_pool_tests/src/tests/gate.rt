@@ -1,0 +1,151 @@
+//! What a gate hears, and that two workers work at once.
+
+use super::{C, CORNERS};
+use oth_pool::{Gate, solve};
+use oth_rules::{Board, Scoring};
+use std::alloc::Global;
+use std::sync::atomic::{AtomicU64, Ordering};
+use std::thread;
+use std::thread::Threads;
+
+// Four bits for each of the first 16 items count how often it is heard of.
+#[derive(Drop)]
+pub(super) struct Hearing {
+    before: AtomicU64,
+    after: AtomicU64,
+    others: AtomicU64,
+}
+
+impl Hearing {
+    pub(super) fn new() -> Self {
+        Hearing {
+            before: AtomicU64::new(0),
+            after: AtomicU64::new(0),
+            others: AtomicU64::new(0),
+        }
+    }
+
+    fn count(&self, calls: &AtomicU64, task: u32) {
+        if task < 16 {
+            calls.fetch_add(1 << (4 * task), Ordering::SeqCst);
+        } else {
+            self.others.fetch_add(1, Ordering::SeqCst);
+        }
+    }
+
+    // Whether the first so many items were each heard of once before and once after their search, and no other one.
+    pub(super) fn heard_once(&self, items: u32) -> bool {
+        let mut once = 0;
+        for item in 0..items.min(16) {
+            once |= 1u64 << (4 * item);
+        }
+        self.before.load(Ordering::SeqCst) == once
+            && self.after.load(Ordering::SeqCst) == once
+            && self.others.load(Ordering::SeqCst) == 0
+    }
+}
+
+impl Gate for Hearing {
+    fn before(&self, task: u32) {
+        self.count(&self.before, task);
+    }
+
+    fn after(&self, task: u32) {
+        self.count(&self.after, task);
+    }
+}
+
+fn by_two<R: Threads + Sync, G: Gate>(
+    rt: &R,
+    alloc: Global,
+    words: [u64; 2],
+    cells: u32,
+    gate: &G,
+) -> Option<(i8, u64)> {
+    let board = Board::of(words[0], words[1]).ok()?;
+    let answer = solve(rt, alloc, &board, 2, cells, gate, None, Scoring::Winner).ok()?;
+    Some((answer.score, answer.best))
+}
+
+fn alone<R: Threads + Sync, G: Gate>(
+    rt: &R,
+    alloc: Global,
+    words: [u64; 2],
+    gate: &G,
+) -> Option<(i8, u64)> {
+    let board = Board::of(words[0], words[1]).ok()?;
+    let answer = solve(rt, alloc, &board, 1, 64, gate, None, Scoring::Winner).ok()?;
+    Some((answer.score, answer.best))
+}
+
+#[test]
+fn the_gate_hears_each_item_once(rt: HostRuntime) {
+    let gate = Hearing::new();
+    let found = by_two(&rt, rt.alloc(), CORNERS, 0, &gate);
+    assert!(rt; found == Some((64, 0x8100_0000_0000_0081)));
+    assert!(rt; gate.heard_once(12));
+}
+
+#[test]
+fn the_gate_hears_each_item_once_from_one_worker(rt: HostRuntime) {
+    let gate = Hearing::new();
+    let found = alone(&rt, rt.alloc(), CORNERS, &gate);
+    assert!(rt; found == Some((64, 0x8100_0000_0000_0081)));
+    assert!(rt; gate.heard_once(12));
+}
+
+#[test]
+fn a_finished_board_is_not_announced(rt: HostRuntime) {
+    let gate = Hearing::new();
+    let found = by_two(&rt, rt.alloc(), [0, u64::MAX], 64, &gate);
+    assert!(rt; found == Some((-64, 0)));
+    assert!(rt; gate.heard_once(0));
+}
+
+// Each of the first two items waits a while until the search of the other one has begun.
+#[derive(Drop)]
+struct Meeting {
+    hearing: Hearing,
+    given_up: AtomicU64,
+}
+
+impl Meeting {
+    fn has_begun(&self, task: u32) -> bool {
+        let heard = self.hearing.before.load(Ordering::SeqCst);
+        task < 16 && heard >> (4 * task) & 15 != 0
+    }
+}
+
+impl Gate for Meeting {
+    fn before(&self, task: u32) {
+        self.hearing.before(task);
+        if task >= 2 {
+            return;
+        }
+        for _ in 0..10_000_000 {
+            if self.has_begun(1 - task) {
+                return;
+            }
+            thread::yield_now();
+        }
+        self.given_up.store(1, Ordering::SeqCst);
+    }
+
+    fn after(&self, task: u32) {
+        self.hearing.after(task);
+    }
+}
+
+#[test]
+fn two_workers_work_at_once(rt: HostRuntime) {
+    for cells in [0, 64] {
+        let gate = Meeting {
+            hearing: Hearing::new(),
+            given_up: AtomicU64::new(0),
+        };
+        let found = by_two(&rt, rt.alloc(), C, cells, &gate);
+        assert!(rt; found == Some((64, 0x81)), "{cells} cells");
+        assert!(rt; gate.hearing.heard_once(2), "{cells} cells");
+        assert!(rt; gate.given_up.load(Ordering::SeqCst) == 0, "{cells} cells");
+    }
+}

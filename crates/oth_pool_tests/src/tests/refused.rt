@@ -1,0 +1,111 @@
+//! Want of memory. Each of these tests holds whichever one of its requests for memory is refused; `hostile/refusals.py`
+//! runs each of them once for each request, thread starts among them.
+
+use super::crews::BOARDS;
+use super::gate::Hearing;
+use super::rows::ROWS;
+use super::{A, CORNERS, solved};
+use oth_pool::{Open, solve};
+use oth_rules::{Board, Scoring, Square};
+use oth_search::solve_alone;
+use oth_table::{SharedTable, TableError};
+use std::process::Abort;
+use std::thread::Threads;
+
+// The rows with an empty square or two, by two workers.
+fn check_rows<R: Threads + Sync + AllocGlobal + Abort>(rt: &R, cells: u32) {
+    for (words, score, best, kind) in &ROWS[..9] {
+        let found = solved(rt, rt.alloc(), *words, 2, cells, Scoring::Winner);
+        assert!(rt;
+            found == Some((*score, *best, *kind)),
+            "the board of {}",
+            words[0]
+        );
+    }
+}
+
+#[test]
+fn rows_without_cells(rt: HostRuntime) {
+    check_rows(&rt, 0);
+}
+
+#[test]
+fn rows_over_one_cell(rt: HostRuntime) {
+    check_rows(&rt, 1);
+}
+
+#[test]
+fn rows_over_64_cells(rt: HostRuntime) {
+    check_rows(&rt, 64);
+}
+
+fn check_a<R: Threads + Sync + AllocGlobal + Abort>(rt: &R, cells: u32) {
+    let found = solved(rt, rt.alloc(), A, 2, cells, Scoring::Winner);
+    assert!(rt; found.is_some_and(|(score, best, _)| score == -50 && best == 0x80));
+}
+
+// `hostile/refusals.py` compares how many requests this test and the next two make.
+#[test]
+fn a_without_cells(rt: HostRuntime) {
+    check_a(&rt, 0);
+}
+
+#[test]
+fn a_over_64_cells(rt: HostRuntime) {
+    check_a(&rt, 64);
+}
+
+#[test]
+fn a_table_of_64_cells(rt: HostRuntime) {
+    match SharedTable::new(rt.alloc(), 64, Scoring::Winner) {
+        Ok((table, _)) => assert!(rt; table.cells() == 64),
+        Err(error) => assert!(rt; error == TableError::Memory),
+    }
+}
+
+// The board after the first move from one of 14 empty squares.
+fn of_13_empties() -> Option<Board> {
+    let [own, opposing] = BOARDS[1];
+    let board = Board::of(own, opposing).ok()?;
+    let moves = board.moves();
+    if moves == 0 {
+        return None;
+    }
+    board.play(Square::first_of(moves))
+}
+
+// A board of so many empty squares that its workers search together.
+fn check_together<R: Threads + Sync + AllocGlobal + Abort>(rt: &R, cells: u32) {
+    let Some(board) = of_13_empties() else {
+        panic!(rt; "no board")
+    };
+    assert!(rt; board.empties() == 13);
+    let Ok(alone) = solve_alone(&board, Scoring::Winner) else {
+        panic!(rt; "no answer")
+    };
+    let alloc = rt.alloc();
+    let found = solve(rt, alloc, &board, 2, cells, &Open, None, Scoring::Winner);
+    assert!(rt; found == Ok(alone));
+}
+
+#[test]
+fn workers_together_without_cells(rt: HostRuntime) {
+    check_together(&rt, 0);
+}
+
+#[test]
+fn workers_together_over_64_cells(rt: HostRuntime) {
+    check_together(&rt, 64);
+}
+
+// The gate hears each of the twelve items once.
+#[test]
+fn each_item_is_heard(rt: HostRuntime) {
+    let gate = Hearing::new();
+    let Ok(board) = Board::of(CORNERS[0], CORNERS[1]) else {
+        panic!(rt; "no board")
+    };
+    let found = solve(&rt, rt.alloc(), &board, 2, 64, &gate, None, Scoring::Winner);
+    assert!(rt; found.is_ok_and(|answer| answer.best == 0x8100_0000_0000_0081));
+    assert!(rt; gate.heard_once(12));
+}

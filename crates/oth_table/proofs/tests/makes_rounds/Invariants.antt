@@ -1,5 +1,0 @@
-use Rattle.oth_table.specs.Calls.{IsSeatOf}
-use Rattle.oth_table.proofs.tests.makes_rounds.Given as goal
-
-abbrev pub invariant-loop : goal.invariant-loop
-invariant-loop l = IsSeatOf l.table l.seat

@@ -1,0 +1,369 @@
+//! The worked boards at a table, alone and in threads. By `Winner` A's value is -50, C's and D's are 64.
+//! By `Discs` A's value is -49.
+ghost use Rattle.std.specs.Prelude.{◌≡◌, ◌+◌, ◌<◌, IfSome};
+ghost use Rattle.std.specs.Thread.{IsSync};
+ghost use Rattle.oth_table.specs.Calls.{IsSeatOf};
+ghost use Rattle.oth_rules.specs.declared.scoring.Scoring.TheVariants.{Winner};
+
+use oth_rules::{Board, Scoring};
+use oth_search::{Cells, Entry, NoCells, Solved, search};
+use oth_table::{Look, Put, SharedTable, TableCells, TableError, TableSeat};
+use std::alloc::Global;
+use std::test::Fail;
+use std::thread::{Threads, join};
+
+// Each board by its own and opposing discs.
+const A: [u64; 2] = [0x8, 0xffff_ffff_ffff_ff74];
+
+const C: [u64; 2] = [0x3cff_ffff_ffff_ffff, 0x4200_0000_0000_0000];
+
+const D: [u64; 2] = [0x3fff_ffff_ffff_ffff, 0x4000_0000_0000_0000];
+
+const MOST_WEAR: u64 = 0x7fff_ffff_ffff_ffff;
+
+// The entry of the board of these words with these bounds of its value.
+fn entry(words: [u64; 2], lower: i8, upper: i8, scoring: Scoring) -> Option<Entry>
+    ensures { IfSome result (λ e. e.scoring ≡ scoring) }
+{
+    let board = Board::of(words[0], words[1]).ok()?;
+    let solved = Solved::by_search(&board, -65, 65, &mut NoCells, scoring);
+    Some(Entry::of(&solved.widen(lower, upper)?))
+}
+
+/// Entries by `Winner`.
+#[derive(Clone, Copy)]
+struct Three {
+    /// A with -64..-50.
+    low: Entry,
+    /// A with -50..64.
+    high: Entry,
+    /// C with 64..64.
+    other: Entry,
+    ghost low_by: { low.scoring ≡ Winner },
+    ghost high_by: { high.scoring ≡ Winner },
+    ghost other_by: { other.scoring ≡ Winner },
+}
+
+fn stored_entries() -> Option<Three> {
+    let low = entry(A, -64, -50, Scoring::Winner)?;
+    let high = entry(A, -50, 64, Scoring::Winner)?;
+    let other = entry(C, 64, 64, Scoring::Winner)?;
+    Some(Three { low, high, other })
+}
+
+// The bounds that were found of the board of these words.
+fn bounds(found: &Look, words: [u64; 2]) -> Option<u64> {
+    let Look::Whole(entry) = found else {
+        return None;
+    };
+    let [own, opp, packed] = entry.words();
+    if own == words[0] && opp == words[1] {
+        Some(packed)
+    } else {
+        None
+    }
+}
+
+#[test]
+fn keeps_the_closer_bounds(rt: HostRuntime) -> Result<(), Fail> {
+    let Ok((table, mut seat)) = SharedTable::new(rt.alloc(), 1, Scoring::Winner) else {
+        panic!(rt; "no table")
+    };
+    let Some(three) = stored_entries() else {
+        panic!(rt; "no entries")
+    };
+    assert!(rt; table.cells() == 1 && table.scoring() == Scoring::Winner);
+    assert!(rt; matches!(table.look(&mut seat, 0), Look::Empty));
+    assert!(rt; table.put(&mut seat, 0, &three.low) == Put::Stored);
+    assert!(rt; bounds(&table.look(&mut seat, 0), A) == Some(3584));
+    assert!(rt; table.put(&mut seat, 0, &three.high) == Put::Stored);
+    assert!(rt; bounds(&table.look(&mut seat, 0), A) == Some(3598));
+    assert!(rt; table.put(&mut seat, 0, &three.other) == Put::Stored);
+    assert!(rt; bounds(&table.look(&mut seat, 0), A) == None);
+    assert!(rt; bounds(&table.look(&mut seat, 0), C) == Some(32896));
+    Ok(())
+}
+
+#[test]
+fn wears_out(rt: HostRuntime) -> Result<(), Fail> {
+    let Ok((table, mut seat)) = SharedTable::with_wear(rt.alloc(), 1, 2, Scoring::Winner) else {
+        panic!(rt; "no table")
+    };
+    let Some(three) = stored_entries() else {
+        panic!(rt; "no entries")
+    };
+    assert!(rt; table.put(&mut seat, 0, &three.low) == Put::Stored);
+    assert!(rt; table.put(&mut seat, 0, &three.high) == Put::Stored);
+    assert!(rt; table.put(&mut seat, 0, &three.other) == Put::Worn);
+    assert!(rt; bounds(&table.look(&mut seat, 0), A) == Some(3598));
+    assert!(rt; table.published(&mut seat, 0) == 2);
+    Ok(())
+}
+
+#[test]
+fn refuses_in_order(rt: HostRuntime) -> Result<(), Fail> {
+    for (cells, wear, refusal) in [
+        (0, MOST_WEAR, TableError::Cells),
+        (3, MOST_WEAR, TableError::Cells),
+        (524_288, MOST_WEAR, TableError::Cells),
+        (3, 0, TableError::Cells),
+        (1, 0, TableError::Wear),
+        (1, MOST_WEAR + 1, TableError::Wear),
+    ] {
+        match SharedTable::with_wear(rt.alloc(), cells, wear, Scoring::Winner) {
+            Ok(_) => panic!(rt; "{cells} cells with wear {wear}"),
+            Err(found) => assert!(rt; found == refusal, "{cells} cells with wear {wear}"),
+        }
+    }
+    Ok(())
+}
+
+#[test]
+fn two_seats_meet(rt: HostRuntime) -> Result<(), Fail> {
+    let Ok((table, mut first)) = SharedTable::new(rt.alloc(), 1, Scoring::Winner) else {
+        panic!(rt; "no table")
+    };
+    let Ok(mut second) = table.seat(rt.alloc(), &mut first) else {
+        panic!(rt; "no seat")
+    };
+    let Some(three) = stored_entries() else {
+        panic!(rt; "no entries")
+    };
+    assert!(rt; table.put(&mut first, 0, &three.low) == Put::Stored);
+    assert!(rt; table.put(&mut second, 0, &three.high) == Put::Stored);
+    table.meet(&mut first, &mut second);
+    assert!(rt; bounds(&table.look(&mut first, 0), A) == Some(3598));
+    assert!(rt; bounds(&table.look(&mut second, 0), A) == Some(3598));
+    Ok(())
+}
+
+#[test]
+fn keeps_scores_by_discs(rt: HostRuntime) -> Result<(), Fail> {
+    let Ok((table, mut seat)) = SharedTable::new(rt.alloc(), 1, Scoring::Discs) else {
+        panic!(rt; "no table")
+    };
+    let Some(exact) = entry(A, -49, -49, Scoring::Discs) else {
+        panic!(rt; "no entry")
+    };
+    assert!(rt; table.put(&mut seat, 0, &exact) == Put::Stored);
+    assert!(rt; bounds(&table.look(&mut seat, 0), A) == Some(3855));
+    Ok(())
+}
+
+#[test]
+fn a_search_finds_what_it_kept(rt: HostRuntime) -> Result<(), Fail> {
+    let Ok((table, seat)) = SharedTable::new(rt.alloc(), 1, Scoring::Winner) else {
+        panic!(rt; "no table")
+    };
+    let Ok(board) = Board::of(A[0], A[1]) else {
+        panic!(rt; "no board")
+    };
+    let mut cells = TableCells::of(&table, seat);
+    let found = search(&board, -65, 65, &mut cells, Scoring::Winner);
+    assert!(rt; found.lower == -50 && found.upper == -50);
+    let again = search(&board, -65, 65, &mut cells, Scoring::Winner);
+    assert!(rt; again.lower == -50 && again.upper == -50);
+    let mut seat = cells.into_seat();
+    assert!(rt; bounds(&table.look(&mut seat, 0), A) == Some(3598));
+    Ok(())
+}
+
+// The bounds that a search would find of the entry's board.
+fn found_of(cells: &mut TableCells<'_>, entry: &Entry, scoring: Scoring) -> Option<u64> {
+    entry.shows_true();
+    let found = cells.look(&entry.board(), scoring)?;
+    let [_, _, packed] = found.words();
+    Some(packed)
+}
+
+#[test]
+fn gives_each_board_two_cells(rt: HostRuntime) -> Result<(), Fail> {
+    let Ok((table, seat)) = SharedTable::new(rt.alloc(), 2, Scoring::Winner) else {
+        panic!(rt; "no table")
+    };
+    let (Some(a), Some(c), Some(d), Some(by_discs)) = (
+        entry(A, -50, -50, Scoring::Winner),
+        entry(C, 64, 64, Scoring::Winner),
+        entry(D, 64, 64, Scoring::Winner),
+        entry(A, -49, -49, Scoring::Discs),
+    ) else {
+        panic!(rt; "no entries")
+    };
+    let mut cells = TableCells::of(&table, seat);
+    cells.put(&a);
+    cells.put(&by_discs);
+    cells.put(&c);
+    assert!(rt; found_of(&mut cells, &a, Scoring::Winner) == Some(3598));
+    assert!(rt; found_of(&mut cells, &c, Scoring::Winner) == Some(32896));
+    assert!(rt; found_of(&mut cells, &a, Scoring::Discs) == None);
+    cells.put(&d);
+    assert!(rt; found_of(&mut cells, &d, Scoring::Winner) == Some(32896));
+    assert!(rt; found_of(&mut cells, &a, Scoring::Winner) == Some(3598));
+    assert!(rt; found_of(&mut cells, &c, Scoring::Winner) == None);
+    Ok(())
+}
+
+// Where memory is refused, the seat that was there still finds what it stored.
+#[test]
+fn answers_want_of_memory(rt: HostRuntime) -> Result<(), Fail> {
+    let Some(three) = stored_entries() else {
+        panic!(rt; "no entries")
+    };
+    match SharedTable::new(rt.alloc(), 64, Scoring::Winner) {
+        Err(refusal) => assert!(rt; refusal == TableError::Memory),
+        Ok((table, mut seat)) => {
+            assert!(rt; table.put(&mut seat, 5, &three.low) == Put::Stored);
+            if let Err(refusal) = table.seat(rt.alloc(), &mut seat) {
+                assert!(rt; refusal == TableError::Memory);
+            }
+            assert!(rt; bounds(&table.look(&mut seat, 5), A) == Some(3584));
+        }
+    }
+    Ok(())
+}
+
+// Whether one of the stored boards was found, with bounds that enclose its value, or no entry at all.
+fn is_right(found: &Look) -> bool {
+    match found {
+        Look::Empty => false,
+        Look::Busy => true,
+        Look::Whole(entry) => {
+            let [own, opp, packed] = entry.words();
+            let is_first = own == A[0] && opp == A[1];
+            let is_other = own == C[0] && opp == C[1];
+            is_first && (packed == 3584 || packed == 32782 || packed == 3598)
+                || is_other && packed == 32896
+        }
+    }
+}
+
+// Puts A from above, A from below and C into the cell, and looks there.
+fn makes_a_round(table: &SharedTable, seat: &mut TableSeat, three: &Three) -> bool
+    requires seat { IsSeatOf table.now seat.old }
+    requires cell { 0 < table.now.cells }
+    requires scoring { table.now.terms.scoring ≡ Winner }
+    ensures { IsSeatOf table.now seat.new }
+{
+    table.put(seat, 0, &three.low);
+    table.put(seat, 0, &three.high);
+    table.put(seat, 0, &three.other);
+    is_right(&table.look(seat, 0))
+}
+
+// Whether all these rounds found what is right. The seat is dropped after them.
+fn makes_rounds(table: &SharedTable, mut seat: TableSeat, three: &Three, rounds: u32) -> bool
+    requires seat { IsSeatOf table.now seat }
+    requires cell { 0 < table.now.cells }
+    requires scoring { table.now.terms.scoring ≡ Winner }
+{
+    let mut all_right = true;
+    for _ in 0..rounds {
+        all_right = makes_a_round(table, &mut seat, three) && all_right;
+    }
+    all_right
+}
+
+// The numbers of some threads.
+#[derive(Clone, Copy)]
+struct Numbers {
+    first: u32,
+    count: u32,
+}
+
+// Sixteen threads.
+const ALL: Numbers = Numbers {
+    first: 0,
+    count: 16,
+};
+
+// Rounds by the threads of these numbers at once, each with a seat of its own. Every fourth thread drops its seat in
+// the middle.
+fn crowd<R: Threads + Sync>(
+    rt: &R,
+    alloc: Global,
+    table: &SharedTable,
+    seat: TableSeat,
+    three: &Three,
+    numbers: Numbers,
+) -> bool
+    requires seat { IsSeatOf table.now seat }
+    requires cell { 0 < table.now.cells }
+    requires scoring { table.now.terms.scoring ≡ Winner }
+    requires few { numbers.first + numbers.count < 100 }
+{
+    let mut seat = seat;
+    let Numbers { first, count } = numbers;
+    let rounds = if first % 4 == 3 { 500 } else { 1000 };
+    if count <= 1 {
+        return makes_rounds(table, seat, three, rounds);
+    }
+    let Ok(other) = table.seat(alloc, &mut seat) else {
+        return makes_rounds(table, seat, three, rounds);
+    };
+    let half = count / 2;
+    let left = Numbers { first, count: half };
+    let right = Numbers {
+        first: first + half,
+        count: count - half,
+    };
+    let (first_half, second_half) = join(
+        rt,
+        || -> bool
+            requires sync { IsSync R.row }
+            requires seat { IsSeatOf table.now seat }
+            requires cell { 0 < table.now.cells }
+            requires scoring { table.now.terms.scoring ≡ Winner }
+            requires few { left.first + left.count < 100 }
+        { crowd(rt, alloc, table, seat, three, left) },
+        || -> bool
+            requires sync { IsSync R.row }
+            requires seat { IsSeatOf table.now other }
+            requires cell { 0 < table.now.cells }
+            requires scoring { table.now.terms.scoring ≡ Winner }
+            requires few { right.first + right.count < 100 }
+        { crowd(rt, alloc, table, other, three, right) },
+    );
+    first_half && second_half
+}
+
+#[test]
+fn threads_share_a_cell(rt: HostRuntime) -> Result<(), Fail> {
+    let Ok((table, mut seat)) = SharedTable::new(rt.alloc(), 1, Scoring::Winner) else {
+        panic!(rt; "no table")
+    };
+    let Some(three) = stored_entries() else {
+        panic!(rt; "no entries")
+    };
+    let Ok(other) = table.seat(rt.alloc(), &mut seat) else {
+        panic!(rt; "no seat")
+    };
+    assert!(rt; crowd(&rt, rt.alloc(), &table, other, &three, ALL));
+    assert!(rt; table.put(&mut seat, 0, &three.other) == Put::Stored);
+    assert!(rt; bounds(&table.look(&mut seat, 0), C) == Some(32896));
+    Ok(())
+}
+
+#[test]
+fn threads_wear_out_a_cell(rt: HostRuntime) -> Result<(), Fail> {
+    let Some(three) = stored_entries() else {
+        panic!(rt; "no entries")
+    };
+    for wear in [1, 2, 3] {
+        let Ok((table, mut seat)) = SharedTable::with_wear(rt.alloc(), 1, wear, Scoring::Winner)
+        else {
+            panic!(rt; "no table")
+        };
+        let Ok(other) = table.seat(rt.alloc(), &mut seat) else {
+            panic!(rt; "no seat")
+        };
+        assert!(rt; crowd(&rt, rt.alloc(), &table, other, &three, ALL));
+        let published = table.published(&mut seat, 0);
+        assert!(rt; published <= wear);
+        if published == wear {
+            assert!(rt; table.put(&mut seat, 0, &three.low) == Put::Worn);
+            assert!(rt; table.put(&mut seat, 0, &three.other) == Put::Worn);
+            assert!(rt; matches!(table.look(&mut seat, 0), Look::Whole(_)));
+        }
+    }
+    Ok(())
+}

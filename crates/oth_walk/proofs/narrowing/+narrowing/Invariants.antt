@@ -1,0 +1,17 @@
+use Rattle.std.proofs.Common.{◌+◌, ◌*◌}
+use Rattle.oth_walk.proofs.narrowing.+narrowing.Given as goal
+
+abbrev pub decreases-narrow : goal.decreases-narrow
+decreases-narrow g l = 5 * l.plies
+
+abbrev pub decreases-narrow_past : goal.decreases-narrow_past
+decreases-narrow_past g l = 5 * l.plies + 1
+
+abbrev pub decreases-narrow_moves : goal.decreases-narrow_moves
+decreases-narrow_moves g l = 5 * l.plies + 4
+
+abbrev pub decreases-visit_all : goal.decreases-visit_all
+decreases-visit_all g l = 5 * l.plies + 3
+
+abbrev pub decreases-visit : goal.decreases-visit
+decreases-visit g l = 5 * l.plies + 2

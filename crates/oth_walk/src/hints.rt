@@ -1,0 +1,260 @@
+//! What the workers of a search tell each other besides bounds: which boards somebody is searching, which of the root's
+//! moves need no further search, what score the root seems to have and by which move, whether a board seems to reach a
+//! score, and in which order a board's moves are best searched. These are hints. They save time, and every answer is
+//! right whatever they say.
+ghost use Rattle.std.specs.Prelude.{◌≡◌, ◌<◌, ◌≤ℤ◌, negsuc, IfSome};
+
+mod rule;
+
+use crate::glance::Guess;
+use crate::move_order::MoveOrder;
+use atomic_table::{Seat, Table};
+use oth_rules::{Board, Square};
+use rule::{Anything, Step};
+use std::alloc::Global;
+use std::marker::Model;
+
+// The words: for each square whether the root's move to it is settled, how many moves are, a guess, the marks, what
+// boards seem to have, and the orders.
+const SETTLED_COUNT: usize = 64;
+
+// A guess of the root's score, raised by so much, and above it the number of the move's square, or 0 for none.
+const GUESS: usize = 65;
+
+// What is added to a guess, so that 0 says that there is none.
+const GUESS_RAISED: i16 = 65;
+
+// Above so many bits of the word stands the square.
+const GUESS_BITS: u32 = 8;
+
+// The first place of a mark.
+const MARKS: usize = 66;
+
+// So many boards can be marked, each at a place that its discs tell.
+const MARK_COUNT: usize = 1024;
+
+// The first place of what a board seems to have.
+const SEEN: usize = MARKS + MARK_COUNT;
+
+// For so many boards it can be told whether they seem to have a score, each at a place that its discs and the score
+// tell.
+const SEEN_COUNT: usize = 256;
+
+// The first place of a kept order.
+const ORDERS: usize = SEEN + SEEN_COUNT;
+
+/// The hints of workers that search one board.
+#[derive(Drop)]
+pub struct Hints {
+    table: Table<u8, (), (), Anything, Global>,
+    // For so many boards an order can be kept, in two words each.
+    orders: u16,
+}
+
+impl Model for Hints {
+    ghost use Rattle.atomic_table.specs.Seated.{TableId};
+
+    ghost Value = { TableId };
+
+    ghost view = { λ h. h.table.shared.table_id };
+}
+
+impl Hints {
+    /// Hints that tell nothing yet, with room for so many orders; none where there is no memory.
+    pub fn new(alloc: Global, orders: u16) -> Option<Hints> {
+        let words = zeros(alloc, ORDERS + 2 * usize::from(orders))?;
+        match Table::of_words(alloc, words.as_slice(), &()) {
+            Ok((table, _)) => Some(Hints { table, orders }),
+            Err(_) => None,
+        }
+    }
+}
+
+// So many words, if there is memory for them.
+fn zeros(alloc: Global, count: usize) -> Option<Vec<u64>> {
+    vec![in alloc; 0u64; count].ok()
+}
+
+/// A worker's access to the hints.
+#[derive(Drop)]
+pub struct HintSeat<'h> {
+    hints: &'h Hints,
+    seat: Seat<u8, ()>,
+    ghost sits: { seat.table_id ≡ hints.now },
+}
+
+impl<'h> HintSeat<'h> {
+    /// A further access. It takes no memory.
+    pub fn of(hints: &'h Hints) -> Option<HintSeat<'h>> {
+        if hints.table.word_count() == 0 {
+            return None;
+        }
+        let (_, seat) = hints.table.shared.load_new_seat::<Step>(0);
+        Some(HintSeat { hints, seat })
+    }
+
+    // The word at this place, and 0 behind the last.
+    fn load(&mut self, word: usize) -> u64 {
+        let hints = self.hints;
+        if word >= hints.table.word_count() {
+            return 0;
+        }
+        hints.table.shared.load::<Step>(&mut self.seat, word)
+    }
+
+    // Stores a word, if its place is there.
+    fn store(&mut self, word: usize, value: u64) {
+        let hints = self.hints;
+        if word < hints.table.word_count() {
+            hints
+                .table
+                .shared
+                .store::<Step>(&mut self.seat, word, value);
+        }
+    }
+
+    // Writes the new value where the old one stands.
+    fn exchange(&mut self, word: usize, old: u64, new: u64) {
+        let hints = self.hints;
+        if word < hints.table.word_count() {
+            hints
+                .table
+                .shared
+                .compare_exchange::<Step>(&mut self.seat, word, old, new);
+        }
+    }
+
+    /// Whether the root's move needs no further search.
+    pub fn is_settled(&mut self, square: Square) -> bool {
+        self.load(usize::from(square.number())) != 0
+    }
+
+    /// Tells that the root's move needs no further search.
+    pub fn settle(&mut self, square: Square) {
+        if !self.is_settled(square) {
+            self.store(usize::from(square.number()), 1);
+            let settled = self.settled();
+            self.exchange(SETTLED_COUNT, settled, settled.wrapping_add(1));
+        }
+    }
+
+    /// How many of the root's moves need no further search. Where two are settled at the same time one may not be
+    /// counted.
+    pub fn settled(&mut self) -> u64 {
+        self.load(SETTLED_COUNT)
+    }
+
+    /// A guess of the root's score and move, if one was told.
+    pub(crate) fn guess(&mut self) -> Option<Guess> {
+        let word = self.load(GUESS);
+        let raised = word & 255;
+        if raised == 0 || raised > 129 {
+            return None;
+        }
+        let score = (raised as i16 - GUESS_RAISED) as i8;
+        let square = Square::numbered(((word >> GUESS_BITS) & 63) as u8);
+        Some(Guess::of(score, square))
+    }
+
+    /// Tells a guess of the root's score and move.
+    pub(crate) fn tell_guess(&mut self, guess: Guess) {
+        let raised = (i16::from(guess.score) + GUESS_RAISED) as u64;
+        let square = u64::from(guess.square.number());
+        self.store(GUESS, raised | (square << GUESS_BITS));
+    }
+
+    /// Whether the board seems to have at least this score, if that was told.
+    pub(crate) fn seen(&mut self, board: &Board, score: i8) -> Option<bool> {
+        let key = scored_key_of(board, score);
+        let word = self.load(seen_of(key));
+        if word | 1 == key {
+            Some(word == key)
+        } else {
+            None
+        }
+    }
+
+    /// Tells whether the board seems to have at least this score.
+    pub(crate) fn tell_seen(&mut self, board: &Board, score: i8, is_reached: bool) {
+        let key = scored_key_of(board, score);
+        let word = if is_reached { key } else { key ^ 1 };
+        self.store(seen_of(key), word);
+    }
+
+    /// Whether a worker seems to search the board.
+    pub fn is_searched(&mut self, board: &Board) -> bool {
+        let key = key_of(board);
+        self.load(mark_of(key)) == key
+    }
+
+    /// Marks the board as one that is being searched.
+    pub fn begin(&mut self, board: &Board) {
+        let key = key_of(board);
+        self.store(mark_of(key), key);
+    }
+
+    /// Takes the mark of the board away.
+    pub fn end(&mut self, board: &Board) {
+        let key = key_of(board);
+        self.exchange(mark_of(key), key, 0);
+    }
+
+    /// The order that was kept of the board's moves, if one was.
+    pub fn order_of(&mut self, board: &Board) -> Option<MoveOrder> {
+        let key = key_of(board);
+        let place = self.order_place(key)?;
+        let order = self.load(place);
+        let check = self.load(place + 1);
+        if order ^ check == key {
+            Some(MoveOrder::of_word(order))
+        } else {
+            None
+        }
+    }
+
+    /// Keeps an order of the board's moves.
+    pub fn keep_order(&mut self, board: &Board, order: MoveOrder) {
+        let key = key_of(board);
+        if let Some(place) = self.order_place(key) {
+            let word = order.word();
+            self.store(place, word);
+            self.store(place + 1, word ^ key);
+        }
+    }
+
+    // The first of the two words for the order of a board with this key, if there are any.
+    fn order_place(&self, key: u64) -> Option<usize>
+        ensures { IfSome result (λ place. place < 200000) }
+    {
+        let hints = self.hints;
+        if hints.orders == 0 {
+            return None;
+        }
+        let slot = (key >> 16) % u64::from(hints.orders);
+        Some(ORDERS + 2 * slot as usize)
+    }
+}
+
+// A number that tells the board from most others, and is not 0.
+fn key_of(board: &Board) -> u64 {
+    let own = board.own().wrapping_mul(0x9e37_79b9_7f4a_7c15);
+    let opposing = board.opp().wrapping_mul(0xc2b2_ae3d_27d4_eb4f);
+    own.wrapping_add(opposing) | 1
+}
+
+// An odd number that tells the board and the score from most others.
+fn scored_key_of(board: &Board, score: i8) -> u64 {
+    let scored = u64::from(score.unsigned_abs()).wrapping_mul(0xd6e8_feb8_6659_fd93);
+    let turned = if score < 0 { !scored } else { scored };
+    key_of(board).wrapping_add(turned) | 1
+}
+
+// The word for what a board with this key seems to have.
+fn seen_of(key: u64) -> usize {
+    SEEN + (key >> 56) as usize
+}
+
+// The word for the mark of a board with this key.
+fn mark_of(key: u64) -> usize {
+    MARKS + (key >> 54) as usize
+}

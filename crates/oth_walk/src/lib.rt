@@ -1,0 +1,28 @@
+//! One worker of a search: what it searches over, what it knows of the root, what it and the others tell each other,
+//! and how it settles the root's moves.
+#![tactic(auto)]
+
+mod access;
+mod drawn;
+mod gate;
+mod glance;
+mod height;
+mod hints;
+mod leading;
+mod move_order;
+mod narrowing;
+mod root_move;
+mod scene;
+mod walk;
+mod window;
+
+pub use access::{TableAccess, WorkerCells};
+pub use drawn::{search_item, settle_all};
+pub use gate::{Gate, Open};
+pub use height::Height;
+pub use hints::{HintSeat, Hints};
+pub use move_order::MoveOrder;
+pub use root_move::RootMove;
+pub use scene::{Plan, Scene, orders_for};
+pub use walk::Walk;
+pub use window::is_settled;

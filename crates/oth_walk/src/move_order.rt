@@ -1,0 +1,90 @@
+//! Orders of the moves of a board: one of which the first ten are told, and one that begins with a given move.
+use arrayvec::ArrayVec;
+use oth_rules::Square;
+
+// How many squares are told, in six bits each.
+const TOLD: u32 = 10;
+
+/// Ten squares, the first to be searched lowest; the last one may stand several times.
+#[derive(Clone, Copy)]
+pub struct MoveOrder {
+    word: u64,
+}
+
+impl MoveOrder {
+    /// The order that a word tells.
+    pub fn of_word(word: u64) -> MoveOrder {
+        MoveOrder { word }
+    }
+
+    /// The word that tells the order.
+    pub fn word(self) -> u64 {
+        self.word
+    }
+
+    /// An order that begins with these squares.
+    pub fn of(squares: &[Square]) -> MoveOrder {
+        let mut word = 0;
+        for place in 0..TOLD {
+            let number = match squares.get(place as usize) {
+                Some(square) => square.number(),
+                None => 0,
+            };
+            word |= u64::from(number) << (6 * place);
+        }
+        MoveOrder { word }
+    }
+
+    /// The square at this place, from 0 to 9.
+    pub fn at(self, place: u32) -> Square {
+        Square::numbered(((self.word >> (6 * (place % TOLD))) & 63) as u8)
+    }
+
+    /// The same order, but for this square, which comes first.
+    pub fn with_first(self, first: Square) -> MoveOrder {
+        let mut word = u64::from(first.number());
+        let mut count = 1;
+        for place in 0..TOLD {
+            let square = self.at(place);
+            if square != first && count < TOLD {
+                word |= u64::from(square.number()) << (6 * count);
+                count += 1;
+            }
+        }
+        MoveOrder { word }
+    }
+
+    /// Each of these squares once: first those that are told, in their order, then the others, rising.
+    pub fn of_moves(self, moves: u64) -> ArrayVec<Square, 64> {
+        let mut squares = ArrayVec::new();
+        let mut rest = moves;
+        for place in 0..TOLD {
+            let square = self.at(place);
+            if rest & square.word() != 0 {
+                rest &= !square.word();
+                let _ = squares.try_push(square);
+            }
+        }
+        for number in 0..64 {
+            let square = Square::numbered(number);
+            if rest & square.word() != 0 {
+                let _ = squares.try_push(square);
+            }
+        }
+        squares
+    }
+}
+
+/// This move first, if there is one, and then the others of these.
+pub(crate) fn beginning_with(first: Option<Square>, squares: &[Square]) -> ArrayVec<Square, 64> {
+    let mut ordered = ArrayVec::new();
+    if let Some(first) = first {
+        let _ = ordered.try_push(first);
+    }
+    for square in squares {
+        if Some(*square) != first {
+            let _ = ordered.try_push(*square);
+        }
+    }
+    ordered
+}

@@ -1,0 +1,97 @@
+//! What all workers of a search have in common.
+ghost use Rattle.std.specs.Prelude.{◌≡◌};
+
+use oth_pieces::Frontier;
+use oth_rules::{Board, Scoring, Square};
+
+// From so many empty squares on a guess that workers make pays.
+const FEWEST_EMPTIES_GUESSED: u8 = 14;
+
+// From so many empty squares on a memory for boards with few empty squares pays: it takes time to make.
+const FEWEST_EMPTIES_REMEMBERED: u8 = 10;
+
+/// The board that is solved, its frontier, its moves in the order in which they are searched, and how the search is
+/// made.
+#[derive(Clone, Copy)]
+pub struct Scene<'s> {
+    pub frontier: &'s Frontier,
+    pub root: Board,
+    pub squares: &'s [Square],
+    pub plan: Plan,
+}
+
+/// How a search is made and shared out.
+#[derive(Clone, Copy)]
+pub struct Plan {
+    pub scoring: Scoring,
+    /// Boards with fewer empty squares are searched to the end by whoever is there.
+    pub fewest: u8,
+    /// The moves of boards with more empty squares are searched by several workers together for longer, since what is
+    /// searched in vain costs most there.
+    pub dealt: u8,
+    /// Whether several workers learn from a table what the others found.
+    pub shares: bool,
+    /// Whether one worker settles all moves of the root at once.
+    pub alone: bool,
+    /// Whether they make a guess together of where the search for the root's value starts.
+    pub guesses: bool,
+    /// Whether each worker remembers boards with few empty squares.
+    pub remembers: bool,
+}
+
+impl Plan {
+    /// The plan of so many workers below a root with so many empty squares, with a table or without one.
+    pub fn of(scoring: Scoring, empties: u8, workers: u8, has_table: bool) -> Plan
+        ensures { result.scoring ≡ scoring }
+    {
+        if workers == 1 {
+            Plan::alone(scoring, empties)
+        } else {
+            Plan::together(scoring, empties, has_table)
+        }
+    }
+
+    /// The plan of one worker.
+    pub fn alone(scoring: Scoring, empties: u8) -> Plan
+        ensures { result.scoring ≡ scoring }
+    {
+        Plan {
+            scoring,
+            fewest: 64,
+            dealt: 64,
+            shares: false,
+            alone: true,
+            guesses: false,
+            remembers: empties >= FEWEST_EMPTIES_REMEMBERED,
+        }
+    }
+
+    // The plan of several workers.
+    fn together(scoring: Scoring, empties: u8, shares: bool) -> Plan
+        ensures { result.scoring ≡ scoring }
+    {
+        let (fewest, dealt) = match empties {
+            0..=19 => (10, 12),
+            _ => (11, 14),
+        };
+        Plan {
+            scoring,
+            fewest,
+            dealt,
+            shares,
+            alone: false,
+            guesses: shares && empties >= FEWEST_EMPTIES_GUESSED,
+            remembers: empties >= FEWEST_EMPTIES_REMEMBERED,
+        }
+    }
+}
+
+/// For so many boards an order of moves is kept, where the root has so many empty squares.
+pub fn orders_for(empties: u8) -> u16 {
+    match empties {
+        0..=13 => 1,
+        14..=15 => 1_024,
+        16..=17 => 4_096,
+        _ => 8_192,
+    }
+}

@@ -1,0 +1,155 @@
+//! Moves of a root that one worker settles, and the hints that workers give each other.
+
+use oth_pieces::Frontier;
+use oth_rules::samples::board;
+use oth_rules::{Board, Scoring, Square};
+use oth_search::{Answer, NoCells, Solved, order, solve_alone};
+use oth_walk::{Height, HintSeat, Hints, MoveOrder, Plan, Scene, Walk, settle_all};
+use std::process::Abort;
+use std::test::Fail;
+
+// Boards of games, of 14 empty squares.
+const BOARDS: [[u64; 2]; 3] = [
+    [0x00fc_98c0_a010_0804, 0x0402_673b_5fef_75b8],
+    [0x8080_b1df_a743_2740, 0x4f67_4620_18bc_4082],
+    [0x450b_3b61_676b_5000, 0x18a4_c49c_9884_a2f0],
+];
+
+// Boards of games, of 14 empty squares, where a side must pass after a move of a board of at least 12.
+const PASSING: [[u64; 2]; 3] = [
+    [0x0008_c0e1_a1ff_bfbf, 0x00e4_1e1e_5a00_4040],
+    [0x8080_a8d6_ea5c_0010, 0x7c6b_5628_15a2_ff00],
+    [0xe0e0_f008_0000_1000, 0x081c_0e37_ff7d_2f7f],
+];
+
+// The answer of the board of these discs by one thread that keeps nothing.
+fn answered_alone(words: [u64; 2], scoring: Scoring) -> Option<Answer> {
+    let board = Board::of(words[0], words[1]).ok()?;
+    solve_alone(&board, scoring).ok()
+}
+
+// One worker that keeps nothing settles each move, by a search of its own and as one of several, and comes to the
+// value.
+fn check_settled<R: AllocGlobal + Abort>(rt: &R, words: [u64; 2]) {
+    check_settled_by(rt, words, true);
+    check_settled_by(rt, words, false);
+}
+
+fn check_settled_by<R: AllocGlobal + Abort>(rt: &R, words: [u64; 2], alone: bool) {
+    let Some(answer) = answered_alone(words, Scoring::Winner) else {
+        panic!(rt; "no answer")
+    };
+    let Some(root) = board(words) else {
+        panic!(rt; "no board")
+    };
+    let frontier = Frontier::of(&root, 1);
+    let squares = order(&root);
+    let plan = Plan {
+        scoring: Scoring::Winner,
+        fewest: 12,
+        dealt: 64,
+        shares: false,
+        guesses: false,
+        alone,
+        remembers: false,
+    };
+    let scene = Scene {
+        frontier: &frontier,
+        root,
+        squares: squares.as_slice(),
+        plan,
+    };
+    let height = Height::Own(Solved::unknown(root, Scoring::Winner));
+    let mut walk = Walk::of(rt.alloc(), plan, NoCells, height, None);
+    settle_all(&scene, &mut walk);
+    assert!(rt; walk.settled() == squares.len() as u64);
+    assert!(rt; walk.floor() == answer.score);
+}
+
+#[test]
+fn one_worker_settles_each_move(rt: HostRuntime) {
+    for words in &BOARDS {
+        check_settled(&rt, *words);
+    }
+}
+
+#[test]
+fn one_worker_settles_each_move_before_a_pass(rt: HostRuntime) {
+    for words in &PASSING {
+        check_settled(&rt, *words);
+    }
+}
+
+fn hint_seat<'h>(hints: &'h Option<Hints>) -> Option<HintSeat<'h>> {
+    match hints {
+        Some(hints) => HintSeat::of(hints),
+        None => None,
+    }
+}
+
+#[test]
+fn a_marked_board_is_searched_until_its_mark_is_gone(rt: HostRuntime) -> Result<(), Fail> {
+    let hints = Hints::new(rt.alloc(), 1);
+    let (Some(mut mine), Some(mut theirs)) = (hint_seat(&hints), hint_seat(&hints)) else {
+        panic!(rt; "no hints")
+    };
+    let (Ok(one), Ok(other)) = (
+        Board::of(BOARDS[0][0], BOARDS[0][1]),
+        Board::of(BOARDS[1][0], BOARDS[1][1]),
+    ) else {
+        panic!(rt; "no boards")
+    };
+    assert!(rt; !theirs.is_searched(&one) && !theirs.is_searched(&other));
+    mine.begin(&one);
+    assert!(rt; theirs.is_searched(&one) && !theirs.is_searched(&other));
+    mine.end(&other);
+    assert!(rt; theirs.is_searched(&one));
+    mine.end(&one);
+    assert!(rt; !theirs.is_searched(&one));
+    Ok(())
+}
+
+#[test]
+fn moves_are_settled_one_by_one(rt: HostRuntime) {
+    let hints = Hints::new(rt.alloc(), 1);
+    let (Some(mut mine), Some(mut theirs)) = (hint_seat(&hints), hint_seat(&hints)) else {
+        panic!(rt; "no hints")
+    };
+    assert!(rt; theirs.settled() == 0);
+    for number in 0..64 {
+        let square = Square::numbered(number);
+        assert!(rt; !theirs.is_settled(square));
+        mine.settle(square);
+        mine.settle(square);
+        assert!(rt; theirs.is_settled(square) && theirs.settled() == u64::from(number) + 1);
+    }
+}
+
+#[test]
+fn an_order_is_kept_for_its_board(rt: HostRuntime) {
+    let hints = Hints::new(rt.alloc(), 64);
+    let (Some(mut mine), Some(mut theirs)) = (hint_seat(&hints), hint_seat(&hints)) else {
+        panic!(rt; "no hints")
+    };
+    let (Ok(board), Ok(other)) = (
+        Board::of(BOARDS[0][0], BOARDS[0][1]),
+        Board::of(BOARDS[1][0], BOARDS[1][1]),
+    ) else {
+        panic!(rt; "no boards")
+    };
+    let squares = order(&board);
+    assert!(rt; theirs.order_of(&board).is_none());
+    mine.keep_order(&board, MoveOrder::of(squares.as_slice()));
+    assert!(rt; theirs.order_of(&other).is_none());
+    let Some(kept) = theirs.order_of(&board) else {
+        panic!(rt; "no order")
+    };
+    assert!(rt; kept.of_moves(board.moves()).as_slice() == squares.as_slice());
+    let Some(last) = squares.as_slice().last() else {
+        panic!(rt; "no moves")
+    };
+    let turned = kept.with_first(*last).of_moves(board.moves());
+    assert!(rt; turned.len() == squares.len());
+    assert!(rt; turned.as_slice().first() == Some(last));
+    assert!(rt; turned.as_slice().get(1) == squares.as_slice().first());
+}

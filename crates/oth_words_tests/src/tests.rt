@@ -1,0 +1,100 @@
+//! Command lines, what is asked by them, and the kinds of their faults.
+use clap::Error;
+use clap::error::ErrorKind;
+use oth_rules::Scoring;
+use oth_words::{Command, Settings, Words, read_words};
+use std::alloc::Global;
+
+fn kind_of_error(alloc: Global, words: &[&str]) -> Option<ErrorKind> {
+    match read_words(alloc, words) {
+        Ok(_) => None,
+        Err(error) => Some(error.kind()),
+    }
+}
+
+const DEFAULTS: Settings = Settings {
+    command: Command::Solve,
+    workers: 1,
+    cells: 65536,
+    scoring: Scoring::Winner,
+};
+
+#[test]
+fn solve_has_defaults_and_takes_values(rt: HostRuntime) {
+    let words = ["othsolve", "solve"];
+    match read_words(rt.alloc(), words.as_slice()).expect(&rt, "words") {
+        Words::Run(settings, None) => assert!(rt; settings == DEFAULTS),
+        _ => panic!(rt; "another command"),
+    }
+    let words = [
+        "othsolve",
+        "solve",
+        "--workers",
+        "16",
+        "--cells=0",
+        "--scoring",
+        "discs",
+        "--book",
+        "a.book",
+    ];
+    match read_words(rt.alloc(), words.as_slice()).expect(&rt, "words") {
+        Words::Run(settings, Some(book)) => {
+            assert!(rt;
+                settings
+                    == Settings {
+                        command: Command::Solve,
+                        workers: 16,
+                        cells: 0,
+                        scoring: Scoring::Discs
+                    }
+            );
+            assert!(rt; book.as_str() == "a.book");
+        }
+        _ => panic!(rt; "another command"),
+    }
+}
+
+#[test]
+fn the_words_of_a_book_name_its_file(rt: HostRuntime) {
+    let words = ["othsolve", "book-verify", "a.book"];
+    match read_words(rt.alloc(), words.as_slice()).expect(&rt, "words") {
+        Words::Verify(file) => assert!(rt; file.as_str() == "a.book"),
+        _ => panic!(rt; "another command"),
+    }
+    let words = ["othsolve", "book-add", "--cells", "64", "a.book"];
+    match read_words(rt.alloc(), words.as_slice()).expect(&rt, "words") {
+        Words::Add(settings, file) => {
+            assert!(rt;
+                settings
+                    == Settings {
+                        command: Command::Solve,
+                        workers: 1,
+                        cells: 64,
+                        scoring: Scoring::Winner
+                    }
+            );
+            assert!(rt; file.as_str() == "a.book");
+        }
+        _ => panic!(rt; "another command"),
+    }
+}
+
+#[test]
+fn each_refused_line_has_its_kind_of_fault(rt: HostRuntime) {
+    let words = ["othsolve", "solve", "--workers", "17"];
+    assert!(rt; kind_of_error(rt.alloc(), words.as_slice()) == Some(ErrorKind::ValueValidation));
+    let words = ["othsolve", "solve", "--scoring", "stones"];
+    assert!(rt; kind_of_error(rt.alloc(), words.as_slice()) == Some(ErrorKind::InvalidValue));
+    let words = ["othsolve", "moves", "--cells", "1"];
+    assert!(rt; kind_of_error(rt.alloc(), words.as_slice()) == Some(ErrorKind::UnknownArgument));
+    let words = ["othsolve", "book-verify"];
+    assert!(rt;
+        kind_of_error(rt.alloc(), words.as_slice()) == Some(ErrorKind::MissingRequiredArgument)
+    );
+    let words = ["othsolve"];
+    assert!(rt; kind_of_error(rt.alloc(), words.as_slice()) == Some(ErrorKind::MissingSubcommand));
+    let words = ["othsolve", "help"];
+    assert!(rt; kind_of_error(rt.alloc(), words.as_slice()) == Some(ErrorKind::DisplayHelp));
+    let words = ["othsolve", "--version"];
+    assert!(rt; kind_of_error(rt.alloc(), words.as_slice()) == Some(ErrorKind::DisplayVersion));
+}
