@@ -1,19 +1,65 @@
 #!/usr/bin/env python3
-"""Measures what each crate takes from nothing: its proof, its tests and its edits, and prints a table for CONTRIBUTING.md.
+"""Runs the gate, or a part of it, and prints what each crate took of it: its proof, its tests and its edits.
 
-    bench/times.py [CRATE ..]
+    bench/times.py [COMMAND ..]
 
-It works on a copy of the last commit in a folder of its own, lowest crate first. Of each crate, or of those that are named, `rt check`,
-`rt test` and `rt must-fail` are run in this order, and timed in seconds by the clock. A library is built within the time of the first
-crate that stands on it. Leave the machine alone meanwhile. The exit status is 1 where a run failed.
+The command, `./check` if none is given, is run at the top of this repository, and what it prints goes through, each line behind the
+minutes since the start. Meanwhile the prover's processes are looked at each second. The table at the end tells the seconds of processor
+time that they took, by crate: its own proof, the proof of its tests, and its must-fail edits. Then come the minutes of the whole by the
+clock. What a process takes after it was last looked at is not seen, so a row is short by up to a second a process. Leave the machine
+alone meanwhile. The exit status is the command's.
 """
+import collections
+import os
 import pathlib
 import subprocess
 import sys
-import tempfile
+import threading
 import time
 
 ROOT = pathlib.Path(__file__).resolve().parent.parent
+PARTS = ("proof", "tests", "edits")
+TICKS = os.sysconf("SC_CLK_TCK")
+
+
+class Seen:
+    """What the prover's processes took so far: of each the crate and the part that it works for, and its seconds."""
+
+    def __init__(self):
+        self.taken = {}
+
+    def look(self):
+        for process in os.listdir("/proc"):
+            if not process.isdigit():
+                continue
+            try:
+                words = pathlib.Path(f"/proc/{process}/cmdline").read_bytes().decode(errors="replace").split("\0")
+                if not words[0].endswith("bin/rattle") or "--crate-name" not in words:
+                    continue
+                folder = os.readlink(f"/proc/{process}/cwd")
+                fields = pathlib.Path(f"/proc/{process}/stat").read_text(errors="replace").rsplit(")", 1)[1].split()
+            except OSError:
+                continue
+            crate = words[words.index("--crate-name") + 1]
+            seconds = (int(fields[11]) + int(fields[12])) / TICKS
+            # A process is told by its number and by when it started.
+            self.taken[process, fields[19]] = (crate, part(crate, words, folder), seconds)
+
+    def table(self):
+        """Seconds by crate and part."""
+        sums = collections.defaultdict(collections.Counter)
+        for crate, name, seconds in self.taken.values():
+            sums[crate][name] += seconds
+        return sums
+
+
+def part(crate, words, folder):
+    """What a process of the prover works for: a part of the gate in this repository, or something beside it."""
+    if os.path.basename(folder).startswith("rt-edit-"):
+        return "edits"
+    if not folder.startswith(f"{ROOT}/"):
+        return "beside"
+    return "tests" if any(word.endswith(f"{crate}_tests.o") for word in words) else "proof"
 
 
 def crates():
@@ -22,37 +68,35 @@ def crates():
     return [line.split(":")[0].split()[0] for line in lines if line.strip() and not line.startswith("#")]
 
 
-def seconds(folder, *words):
-    """How long the command takes there; its last line is shown where it fails."""
-    began = time.monotonic()
-    ran = subprocess.run(words, cwd=folder, stdout=subprocess.PIPE, stderr=subprocess.STDOUT, text=True)
-    if ran.returncode != 0:
-        print(f"{' '.join(words)} in {folder.name}: status {ran.returncode}: {ran.stdout.strip()[-200:]}", file=sys.stderr)
-    return time.monotonic() - began, ran.returncode == 0
+def show(sums):
+    """Prints the table, and what was made beside the gate."""
+    print("| Crate | its proof | its tests | its edits |\n|---|---|---|---|")
+    for crate in crates():
+        print(f"| `{crate}` | " + " | ".join(f"{sums[crate][name]:.0f}" if sums[crate][name] else "" for name in PARTS) + " |")
+    whole = [sum(row[name] for row in sums.values()) / 60 for name in (*PARTS, "beside")]
+    print("| all, in minutes | " + " | ".join(f"{minutes:.1f}" for minutes in whole[:3]) + " |")
+    print(f"beside the gate: {whole[3]:.1f} minutes")
 
 
 def main():
-    chosen = sys.argv[1:] or crates()
-    every = True
-    sums = [0.0, 0.0, 0.0]
-    print("| Crate | `rt check` | `rt test` | `rt must-fail` |\n|---|---|---|---|", flush=True)
-    with tempfile.TemporaryDirectory() as folder:
-        top = pathlib.Path(folder) / "copy"
-        subprocess.run(["git", "clone", "-q", ROOT, top], check=True)
-        for crate in filter(chosen.__contains__, crates()):
-            own = top / "crates" / crate
-            tested = any("#[test]" in path.read_text(encoding="utf-8") for path in own.glob("src/**/*.rt"))
-            runs = [(own, "rt", "check"), (own, "rt", "test") if tested else None]
-            runs.append((top, "rt", "must-fail", crate) if any(own.glob("must-fail/*.edit")) else None)
-            row = []
-            for at, run in enumerate(runs):
-                took, passed = seconds(*run) if run else (0.0, True)
-                every = every and passed
-                sums[at] += took
-                row.append(f"{took:.0f} s" if run else "")
-            print(f"| `{crate}` | " + " | ".join(row) + " |", flush=True)
-    print("| all, one after the other | " + " | ".join(f"{total / 60:.0f} min" for total in sums) + " |")
-    return 0 if every else 1
+    command = sys.argv[1:] or ["./check"]
+    began = time.monotonic()
+    seen = Seen()
+    ran = subprocess.Popen(command, cwd=ROOT, stdout=subprocess.PIPE, stderr=subprocess.STDOUT, text=True, errors="replace")
+
+    def pass_on():
+        for line in ran.stdout:
+            print(f"{(time.monotonic() - began) / 60:6.2f} {line}", end="", flush=True)
+
+    printing = threading.Thread(target=pass_on)
+    printing.start()
+    while ran.poll() is None:
+        seen.look()
+        time.sleep(1)
+    printing.join()
+    show(seen.table())
+    print(f"{' '.join(command)}: status {ran.returncode} after {(time.monotonic() - began) / 60:.1f} minutes")
+    return ran.returncode
 
 
 sys.exit(main())
