@@ -16,8 +16,14 @@ const FEW_EMPTIES: u8 = 8;
 // No board has more moves.
 const ALL: usize = 64;
 
-// Of each board but the first so many moves are tried.
+// Of a board right after the first, where many plies follow, so many moves are tried.
+const WIDTH_AT_FIRST: usize = 3;
+
+// Of each further board so many.
 const WIDTH: usize = 2;
+
+// From so many plies on at the first board these are many.
+const MANY_PLIES: u8 = 8;
 
 // The most rounds of a guess.
 const ROUNDS: u8 = 12;
@@ -27,6 +33,17 @@ const ROUNDS: u8 = 12;
 struct Sight {
     plies: u8,
     width: usize,
+}
+
+impl Sight {
+    // How many moves of the boards below are tried.
+    fn width_below(self) -> usize {
+        if self.width == ALL && self.plies >= MANY_PLIES {
+            WIDTH_AT_FIRST
+        } else {
+            WIDTH
+        }
+    }
 }
 
 /// The least value that a reply seems to have. The reply that seems to have it comes to the front.
@@ -141,7 +158,7 @@ fn glance<C: Cells>(board: Board, alpha: i8, sight: Sight, cells: &mut C, scorin
     }
     let below = Sight {
         plies: sight.plies - 1,
-        width: WIDTH,
+        width: sight.width_below(),
     };
     if board.moves() != 0 {
         return glance_at_moves(&board, alpha, sight, cells, scoring);
@@ -170,7 +187,7 @@ fn glance_at_moves<C: Cells>(
     let mut best = -64;
     let below = Sight {
         plies: sight.plies - 1,
-        width: WIDTH,
+        width: sight.width_below(),
     };
     let squares = order(board);
     for (tried, square) in squares.as_slice().iter().enumerate() {

@@ -15,7 +15,7 @@ use oth_rules::{Board, Scoring};
 // From so many empty squares on a guess tells where to start.
 const FEWEST_EMPTIES_GUESSED: u8 = 14;
 
-// So often a start that no move reaches is lowered.
+// So often a start that no move reaches is lowered: first to the most that the root may still have, and then further.
 const ROUNDS: u8 = 6;
 
 /// The boards after the root's moves, each with bounds of its value. One with the best score is searched to its value,
@@ -106,13 +106,13 @@ fn leader<C: Cells>(replies: &mut [Solved], start: i8, limit: i8, cells: &mut C)
     ensures fixed { C.fixed cells.new ≡ C.fixed cells.old }
 {
     let mut most = start;
-    let mut step = 2;
+    let mut step = 1;
     for _ in 0..ROUNDS {
         let found = reaching(replies, most, cells);
         if found.is_some() {
             return found;
         }
-        most = lowered(least_lower(replies), step, limit);
+        most = lowered(least_lower(replies), step - 1, limit);
         step = wider(step);
     }
     reaching(replies, limit, cells)
@@ -121,7 +121,7 @@ fn leader<C: Cells>(replies: &mut [Solved], start: i8, limit: i8, cells: &mut C)
 // A start so much above the least lower bound, and at most the limit.
 fn lowered(least: i8, step: i8, limit: i8) -> i8
     requires least { IsScore least }
-    requires shortest { pos 1 ≤ℤ step }
+    requires shortest { pos 0 ≤ℤ step }
     requires longest { step ≤ℤ pos 63 }
     requires limit { IsScore limit }
     ensures { IsScore result }

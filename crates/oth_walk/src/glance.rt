@@ -13,8 +13,15 @@ use oth_search::Cells;
 // Boards with no more empty squares are searched in full.
 const FEW_EMPTIES: u8 = 8;
 
-// All moves of the root are tried and all replies to them, and of each board below a reply so many moves.
+// All moves of the root are tried and all replies to them. Of the board after a reply, where many plies follow, so many
+// moves are tried.
+const WIDTH_AT_FIRST: usize = 3;
+
+// Of each further board so many.
 const WIDTH: usize = 2;
+
+// From so many plies on below a reply these are many.
+const MANY_PLIES: u8 = 7;
 
 // The most scores that are asked for.
 const ROUNDS: u8 = 12;
@@ -250,22 +257,34 @@ fn leaves<C: Cells>(reply: &Board, score: i8, walk: &mut Walk<C>) -> bool
     }
     let plies = reply.empties().saturating_sub(FEW_EMPTIES);
     walk.begin(reply);
-    let found = reaches(*reply, Window::at(score), plies, walk);
+    let width = if plies >= MANY_PLIES {
+        WIDTH_AT_FIRST
+    } else {
+        WIDTH
+    };
+    let found = reaches(*reply, Window::at(score), plies, width, walk);
     walk.tell_seen(reply, score, found);
     walk.end(reply);
     found
 }
 
-// Whether the board's value seems to be above the null window, by so many plies of few moves.
+// Whether the board's value seems to be above the null window, by so many plies of few moves, and of the board's own
+// moves by so many.
 #[cycle(glancing)]
-fn reaches<C: Cells>(board: Board, window: Window, plies: u8, walk: &mut Walk<C>) -> bool {
+fn reaches<C: Cells>(
+    board: Board,
+    window: Window,
+    plies: u8,
+    width: usize,
+    walk: &mut Walk<C>,
+) -> bool {
     if plies == 0 || board.is_over() {
         return window.is_reached(search_alone(&board, window, walk).interval.lower);
     }
     if !can_move(&board) {
-        return !reaches(board.pass(), window.turned(), plies - 1, walk);
+        return !reaches(board.pass(), window.turned(), plies - 1, WIDTH, walk);
     }
-    reaches_by_moves(&board, window, plies - 1, walk)
+    reaches_by_moves(&board, window, plies - 1, width, walk)
 }
 
 // The same by its first moves, where it has some.
@@ -274,15 +293,16 @@ fn reaches_by_moves<C: Cells>(
     board: &Board,
     window: Window,
     plies: u8,
+    width: usize,
     walk: &mut Walk<C>,
 ) -> bool {
     let squares = walk.order(board);
     for (tried, square) in squares.as_slice().iter().enumerate() {
-        if tried == WIDTH {
+        if tried == width {
             break;
         }
         if let Some(child) = board.play(*square) {
-            if !reaches(child, window.turned(), plies, walk) {
+            if !reaches(child, window.turned(), plies, WIDTH, walk) {
                 return true;
             }
         }

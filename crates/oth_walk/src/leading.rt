@@ -7,23 +7,23 @@ use arrayvec::ArrayVec;
 use oth_rules::Square;
 use oth_search::Cells;
 
-// So often a guess that no move reaches is lowered.
+// So often a guess that no move reaches is lowered: first to the most that the root may still reach.
 const ROUNDS: u32 = 6;
 
-// It is first lowered by so much below what the root can reach.
-const FIRST_STEP: i8 = 2;
+// The second time it is lowered by so much below that.
+const SECOND_STEP: i8 = 2;
 
 /// Asks the root's moves for what the root seems to reach until there is a floor, the move that seems best first. Where
 /// no move reaches it, they are asked for less.
 pub(crate) fn lead<C: Cells>(scene: &Scene, walk: &mut Walk<C>) {
-    let mut step = FIRST_STEP;
+    let mut step = 0;
     for _ in 0..ROUNDS {
         if walk.floor() > -64 {
             return;
         }
         let most = ask_all(scene, walk);
         walk.lower_guess(&scene.root, most.saturating_sub(step));
-        step = step.saturating_add(step);
+        step = step.saturating_add(step).saturating_add(SECOND_STEP);
     }
 }
 
