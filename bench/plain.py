@@ -10,6 +10,9 @@ take from the toolchain's libraries stands in bench/plain. It is for measuring a
 pays there is then brought into the crates. It needs `rustc`; the levels of the processor and of the optimizer are those
 of the program.
 
+TREE may be an earlier commit, as `git worktree add /tmp/before COMMIT` lays it out: the copy takes those of the crates that
+it has. Where it has no oth_walk, as commit d59b2f3, the copy counts no boards. `bench/beside.py` compares such copies.
+
     OUT/plain WORKERS CELLS FILE [RUNS]    as `OUT/plain 1,2,4 65536 bench/game-16.txt 5`; see bench/plain/counting.rs
 """
 import os
@@ -21,12 +24,12 @@ import sys
 ROOT = pathlib.Path(__file__).resolve().parent.parent
 CRATES = ["oth_history", "oth_rules", "oth_search", "oth_table", "oth_pieces", "oth_walk", "oth_pool"]
 LIBRARIES = ["shim", "arrayvec", "atomic_table", "crossbeam_deque", "oth_book", "counting"]
-FROM_SHIM = r"std::(?:alloc|thread)::"
+FROM_SHIM = r"std::(?:(?:alloc|thread)::|(?=thread;))"
 
 # Where the copy counts: a file, a line (or a part of one) that stands in it once, and what takes its place.
 COUNTS = [
-    ("oth_walk/access.rs", "        self.memory.recall(board, scoring)\n",
-     "        crate::counting::count(board);\n        self.memory.recall(board, scoring)\n"),
+    ("oth_search/deep.rs", "    let told = recalled(&node.board, cells, scoring);\n",
+     "    crate::counting::count(&node.board);\n    let told = recalled(&node.board, cells, scoring);\n"),
     ("oth_walk/glance.rs", "    let squares = walk.order(root);\n    let mut best = match",
      "    let _guess = crate::counting::For::part(crate::counting::Part::Guess);\n"
      "    let squares = walk.order(root);\n    let mut best = match"),
@@ -57,8 +60,8 @@ def without_blocks(text, head, behind=""):
     return text
 
 
-def plain(text, crate):
-    """The code of a file without what is there for the prover."""
+def plain(text, crate, crates):
+    """The code of a file of one of the crates without what is there for the prover."""
     text = re.sub(r"^ *//.*\n", "", text, flags=re.M)
     text = re.sub(r"^ *ghost use [^;]*;\n", "", text, flags=re.M)
     text = without_blocks(text, r"^impl(?:<[^{]*?>)? Model for [^{]*\{")
@@ -73,7 +76,7 @@ def plain(text, crate):
     text = re.sub(r"^use (?:std::marker::Model|thiserror::Error);\n", "", text, flags=re.M)
     text = re.sub(r"\bcrate::", f"crate::{crate}::", text)
     text = re.sub(rf"^use {FROM_SHIM}", "use crate::shim::", text, flags=re.M)
-    names = "|".join(CRATES + LIBRARIES)
+    names = "|".join(crates + LIBRARIES)
     text = re.sub(rf"(?<!::)\b({names})::", r"crate::\1::", text)
     needed = [name for name in ("Box", "Vec", "vec") if re.search(rf"\b{name}(?:<|::|!)", text)]
     if needed:
@@ -84,21 +87,22 @@ def plain(text, crate):
 def copy_of(tree):
     """The files of the copy: a text for each path."""
     files = {}
-    for crate in CRATES:
+    crates = [crate for crate in CRATES if (tree / "crates" / crate / "src").is_dir()]
+    for crate in crates:
         source = tree / "crates" / crate / "src"
         for path in sorted(source.rglob("*.rt")):
             name = path.relative_to(source)
             if name.parts[0] in ("tests", "tests.rt"):
                 continue
             place = f"{crate}/mod.rs" if str(name) == "lib.rt" else f"{crate}/{name.with_suffix('.rs')}"
-            files[place] = plain(path.read_text(encoding="utf-8"), crate)
-    for path, old, new in COUNTS:
+            files[place] = plain(path.read_text(encoding="utf-8"), crate, crates)
+    for path, old, new in COUNTS if "oth_walk" in crates else []:
         if files[path].count(old) != 1:
             raise SystemExit(f"bench/plain.py: where the copy counts has changed: {path}: {old.strip()!r}")
         files[path] = files[path].replace(old, new)
     for library in LIBRARIES:
         files[f"{library}.rs"] = (ROOT / "bench" / "plain" / f"{library}.rs").read_text(encoding="utf-8")
-    modules = "".join(f"mod {name};\n" for name in LIBRARIES + CRATES)
+    modules = "".join(f"mod {name};\n" for name in LIBRARIES + crates)
     files["main.rs"] = ("#![feature(portable_simd)]\n#![allow(dead_code, unused)]\n"
                         + modules + "\nfn main() {\n    counting::main();\n}\n")
     return files

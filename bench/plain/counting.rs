@@ -4,7 +4,8 @@
 //!
 //! A line for each board and number of workers, and for all boards: the seconds (of each board the least of the runs),
 //! the boards of 6 to 8 empty squares that were searched (the mean of the runs) and how many of them for the guess of
-//! the score, and beside the first number of workers how many times as fast and how many times the boards.
+//! the score, and beside the first number of workers how many times as fast and how many times the boards; behind a
+//! board's the score and the best moves, as a word with the bit of A1 lowest.
 
 use crate::oth_pool::{Open, solve};
 use crate::oth_rules::{Board, Scoring};
@@ -104,10 +105,10 @@ fn board_of(line: &str) -> Board {
     Board::of(own, word(other)).ok().expect("no square is held twice")
 }
 
-fn show(name: &str, crews: &[u8], figures: &[Figures]) {
+fn show(name: &str, crews: &[u8], figures: &[Figures], answer: &str) {
     for (workers, found) in crews.iter().zip(figures) {
         println!(
-            "{name:>5} {workers:>2} workers {:9.4} s {:12.0} boards, {:10.0} for the guess, x {:.2} as fast, x {:.2} boards",
+            "{name:>5} {workers:>2} workers {:11.6} s {:12.0} boards, {:10.0} for the guess, x {:.2} as fast, x {:.2} boards{answer}",
             found.seconds,
             found.boards(),
             found.guess,
@@ -153,12 +154,13 @@ pub fn main() {
     }
     let mut all = vec![Figures::default(); crews.len()];
     for (number, row) in table.iter().enumerate() {
-        show(&(number + 1).to_string(), &crews, row);
+        let (score, best): (i8, u64) = answers[number].expect("a run at least");
+        show(&(number + 1).to_string(), &crews, row, &format!("; {score:+} {best:016x}"));
         for (sum, found) in all.iter_mut().zip(row) {
             sum.seconds += found.seconds;
             sum.search += found.search;
             sum.guess += found.guess;
         }
     }
-    show("all", &crews, &all);
+    show("all", &crews, &all, "");
 }

@@ -5,7 +5,7 @@ ghost use Rattle.oth_rules.specs.Move.{can_move};
 ghost use Rattle.oth_rules.specs.Score.{score_of};
 ghost use Rattle.oth_rules.specs.Value.{value};
 ghost use Rattle.oth_rules.specs.Symmetry.{IsCanonical};
-ghost use Rattle.oth_search.specs.Bound.{BoundsAt, IsThreshold};
+ghost use Rattle.oth_search.specs.Bound.{BoundsAt, Encloses, IsThreshold};
 ghost use Rattle.oth_search.specs.Children.{IsChild};
 
 use crate::cells::Cells;
@@ -27,6 +27,9 @@ const FEWEST_EMPTIES_REMEMBERED: u8 = 5;
 // Boards with fewer empty squares are searched without an order.
 const FEWEST_EMPTIES_ORDERED: u8 = 6;
 
+// The children of boards with fewer empty squares are not looked up before they are searched.
+const FEWEST_EMPTIES_TOLD: u8 = 8;
+
 // Boards with fewer empty squares are remembered and not kept.
 const FEWEST_EMPTIES_KEPT: u8 = 9;
 
@@ -39,9 +42,9 @@ pub fn probe_with<C: Cells>(board: Board, alpha: i8, cells: &mut C, scoring: Sco
     probe_node(Node::of(board), alpha, cells, scoring)
 }
 
-// The same, where the moves are known.
+/// The same, where the moves are known.
 #[cycle(deep)]
-fn probe_node<C: Cells>(node: Node, alpha: i8, cells: &mut C, scoring: Scoring) -> i8
+pub fn probe_node<C: Cells>(node: Node, alpha: i8, cells: &mut C, scoring: Scoring) -> i8
     requires { IsThreshold alpha }
     ensures value { BoundsAt (value (score_of scoring) node.board) alpha result }
     ensures fixed { C.fixed cells.new ≡ C.fixed cells.old }
@@ -116,7 +119,7 @@ fn probe_ordered<C: Cells>(node: Node, alpha: i8, cells: &mut C, scoring: Scorin
     if empties < FEWEST_EMPTIES_ORDERED {
         return probe_few(node, alpha, scoring);
     }
-    if empties <= 8 {
+    if empties < FEWEST_EMPTIES_TOLD {
         return probe_short(node, alpha, cells, scoring);
     }
     if empties < FEWEST_EMPTIES_LOOKED {
@@ -125,7 +128,7 @@ fn probe_ordered<C: Cells>(node: Node, alpha: i8, cells: &mut C, scoring: Scorin
     probe_long(node, alpha, cells, scoring)
 }
 
-// The same, where at most eight squares are empty. A function of its own for each length of the list: the blank places
+// The same, where at most seven squares are empty. A function of its own for each length of the list: the blank places
 // of a long one take time to fill.
 #[inline(never)]
 #[cycle(deep)]
@@ -135,11 +138,11 @@ fn probe_short<C: Cells>(node: Node, alpha: i8, cells: &mut C, scoring: Scoring)
     ensures value { BoundsAt (value (score_of scoring) node.board) alpha result }
     ensures fixed { C.fixed cells.new ≡ C.fixed cells.old }
 {
-    let list: ArrayVec<Child, 8> = children(&node);
+    let list: ArrayVec<Child, 7> = children(&node);
     probe_children(node, list.as_slice(), alpha, cells, scoring)
 }
 
-// The same, where few more are empty.
+// The same, where few more are empty: the children are looked up, unless that takes an image of each.
 #[inline(never)]
 #[cycle(deep)]
 fn probe_middle<C: Cells>(node: Node, alpha: i8, cells: &mut C, scoring: Scoring) -> i8
@@ -149,6 +152,11 @@ fn probe_middle<C: Cells>(node: Node, alpha: i8, cells: &mut C, scoring: Scoring
     ensures fixed { C.fixed cells.new ≡ C.fixed cells.old }
 {
     let list: ArrayVec<Child, 10> = children(&node);
+    if node.board.empties() <= FEWEST_EMPTIES_KEPT {
+        if let Some(found) = told_above(&node.board, list.as_slice(), alpha, cells, scoring) {
+            return found;
+        }
+    }
     probe_children(node, list.as_slice(), alpha, cells, scoring)
 }
 
@@ -162,7 +170,7 @@ fn probe_long<C: Cells>(node: Node, alpha: i8, cells: &mut C, scoring: Scoring) 
     ensures fixed { C.fixed cells.new ≡ C.fixed cells.old }
 {
     let list: ArrayVec<Child, 32> = children(&node);
-    if let Some(found) = known_above(&node.board, list.as_slice(), alpha, cells, scoring) {
+    if let Some(found) = told_above(&node.board, list.as_slice(), alpha, cells, scoring) {
         return found;
     }
     let looked: ArrayVec<Child, 32> = looked_at(&node, list.as_slice());
@@ -204,8 +212,8 @@ fn probe_children<C: Cells>(
     best
 }
 
-// A bound above `alpha`, if the cells tell one of a child.
-fn known_above<C: Cells>(
+// A bound above `alpha`, if what is told of a child gives one.
+fn told_above<C: Cells>(
     parent: &Board,
     children: &[Child],
     alpha: i8,
@@ -218,14 +226,25 @@ fn known_above<C: Cells>(
 {
     for child in children {
         if child.moves != 0 {
-            let known = known(&child.board.canonical().0, cells, scoring);
-            let reply = -known.interval.upper;
+            let told = told(&child.board, cells, scoring);
+            let reply = -told.interval.upper;
             if reply > alpha {
                 return Some(reply);
             }
         }
     }
     None
+}
+
+// What is told of the board's value: by the memory where few squares are empty, and else by the cells.
+fn told<C: Cells>(board: &Board, cells: &mut C, scoring: Scoring) -> Solved
+    ensures value { Encloses result.interval.lower result.interval.upper (value (score_of scoring) board.now) }
+    ensures fixed { C.fixed cells.new ≡ C.fixed cells.old }
+{
+    if board.empties() < FEWEST_EMPTIES_KEPT {
+        return recalled(board, cells, scoring);
+    }
+    known(&board.canonical().0, cells, scoring)
 }
 
 /// What the cells tell of a canonical board.

@@ -1,29 +1,41 @@
 //! A guess of the value of a root by a search of few moves, to start from. No answer depends on it.
 ghost use Rattle.std.specs.Prelude.{◌≡◌, ◌<◌, ◌≤◌, ◌≤ℤ◌, pos, length};
+ghost use Rattle.std.specs.List.{All};
 ghost use Rattle.oth_rules.specs.Laws.{IsScore};
 ghost use Rattle.oth_search.specs.Bound.{IsThreshold};
+ghost use Rattle.oth_search.specs.Children.{IsChild};
 
 use crate::cells::Cells;
-use crate::deep::probe_with;
+use crate::child::Child;
+use crate::children::{children, looked_at, next_child};
+use crate::deep::probe_node;
 use crate::interval::{Interval, greater, lesser};
-use crate::ordering::order;
+use crate::node::Node;
 use crate::solved::Solved;
+use crate::squares::without;
+use arrayvec::ArrayVec;
 use oth_rules::{Board, Scoring};
 
 // Boards with no more empty squares are searched in full.
-const FEW_EMPTIES: u8 = 8;
+const FEW_EMPTIES: u8 = 6;
 
 // No board has more moves.
 const ALL: usize = 64;
 
-// Of a board right after the first, where many plies follow, so many moves are tried.
+// Of the board after a reply, where many plies follow, so many moves are tried.
 const WIDTH_AT_FIRST: usize = 3;
 
 // Of each further board so many.
 const WIDTH: usize = 2;
 
-// From so many plies on at the first board these are many.
-const MANY_PLIES: u8 = 8;
+// From so many plies on below a reply these are many.
+const MANY_PLIES: u8 = 7;
+
+// So many moves of a board are ranked; any others come last.
+const MOST_RANKED: usize = 12;
+
+// The children of boards with fewer empty squares are ranked without a look at them.
+const FEWEST_EMPTIES_LOOKED: u8 = 13;
 
 // The most rounds of a guess.
 const ROUNDS: u8 = 12;
@@ -36,13 +48,51 @@ struct Sight {
 }
 
 impl Sight {
-    // How many moves of the boards below are tried.
-    fn width_below(self) -> usize {
-        if self.width == ALL && self.plies >= MANY_PLIES {
-            WIDTH_AT_FIRST
-        } else {
-            WIDTH
+    // Of a board after a move of the root: all replies are tried.
+    fn after_move(board: &Board) -> Sight {
+        Sight {
+            plies: plies_from(board),
+            width: ALL,
         }
+    }
+
+    // Of a board after a reply.
+    fn after_reply(board: &Board) -> Sight {
+        let plies = plies_from(board);
+        Sight {
+            plies,
+            width: width_after_reply(plies),
+        }
+    }
+
+    // A ply on.
+    fn below(self) -> Sight
+        requires { 0 < self.plies }
+        ensures { result.plies < self.plies }
+    {
+        let plies = self.plies - 1;
+        Sight {
+            plies,
+            width: if self.width == ALL {
+                width_after_reply(plies)
+            } else {
+                WIDTH
+            },
+        }
+    }
+}
+
+// The plies before a board is searched in full.
+fn plies_from(board: &Board) -> u8 {
+    board.empties().saturating_sub(FEW_EMPTIES)
+}
+
+// How many moves of a board after a reply are tried, where so many plies follow.
+fn width_after_reply(plies: u8) -> usize {
+    if plies >= MANY_PLIES {
+        WIDTH_AT_FIRST
+    } else {
+        WIDTH
     }
 }
 
@@ -139,41 +189,45 @@ fn glance_at<C: Cells>(reply: &Solved, alpha: i8, cells: &mut C) -> i8
     ensures score { IsScore result }
     ensures fixed { C.fixed cells.new ≡ C.fixed cells.old }
 {
-    let sight = Sight {
-        plies: reply.board.empties().saturating_sub(FEW_EMPTIES),
-        width: ALL,
-    };
-    glance(reply.board, alpha, sight, cells, reply.scoring)
+    let sight = Sight::after_move(&reply.board);
+    glance(Node::of(reply.board), alpha, sight, cells, reply.scoring)
+}
+
+/// The value that the board after a reply to a root's move seems to have, by a search of few moves: a bound on its side
+/// of `alpha`, -64 to 63. No answer depends on it.
+pub fn seeming_value<C: Cells>(board: Board, alpha: i8, cells: &mut C, scoring: Scoring) -> i8
+    requires { IsThreshold alpha }
+    ensures score { IsScore result }
+    ensures fixed { C.fixed cells.new ≡ C.fixed cells.old }
+{
+    let sight = Sight::after_reply(&board);
+    glance(Node::of(board), alpha, sight, cells, scoring)
 }
 
 // The same of any board.
 #[cycle(glancing)]
-fn glance<C: Cells>(board: Board, alpha: i8, sight: Sight, cells: &mut C, scoring: Scoring) -> i8
+fn glance<C: Cells>(node: Node, alpha: i8, sight: Sight, cells: &mut C, scoring: Scoring) -> i8
     requires { IsThreshold alpha }
     ensures score { IsScore result }
     ensures fixed { C.fixed cells.new ≡ C.fixed cells.old }
 {
     if sight.plies == 0 {
-        return probe_with(board, alpha, cells, scoring);
+        return probe_node(node, alpha, cells, scoring);
     }
-    let below = Sight {
-        plies: sight.plies - 1,
-        width: sight.width_below(),
-    };
-    if board.moves() != 0 {
-        return glance_at_moves(&board, alpha, sight, cells, scoring);
+    if node.moves != 0 {
+        return glance_at_moves(node, alpha, sight, cells, scoring);
     }
-    let passed = board.pass();
-    if passed.moves() != 0 {
-        return -glance(passed, -alpha - 1, below, cells, scoring);
+    let passed = Node::of(node.board.pass());
+    if passed.moves != 0 {
+        return -glance_at_moves(passed, -alpha - 1, sight, cells, scoring);
     }
-    board.final_score(scoring)
+    node.board.final_score(scoring)
 }
 
-// The same by the first moves.
+// The same by the moves that are ranked first.
 #[cycle(glancing)]
 fn glance_at_moves<C: Cells>(
-    board: &Board,
+    node: Node,
     alpha: i8,
     sight: Sight,
     cells: &mut C,
@@ -184,23 +238,35 @@ fn glance_at_moves<C: Cells>(
     ensures score { IsScore result }
     ensures fixed { C.fixed cells.new ≡ C.fixed cells.old }
 {
+    let ranked = ranked(&node);
     let mut best = -64;
-    let below = Sight {
-        plies: sight.plies - 1,
-        width: sight.width_below(),
-    };
-    let squares = order(board);
-    for (tried, square) in squares.as_slice().iter().enumerate() {
-        if tried == sight.width {
+    let mut left = node.moves;
+    for _ in 0..sight.width {
+        if left == 0 {
             break;
         }
-        if let Some(child) = board.play(*square) {
-            let reply = -glance(child, -alpha - 1, below, cells, scoring);
-            if reply > alpha {
-                return reply;
-            }
-            best = greater(best, reply);
+        let child = next_child(&node.board, ranked.as_slice(), left);
+        left = without(left, child.square);
+        let next = Node {
+            board: child.board,
+            moves: child.moves,
+        };
+        let reply = -glance(next, -alpha - 1, sight.below(), cells, scoring);
+        if reply > alpha {
+            return reply;
         }
+        best = greater(best, reply);
     }
     best
+}
+
+// The children of a board with their ranks.
+fn ranked(node: &Node) -> ArrayVec<Child, MOST_RANKED>
+    ensures { All (IsChild node.now.board) result.items }
+{
+    let found = children(node);
+    if node.board.empties() < FEWEST_EMPTIES_LOOKED {
+        return found;
+    }
+    looked_at(node, found.as_slice())
 }

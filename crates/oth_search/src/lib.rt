@@ -32,6 +32,7 @@ pub use answer::Answer;
 pub use cells::{Cells, NoCells};
 pub use combining::{known_below, known_of};
 pub use entry::Entry;
+pub use guess::seeming_value;
 pub use interval::Interval;
 pub use kind::Kind;
 pub use memo::Memo;

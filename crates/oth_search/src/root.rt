@@ -13,7 +13,7 @@ use arrayvec::ArrayVec;
 use oth_rules::{Board, Scoring};
 
 // From so many empty squares on a guess tells where to start.
-const FEWEST_EMPTIES_GUESSED: u8 = 14;
+const FEWEST_EMPTIES_GUESSED: u8 = 12;
 
 // So often a start that no move reaches is lowered: first to the most that the root may still have, and then further.
 const ROUNDS: u8 = 6;

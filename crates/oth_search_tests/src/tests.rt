@@ -4,8 +4,8 @@ ghost use Rattle.std.specs.Prelude.{◌≡◌, IfSome};
 use oth_rules::samples::after_least_moves;
 use oth_rules::{Board, Scoring};
 use oth_search::{
-    Cells, Entry, Kind, Memo, NoCells, Solved, TooManyEmpties, known_below, search, solve_alone,
-    solve_with,
+    Cells, Entry, Kind, Memo, NoCells, Solved, TooManyEmpties, known_below, search, seeming_value,
+    solve_alone, solve_with,
 };
 use std::test::Fail;
 
@@ -78,6 +78,17 @@ fn solves_the_worked_boards(rt: HostRuntime) -> Result<(), Fail> {
     ] {
         assert!(rt; answers(row, Scoring::Discs), "own {:x} by discs", row.0);
     }
+    Ok(())
+}
+
+#[test]
+fn seems_to_have_its_value_where_few_squares_are_empty(rt: HostRuntime) -> Result<(), Fail> {
+    let Ok(board) = Board::of(A[0], A[1]) else {
+        panic!(rt; "no board")
+    };
+    assert!(rt; seeming_value(board, -51, &mut NoCells, Scoring::Winner) == -50);
+    assert!(rt; seeming_value(board, -50, &mut NoCells, Scoring::Winner) == -50);
+    assert!(rt; seeming_value(board, -50, &mut NoCells, Scoring::Discs) == -49);
     Ok(())
 }
 

@@ -3,25 +3,11 @@
 ghost use Rattle.std.specs.Prelude.{pos, negsuc, ◌≤ℤ◌};
 
 use crate::move_order::beginning_with;
-use crate::narrowing::search_alone;
 use crate::walk::Walk;
 use crate::window::Window;
 use oth_pieces::can_move;
 use oth_rules::{Board, Square};
-use oth_search::Cells;
-
-// Boards with no more empty squares are searched in full.
-const FEW_EMPTIES: u8 = 8;
-
-// All moves of the root are tried and all replies to them. Of the board after a reply, where many plies follow, so many
-// moves are tried.
-const WIDTH_AT_FIRST: usize = 3;
-
-// Of each further board so many.
-const WIDTH: usize = 2;
-
-// From so many plies on below a reply these are many.
-const MANY_PLIES: u8 = 7;
+use oth_search::{Cells, seeming_value};
 
 // The most scores that are asked for.
 const ROUNDS: u8 = 12;
@@ -255,57 +241,11 @@ fn leaves<C: Cells>(reply: &Board, score: i8, walk: &mut Walk<C>) -> bool
     if let Some(told) = walk.seen(reply, score) {
         return told;
     }
-    let plies = reply.empties().saturating_sub(FEW_EMPTIES);
     walk.begin(reply);
-    let width = if plies >= MANY_PLIES {
-        WIDTH_AT_FIRST
-    } else {
-        WIDTH
-    };
-    let found = reaches(*reply, Window::at(score), plies, width, walk);
+    let window = Window::at(score);
+    let value = seeming_value(*reply, window.alpha, &mut walk.cells, walk.plan.scoring);
+    let found = window.is_reached(value);
     walk.tell_seen(reply, score, found);
     walk.end(reply);
     found
-}
-
-// Whether the board's value seems to be above the null window, by so many plies of few moves, and of the board's own
-// moves by so many.
-#[cycle(glancing)]
-fn reaches<C: Cells>(
-    board: Board,
-    window: Window,
-    plies: u8,
-    width: usize,
-    walk: &mut Walk<C>,
-) -> bool {
-    if plies == 0 || board.is_over() {
-        return window.is_reached(search_alone(&board, window, walk).interval.lower);
-    }
-    if !can_move(&board) {
-        return !reaches(board.pass(), window.turned(), plies - 1, WIDTH, walk);
-    }
-    reaches_by_moves(&board, window, plies - 1, width, walk)
-}
-
-// The same by its first moves, where it has some.
-#[cycle(glancing)]
-fn reaches_by_moves<C: Cells>(
-    board: &Board,
-    window: Window,
-    plies: u8,
-    width: usize,
-    walk: &mut Walk<C>,
-) -> bool {
-    let squares = walk.order(board);
-    for (tried, square) in squares.as_slice().iter().enumerate() {
-        if tried == width {
-            break;
-        }
-        if let Some(child) = board.play(*square) {
-            if !reaches(child, window.turned(), plies, WIDTH, walk) {
-                return true;
-            }
-        }
-    }
-    false
 }

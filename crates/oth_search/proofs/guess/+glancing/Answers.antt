@@ -1,22 +1,27 @@
-use Rattle.std.proofs.Common.{arith, ◌∙◌}
+use Rattle.std.proofs.Common.{refl, arith, ◌∙◌}
 use Rattle.std.specs.Prelude.{neg_ℤ}
 use Rattle.std.proofs.lemmas.Int.{ints}
+use Rattle.oth_search.proofs.SquareSets.{Takes-without}
+use Rattle.oth_search.proofs.Replies.{legal-moves}
 use Rattle.oth_search.proofs.Enclosing.{IsScore-over}
 use Rattle.oth_search.proofs.RootSearch.{IsScore-negated, IsScore-one}
 use Rattle.oth_search.proofs.guess.+glancing.Goals as goal
-use Rattle.oth_search.proofs.guess.+glancing.Goals.{glance_at_moves-in-Some+else-reply-alpha, glance_at_moves-in_default}
 
 pub glance-returns-clause-score : goal.glance-returns-clause-score
-glance-returns-clause-score g t c = IsScore-over c.args.scoring c.args.board _ (omega (arith, ints, c.final_score.ensures))
+glance-returns-clause-score g t c = IsScore-over c.args.scoring c.args.node.board _ (omega (arith, ints, c.final_score.ensures))
 
-pub glance_at_moves-loop-tried-preserved : goal.glance_at_moves-loop-tried-preserved
-glance_at_moves-loop-tried-preserved g t c =
-    elim c.match-play.branch [
-      | glance_at_moves-in-Some+else-reply-alpha w ↦ rw (w.best-is, w.cells-is) (
-        IsScore-one _ (neg_ℤ w.glance-reply.result) _ _ w.greater-best.result _ c.loop-tried.invariant.0
-            (IsScore-negated _ _ (omega (arith, ints)) w.glance-reply.ensures.score)
-            (omega (arith, ints)) (omega (arith, ints)) (omega (arith, ints)) w.greater-best.ensures.one,
-        w.glance-reply.ensures.fixed ∙ c.loop-tried.invariant.1,
-      )
-      | glance_at_moves-in_default w ↦ rw (w.best-is, w.cells-is) c.loop-tried.invariant
-    ]
+pub glance_at_moves-loop-init : goal.glance_at_moves-loop-init
+glance_at_moves-loop-init g t c = record {
+  score = record { low = omega (arith, ints); high = omega (arith, ints) };
+  fixed = refl;
+  legal = legal-moves c.args.node.board c.args.node.moves c.args.node.legal;
+}
+
+pub glance_at_moves-loop-preserved : goal.glance_at_moves-loop-preserved
+glance_at_moves-loop-preserved g t c = record {
+  score = IsScore-one _ (neg_ℤ c.glance-reply.result) _ _ c.greater-best.result _ c.loop.invariant.score
+      (IsScore-negated _ _ (omega (arith, ints)) c.glance-reply.ensures.score)
+      (omega (arith, ints)) (omega (arith, ints)) (omega (arith, ints)) c.greater-best.ensures.one;
+  fixed = c.glance-reply.ensures.fixed ∙ c.loop.invariant.fixed;
+  legal = λ s h. c.loop.invariant.legal s ((Takes-without _ _ _ c.next_child-child.ensures.member c.without-left.ensures.rest).kept s h);
+}
