@@ -6,8 +6,8 @@
 Each PLAIN is a program that bench/plain.py made, as of this tree and of an earlier commit. In each round each board of the file goes to
 each program in turn, by one worker with 65,536 cells, in a process of its own, which tells the seconds of the search. What counts is the
 least of the rounds, board by board. For each program a line has the sum over the boards, the sum as a part of the first program's, and
-the geometric mean of the boards' times. The exit status is 1 where two answers differ. Leave the machine alone meanwhile; at the end
-stands how much of the processors' time the host gave to others.
+the geometric mean of the boards' times; the sums so far go to standard error after each round. The exit status is 1 where two answers
+differ. Leave the machine alone meanwhile; at the end stands how much of the processors' time the host gave to others.
 """
 import math
 import subprocess
@@ -39,7 +39,7 @@ def main():
         boards = lines.readlines()
     least = {program: [math.inf] * len(boards) for program in programs}
     all_before, stolen_before = processor_times()
-    for _ in range(rounds):
+    for done in range(1, rounds + 1):
         for place, board in enumerate(boards):
             answers = set()
             for program in programs:
@@ -49,6 +49,7 @@ def main():
             if len(answers) != 1:
                 print(f"the answers to {board.strip()} differ: {sorted(answers)}")
                 return 1
+        print(f"after {done}: " + ", ".join(f"{sum(least[program]):.4f} s" for program in programs), file=sys.stderr, flush=True)
     all_after, stolen_after = processor_times()
     print(f"{len(boards)} boards of {path}, least of {rounds}, {100 * (stolen_after - stolen_before) / (all_after - all_before):.1f} percent to others")
     for program in programs:

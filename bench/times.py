@@ -5,9 +5,9 @@
 
 The command, `./check` if none is given, is run at the top of this repository, and what it prints goes through, each line behind the
 minutes since the start. Meanwhile the prover's processes are looked at each second. The table at the end tells the seconds of processor
-time that they took, by crate: its own proof, the proof of its tests, and its must-fail edits. Then come the minutes of the whole by the
-clock. What a process takes after it was last looked at is not seen, so a row is short by up to a second a process. Leave the machine
-alone meanwhile. The exit status is the command's.
+time that they took, by crate: its own proof, the proof of its tests, and its must-fail edits. Then come the edits that took most, and the
+minutes of the whole by the clock. What a process takes after it was last looked at is not seen, so a row is short by up to a second a
+process. Leave the machine alone meanwhile. The exit status is the command's.
 """
 import collections
 import os
@@ -20,6 +20,8 @@ import time
 ROOT = pathlib.Path(__file__).resolve().parent.parent
 PARTS = ("proof", "tests", "edits")
 TICKS = os.sysconf("SC_CLK_TCK")
+# So many edits are shown.
+DEAREST = 40
 
 
 class Seen:
@@ -27,6 +29,7 @@ class Seen:
 
     def __init__(self):
         self.taken = {}
+        self.edits = {}
 
     def look(self):
         for process in os.listdir("/proc"):
@@ -43,7 +46,10 @@ class Seen:
             crate = words[words.index("--crate-name") + 1]
             seconds = (int(fields[11]) + int(fields[12])) / TICKS
             # A process is told by its number and by when it started.
-            self.taken[process, fields[19]] = (crate, part(crate, words, folder), seconds)
+            key = process, fields[19]
+            self.taken[key] = (crate, part(crate, words, folder), seconds)
+            if self.taken[key][1] == "edits" and key not in self.edits:
+                self.edits[key] = edit_of(crate, folder)
 
     def table(self):
         """Seconds by crate and part."""
@@ -51,6 +57,31 @@ class Seen:
         for crate, name, seconds in self.taken.values():
             sums[crate][name] += seconds
         return sums
+
+    def dearest(self):
+        """The edits with the seconds that each took, the dearest first; the second proofs of whole crates are none."""
+        sums = collections.Counter()
+        for key, edit in self.edits.items():
+            if edit:
+                sums[edit] += self.taken[key][2]
+        return sums.most_common()
+
+
+def edit_of(crate, folder):
+    """The must-fail edit that was made in this copy of the crate, if any."""
+    whole = ROOT / "crates" / crate
+    for edit in sorted((whole / "must-fail").glob("*.edit")):
+        try:
+            lines = edit.read_text(encoding="utf-8").split("\n")
+            path = next(line for line in lines if line.startswith("file: ")).removeprefix("file: ").strip()
+            text = (whole / path).read_text(encoding="utf-8")
+            for old, new in zip([line for line in lines if line.startswith("old: ")], [line for line in lines if line.startswith("new:")]):
+                text = text.replace(old.removeprefix("old: "), new.removeprefix("new:").removeprefix(" "))
+            if text == pathlib.Path(folder, path).read_text(encoding="utf-8"):
+                return f"{crate}/{edit.stem}"
+        except (OSError, StopIteration):
+            continue
+    return None
 
 
 def part(crate, words, folder):
@@ -95,6 +126,10 @@ def main():
         time.sleep(1)
     printing.join()
     show(seen.table())
+    edits = seen.dearest()
+    print(f"{len(edits)} edits, seconds of the dearest:")
+    for edit, seconds in edits[:DEAREST]:
+        print(f"{seconds:6.0f} {edit}")
     print(f"{' '.join(command)}: status {ran.returncode} after {(time.monotonic() - began) / 60:.1f} minutes")
     return ran.returncode
 
