@@ -28,8 +28,8 @@ FROM_SHIM = r"std::(?:(?:alloc|thread)::|(?=thread;))"
 
 # Where the copy counts: a file, a line (or a part of one) that stands in it once, and what takes its place.
 COUNTS = [
-    ("oth_search/deep.rs", "    let told = recalled(&node.board, cells, scoring);\n",
-     "    crate::counting::count(&node.board);\n    let told = recalled(&node.board, cells, scoring);\n"),
+    ("oth_search/deep.rs", " = recalled(&node.board, cells, scoring);\n",
+     " = recalled(&node.board, cells, scoring);\n    crate::counting::count(&node.board);\n"),
     ("oth_walk/glance.rs", "    let squares = walk.order(root);\n    let mut best = match",
      "    let _guess = crate::counting::For::part(crate::counting::Part::Guess);\n"
      "    let squares = walk.order(root);\n    let mut best = match"),

@@ -23,3 +23,6 @@ pub mod Moves
 pub mod Vectors
 pub mod RowCarry
 pub mod LastMoves
+pub mod Shelters
+pub mod StableValues
+pub mod StableWords

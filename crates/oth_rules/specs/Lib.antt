@@ -8,3 +8,4 @@ pub mod Line
 pub mod Laws
 pub mod Exchange
 pub mod LastMove
+pub mod Stable

@@ -14,6 +14,7 @@ mod scoring;
 mod sliding;
 mod square;
 mod square_words;
+mod stable;
 mod sym;
 
 pub use board::{Board, Overlap};

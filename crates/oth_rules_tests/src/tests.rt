@@ -238,6 +238,44 @@ fn forms_on_scattered_discs(rt: HostRuntime) {
     assert_eq!(rt; seen, u64::MAX);
 }
 
+// What the opponent's stable discs leave, on boards where they can be named by eye: corners, what stands in a row with
+// one along an edge, what such discs keep on all four lines, and what no empty square is in line with.
+#[test]
+fn stable_discs_that_are_seen(rt: HostRuntime) {
+    assert_eq!(rt; start(&rt).most_by_stable_discs(), 64);
+    assert_eq!(rt; board(&rt, b"O", b'-').most_by_stable_discs(), 62);
+    assert_eq!(rt; board(&rt, b"-O", b'-').most_by_stable_discs(), 64);
+    assert_eq!(rt; board(&rt, b"O-O----O", b'-').most_by_stable_discs(), 60);
+    assert_eq!(rt; board(&rt, b"OOOX----", b'-').most_by_stable_discs(), 58);
+    assert_eq!(rt; board(&rt, b"OOOOOOOO", b'-').most_by_stable_discs(), 48);
+    assert_eq!(rt; board(&rt, b"OOOOOOOOOOOOOOO", b'-').most_by_stable_discs(), 34);
+    assert_eq!(rt; board(&rt, b"", b'O').most_by_stable_discs(), -64);
+    assert_eq!(rt; board(&rt, b"", b'X').most_by_stable_discs(), 64);
+    let corners = 0x8100_0000_0000_0081;
+    let last = Board::of(corners & !(1 << 63), !corners).expect(&rt, "apart");
+    assert_eq!(rt; last.most_by_stable_discs(), 64 - 2 * 42);
+}
+
+// They are the same discs whichever way the board is turned.
+#[test]
+fn stable_discs_of_all_images(rt: HostRuntime) {
+    let mut word = 0x9e37_79b9_7f4a_7c15;
+    let mut least = 64;
+    for _ in 0..200 {
+        let side = scrambled(word);
+        let first = scrambled(side);
+        word = scrambled(first);
+        let board = Board::of((first | word) & side, (first | word) & !side).expect(&rt, "apart");
+        let most = board.most_by_stable_discs();
+        least = least.min(most);
+        for number in 1..8 {
+            let image = board.image(Sym::numbered(number));
+            assert_eq!(rt; image.most_by_stable_discs(), most);
+        }
+    }
+    assert!(rt; least < 64);
+}
+
 // Lines of six discs in each direction, and lines that a shift would carry round the edge.
 #[test]
 fn moves_past_the_longest_lines(rt: HostRuntime) {

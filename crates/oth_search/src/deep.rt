@@ -28,7 +28,10 @@ const FEWEST_EMPTIES_REMEMBERED: u8 = 5;
 const FEWEST_EMPTIES_ORDERED: u8 = 6;
 
 // The children of boards with fewer empty squares are not looked up before they are searched.
-const FEWEST_EMPTIES_TOLD: u8 = 8;
+const FEWEST_EMPTIES_RECORDED: u8 = 8;
+
+// Where the mover asks for no more than this, the opponent's stable discs seldom stand in the way.
+const LEAST_ALPHA_BOUNDED: i8 = 24;
 
 // Boards with fewer empty squares are remembered and not kept.
 const FEWEST_EMPTIES_KEPT: u8 = 9;
@@ -95,15 +98,15 @@ fn probe_remembered<C: Cells>(node: Node, alpha: i8, cells: &mut C, scoring: Sco
     ensures value { BoundsAt (value (score_of scoring) node.board) alpha result }
     ensures fixed { C.fixed cells.new ≡ C.fixed cells.old }
 {
-    let told = recalled(&node.board, cells, scoring);
-    if told.interval.lower > alpha {
-        return told.interval.lower;
+    let recalled = recalled(&node.board, cells, scoring);
+    if recalled.interval.lower > alpha {
+        return recalled.interval.lower;
     }
-    if told.interval.upper <= alpha {
-        return told.interval.upper;
+    if recalled.interval.upper <= alpha {
+        return recalled.interval.upper;
     }
     let found = probe_ordered(node, alpha, cells, scoring);
-    cells.remember(&told.narrowed(alpha, found));
+    cells.remember(&recalled.narrowed(alpha, found));
     found
 }
 
@@ -119,7 +122,10 @@ fn probe_ordered<C: Cells>(node: Node, alpha: i8, cells: &mut C, scoring: Scorin
     if empties < FEWEST_EMPTIES_ORDERED {
         return probe_few(node, alpha, scoring);
     }
-    if empties < FEWEST_EMPTIES_TOLD {
+    if let Some(most) = most_at(&node.board, alpha, scoring) {
+        return most;
+    }
+    if empties < FEWEST_EMPTIES_RECORDED {
         return probe_short(node, alpha, cells, scoring);
     }
     if empties < FEWEST_EMPTIES_LOOKED {
@@ -153,7 +159,7 @@ fn probe_middle<C: Cells>(node: Node, alpha: i8, cells: &mut C, scoring: Scoring
 {
     let list: ArrayVec<Child, 10> = children(&node);
     if node.board.empties() <= FEWEST_EMPTIES_KEPT {
-        if let Some(found) = told_above(&node.board, list.as_slice(), alpha, cells, scoring) {
+        if let Some(found) = recorded_above(&node.board, list.as_slice(), alpha, cells, scoring) {
             return found;
         }
     }
@@ -170,7 +176,7 @@ fn probe_long<C: Cells>(node: Node, alpha: i8, cells: &mut C, scoring: Scoring) 
     ensures fixed { C.fixed cells.new ≡ C.fixed cells.old }
 {
     let list: ArrayVec<Child, 32> = children(&node);
-    if let Some(found) = told_above(&node.board, list.as_slice(), alpha, cells, scoring) {
+    if let Some(found) = recorded_above(&node.board, list.as_slice(), alpha, cells, scoring) {
         return found;
     }
     let looked: ArrayVec<Child, 32> = looked_at(&node, list.as_slice());
@@ -212,8 +218,23 @@ fn probe_children<C: Cells>(
     best
 }
 
-// A bound above `alpha`, if what is told of a child gives one.
-fn told_above<C: Cells>(
+// What the opponent's stable discs leave to the mover, if that is at most `alpha`.
+fn most_at(board: &Board, alpha: i8, scoring: Scoring) -> Option<i8>
+    ensures { IfSome result (BoundsAt (value (score_of scoring) board.now) alpha) }
+{
+    if alpha < LEAST_ALPHA_BOUNDED {
+        return None;
+    }
+    let discs = board.opp().count_ones() as i8;
+    if 64 - discs - discs > alpha {
+        return None;
+    }
+    let most = board.most_by_stable_discs();
+    if most <= alpha { Some(most) } else { None }
+}
+
+// A bound above `alpha`, if what is recorded of a child gives one.
+fn recorded_above<C: Cells>(
     parent: &Board,
     children: &[Child],
     alpha: i8,
@@ -226,8 +247,8 @@ fn told_above<C: Cells>(
 {
     for child in children {
         if child.moves != 0 {
-            let told = told(&child.board, cells, scoring);
-            let reply = -told.interval.upper;
+            let recorded = recorded(&child.board, cells, scoring);
+            let reply = -recorded.interval.upper;
             if reply > alpha {
                 return Some(reply);
             }
@@ -236,8 +257,8 @@ fn told_above<C: Cells>(
     None
 }
 
-// What is told of the board's value: by the memory where few squares are empty, and else by the cells.
-fn told<C: Cells>(board: &Board, cells: &mut C, scoring: Scoring) -> Solved
+// What is recorded of the board's value: in the memory where few squares are empty, and else in the cells.
+fn recorded<C: Cells>(board: &Board, cells: &mut C, scoring: Scoring) -> Solved
     ensures value { Encloses result.interval.lower result.interval.upper (value (score_of scoring) board.now) }
     ensures fixed { C.fixed cells.new ≡ C.fixed cells.old }
 {

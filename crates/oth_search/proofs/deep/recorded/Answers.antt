@@ -1,5 +1,5 @@
 use Rattle.oth_search.proofs.Enclosing.{Encloses-same, Encloses-known, IsCanonical-canonical}
-use Rattle.oth_search.proofs.deep.told.Goals as goal
+use Rattle.oth_search.proofs.deep.recorded.Goals as goal
 
 pub known-requires : goal.known-requires
 known-requires g c = IsCanonical-canonical c.args.board.now c.canonical.result.0 c.canonical.ensures.board

@@ -3,15 +3,15 @@ use Rattle.std.proofs.lemmas.Int.{ints}
 use Rattle.std.proofs.lemmas.List.Elements.{All-contains}
 use Rattle.oth_search.specs.Children.{IsChild}
 use Rattle.oth_search.proofs.Enclosing.{BoundsAt-child}
-use Rattle.oth_search.proofs.deep.told_above.Goals as goal
+use Rattle.oth_search.proofs.deep.recorded_above.Goals as goal
 
 pub returns-then-reply-alpha-clause-value : goal.returns-then-reply-alpha-clause-value
 returns-then-reply-alpha-clause-value g c =
     let child = c.child-item.result in
-    let k = c.told-told.result in
+    let k = c.recorded-recorded.result in
     let made = All-contains (IsChild c.args.parent.now) c.args.children.now child c.requires (c.loop-child.child-index, c.loop-child-test.true, sym c.child-item.is) in
     BoundsAt-child c.args.scoring c.args.parent.now child.board child.square c.args.alpha k.interval.lower k.interval.upper _ made.legal made.board
     k.interval.is_interval
-    c.told-told.ensures.value
+    c.recorded-recorded.ensures.value
     (omega (arith, ints))
     (omega (arith, ints, c.if-reply-alpha.true))
