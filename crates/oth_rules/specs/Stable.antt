@@ -5,8 +5,8 @@
 --     Reaches p d set      the set has all squares that are in line with an empty one, along d or against it
 --     Adds d square old new      new has what old has, and the squares in line with this one along d
 --     IsReach p ..      each of the four words reaches what is in line with an empty square
---     is_backed d reached held s      along the line of d, s is not reached from an empty square, or is at the edge of the
---         board, or has a square that is held beside it
+--     is_backed d reached stable s      along the line of d, s is not reached from an empty square, or is at the edge of the
+--         board, or has one beside it that is stable
 use Rattle.std.specs.Prelude.{◌≡◌, ℕ, zero, suc, ◌<◌, Bool, true, false, not, ◌&&◌, ◌||◌}
 use Rattle.oth_rules.specs.Square.{Direction, Back, Stay, Forth, has, ray, is_in}
 use Rattle.oth_rules.specs.Position.{Position, is_theirs, is_empty, pass}
@@ -40,5 +40,5 @@ pub record IsReach (p : Position) (row falling column rising : ℕ) : Type 0 whe
   pub along_rising : Reaches p (record { columns = Back; rows = Forth }) (has rising)
 
 unfoldable pub is_backed : Direction → (ℕ → Bool) → (ℕ → Bool) → ℕ → Bool
-is_backed d reached held s =
-    not (reached s && (is_next d (λ t. true) s && is_next (reversed d) (λ t. true) s)) || (is_next d held s || is_next (reversed d) held s)
+is_backed d reached stable s =
+    not (reached s && (is_next d (λ t. true) s && is_next (reversed d) (λ t. true) s)) || (is_next d stable s || is_next (reversed d) stable s)

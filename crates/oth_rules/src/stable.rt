@@ -104,11 +104,11 @@ impl Reach {
 }
 
 // The squares at which nothing can be flipped along this line: no empty square reaches them, or they have no square
-// beside them on one side, or one that is held.
-fn backed(line: Compass, reached: u64, held: u64) -> u64
-    ensures { result ≡ word_of (is_backed (direction_of line) (has reached) (has held)) }
+// beside them on one side, or one that is stable.
+fn backed(line: Compass, reached: u64, stable: u64) -> u64
+    ensures { result ≡ word_of (is_backed (direction_of line) (has reached) (has stable)) }
 {
     let back = line.reversed();
     let inner = line.shifted(u64::MAX) & back.shifted(u64::MAX);
-    !(reached & inner) | (line.shifted(held) | back.shifted(held))
+    !(reached & inner) | (line.shifted(stable) | back.shifted(stable))
 }
