@@ -1,9 +1,10 @@
 //! What no clause says of looking up and putting, and how many boards a search comes to.
 ghost use Rattle.std.specs.Prelude.{◌≡◌, IfSome};
 
-use oth_rules::samples::after_least_moves;
+use oth_rules::samples::{after_least_moves, board as sample};
 use oth_rules::{Board, Scoring};
 use oth_search::{Cells, Entry, Memo, NoCells, Solved, search, solve_with};
+use std::process::Abort;
 use std::test::Fail;
 
 /// The board with row 1 `--OXOOO-` and all else `O`, seen by `X`. It is its own canonical form.
@@ -201,6 +202,34 @@ fn comes_to_few_boards(rt: HostRuntime) -> Result<(), Fail> {
     let Some(board) = after_least_moves(14) else {
         panic!(rt; "no line")
     };
+    check_counts(&rt, board, MOST_LOOKED, MOST_RECALLED);
+    Ok(())
+}
+
+/// By half more than were counted on the day when this was written.
+const MOST_LOOKED: u32 = 1_700;
+
+const MOST_RECALLED: u32 = 19_000;
+
+/// A board of 14 empty squares that one side wins by much (another solver gives it +42): without the bound by stable
+/// discs the search comes to three times as many boards.
+#[test]
+fn ends_where_stable_discs_leave_too_little(rt: HostRuntime) -> Result<(), Fail> {
+    let Some(board) = sample([0x1fff_442a_1d20_0000, 0x6000_bad4_e21d_7ae0]) else {
+        panic!(rt; "no board")
+    };
+    let score = check_counts(&rt, board, MOST_LOOKED_WON, MOST_RECALLED_WON);
+    assert!(rt; score == 42);
+    Ok(())
+}
+
+/// By half more than were counted on the day when this was written.
+const MOST_LOOKED_WON: u32 = 2_100;
+
+const MOST_RECALLED_WON: u32 = 8_800;
+
+/// The score of the board, whose search looks up and recalls no more than so many boards.
+fn check_counts(rt: &impl Abort, board: Board, most_looked: u32, most_recalled: u32) -> i8 {
     let mut cells = Counted {
         memo: Memo::new(),
         looked: 0,
@@ -214,17 +243,12 @@ fn comes_to_few_boards(rt: HostRuntime) -> Result<(), Fail> {
         recalled,
     } = cells;
     assert!(rt;
-        looked > 0 && looked <= MOST_LOOKED,
+        looked > 0 && looked <= most_looked,
         "{looked} boards are looked up"
     );
     assert!(rt;
-        recalled > 0 && recalled <= MOST_RECALLED,
+        recalled > 0 && recalled <= most_recalled,
         "{recalled} boards are recalled"
     );
-    Ok(())
+    answer.score
 }
-
-/// By half more than were counted on the day when this was written.
-const MOST_LOOKED: u32 = 1_700;
-
-const MOST_RECALLED: u32 = 19_000;
