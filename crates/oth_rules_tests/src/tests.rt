@@ -248,7 +248,10 @@ fn stable_discs_that_are_seen(rt: HostRuntime) {
     assert_eq!(rt; board(&rt, b"O-O----O", b'-').most_by_stable_discs(), 60);
     assert_eq!(rt; board(&rt, b"OOOX----", b'-').most_by_stable_discs(), 58);
     assert_eq!(rt; board(&rt, b"OOOOOOOO", b'-').most_by_stable_discs(), 48);
-    assert_eq!(rt; board(&rt, b"OOOOOOOOOOOOOOO", b'-').most_by_stable_discs(), 34);
+    assert_eq!(rt;
+        board(&rt, b"OOOOOOOOOOOOOOO", b'-').most_by_stable_discs(),
+        34
+    );
     assert_eq!(rt; board(&rt, b"", b'O').most_by_stable_discs(), -64);
     assert_eq!(rt; board(&rt, b"", b'X').most_by_stable_discs(), 64);
     let corners = 0x8100_0000_0000_0081;
