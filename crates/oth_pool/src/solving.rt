@@ -59,6 +59,25 @@ pub fn solve<R: Threads + Sync, G: Gate>(
     ensures accepted { IfOk result (λ a. Accepts board.now workers cells) }
     ensures err { IfErr result (Refuses board.now workers cells) }
 {
+    accepted(board, workers, cells)?;
+    if let Some(answer) = answer_in(book, board, scoring) {
+        return Ok(answer);
+    }
+    let by_book = bounds_in(book, board, scoring);
+    let means = Means {
+        rt,
+        alloc,
+        gate,
+        workers: crew(workers, board.empties()),
+    };
+    Ok(answer(&means, &by_book, cells))
+}
+
+// The first cause for which the board isn't solved, if there is one.
+fn accepted(board: &Board, workers: u8, cells: u32) -> Result<(), SolveError>
+    ensures ok { IfOk result (λ nothing. Accepts board.now workers cells) }
+    ensures err { IfErr result (Refuses board.now workers cells) }
+{
     let empties = board.empties();
     if empties > MOST_EMPTIES {
         return Err(SolveError::TooManyEmpties(empties));
@@ -69,17 +88,7 @@ pub fn solve<R: Threads + Sync, G: Gate>(
     if cells != 0 && !is_size(cells) {
         return Err(SolveError::Cells);
     }
-    if let Some(answer) = answer_in(book, board, scoring) {
-        return Ok(answer);
-    }
-    let by_book = bounds_in(book, board, scoring);
-    let means = Means {
-        rt,
-        alloc,
-        gate,
-        workers: crew(workers, empties),
-    };
-    Ok(answer(&means, &by_book, cells))
+    Ok(())
 }
 
 // So many of the workers as pay for a board with so many empty squares.
