@@ -7,8 +7,8 @@ ghost use Rattle.clap.specs.Words.{subcommand_of, subcommand_rows_of, takes};
 ghost use Rattle.clap.specs.declared.builder.command.Command.TheViews.{out-Command};
 ghost use Rattle.oth_words.specs.CommandLine.{AreScorings, HasNumbers, IsNumber, IsPlain, IsReading, Meaning, Means};
 ghost use Rattle.oth_words.specs.CommandLine.{ScoringWords, add_app, book_rule, cells_rule, file_rule, meaning_of};
-ghost use Rattle.oth_words.specs.CommandLine.{othsolve, run, scoring_rule, scoring_word, solve_app, titled, verify_app};
-ghost use Rattle.oth_words.specs.CommandLine.{workers_rule};
+ghost use Rattle.oth_words.specs.CommandLine.{option_rule, othsolve, run, scoring_rule, scoring_word, solve_app};
+ghost use Rattle.oth_words.specs.CommandLine.{titled, verify_app, workers_rule};
 ghost use Rattle.oth_words.specs.Plans.{plan_meaning};
 ghost use Rattle.oth_words.specs.declared.settings.Command.TheVariants.{Solve};
 ghost use Rattle.clap.specs.declared.error.kind.ErrorKind.TheVariants.{OutOfMemory};
@@ -118,15 +118,23 @@ On standard error:
                           is written, and the status is 3
     book error N, book wrong N: FILE is no book, or no true one (see book-verify --help)";
 
+// An option with this name that takes one value, and what help calls the value.
+fn option<'a>(alloc: Global, name: &'a str, value: &'a str) -> Arg<'a>
+    ensures rule { rule_of result ≡ option_rule name.entry.now }
+    ensures local { result.global ≡ false }
+{
+    Arg::new(alloc, name)
+        .long(name)
+        .value_name(value)
+        .action(ArgAction::Set)
+}
+
 // The option `--workers N`.
 fn workers_option<'a>(alloc: Global) -> Arg<'a>
     ensures rule { rule_of result ≡ workers_rule }
     ensures local { result.global ≡ false }
 {
-    Arg::new(alloc, "workers")
-        .long("workers")
-        .value_name("N")
-        .action(ArgAction::Set)
+    option(alloc, "workers", "N")
         .value_parser(value_parser!(u8).range(1..=16))
         .default_value("1")
         .help("Threads that search one board together, 1 to 16")
@@ -137,10 +145,7 @@ fn cells_option<'a>(alloc: Global) -> Arg<'a>
     ensures rule { rule_of result ≡ cells_rule }
     ensures local { result.global ≡ false }
 {
-    Arg::new(alloc, "cells")
-        .long("cells")
-        .value_name("N")
-        .action(ArgAction::Set)
+    option(alloc, "cells", "N")
         .value_parser(value_parser!(u32).range(0..=262_144))
         .default_value("65536")
         .help("Cells of 32 bytes of the table that they share: 0, or a power of two up to 262144")
@@ -151,10 +156,7 @@ fn scoring_option<'a>(alloc: Global, scorings: &'a [&'a str]) -> Arg<'a>
     ensures rule { rule_of result ≡ scoring_rule scorings.entry }
     ensures local { result.global ≡ false }
 {
-    Arg::new(alloc, "scoring")
-        .long("scoring")
-        .value_name("SCORING")
-        .action(ArgAction::Set)
+    option(alloc, "scoring", "SCORING")
         .value_parser(scorings)
         .default_value("winner")
         .help(
@@ -167,13 +169,9 @@ fn book_option<'a>(alloc: Global) -> Arg<'a>
     ensures rule { rule_of result ≡ book_rule }
     ensures local { result.global ≡ false }
 {
-    Arg::new(alloc, "book")
-        .long("book")
-        .value_name("FILE")
-        .action(ArgAction::Set)
-        .help(
-            "The file of a book that is asked first, if it is by this scoring; each entry is solved anew beforehand",
-        )
+    option(alloc, "book", "FILE").help(
+        "The file of a book that is asked first, if it is by this scoring; each entry is solved anew beforehand",
+    )
 }
 
 // The argument `FILE` of the commands of the book.
