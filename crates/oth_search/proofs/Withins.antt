@@ -1,5 +1,5 @@
 -- A loop over the replies with a window of any width (a node on the principal variation): what it keeps, and what follows.
-use Rattle.std.proofs.Common.{◌≡◌, ◌⊎◌, inl, inr, ⊎_elim, ℕ, true, false, arith, sym, ◌∙◌, subst, refl, w8, to_z, of_z}
+use Rattle.std.proofs.Common.{◌≡◌, ◌⊎◌, inl, inr, ⊎_elim, ℕ, true, false, arith, sym, ◌∙◌, subst, w8, to_z, of_z}
 use Rattle.std.specs.Prelude.{ℤ, pos, negsuc, neg_ℤ, ◌-ℤ◌, ◌≤ℤ◌, ◌<ℤ◌}
 use Rattle.std.proofs.lemmas.Int.{ints, by_lt_z}
 use Rattle.oth_rules.specs.declared.scoring.Scoring.{Scoring}
@@ -118,17 +118,6 @@ WithinAt-over g p q alpha beta r is none over e =
 
 -- ---- what a search with a window tells of a board with known bounds
 
--- the window, cut to the known bounds
-pub IsInner-cut : (lower upper alpha beta low high : ℤ) → IsInterval lower upper → IsOpen lower upper alpha beta → IsWindow alpha beta → IsGreater alpha lower low → (high ≡ beta) ⊎ (high ≡ upper) → high ≤ℤ upper → IsInner low high
-IsInner-cut lower upper alpha beta low high i o w from to most = record {
-  low = omega (arith, ints, i.low, from.right);
-  ordered = ⊎_elim
-      (λ e. ⊎_elim (λ f. omega (arith, ints, e, f, w.ordered)) (λ f. omega (arith, ints, e, f, o.above)) to)
-      (λ e. ⊎_elim (λ f. omega (arith, ints, e, f, o.below)) (λ f. omega (arith, ints, e, f, o.wide)) to)
-      from.one;
-  high = omega (arith, ints, most, i.high);
-}
-
 -- a bound within the window of what the child gives, at the move's square
 pub WithinAt-reply : (g : Scoring) (p q : Position) (s : ℕ) (alpha beta low high r : ℤ) → q ≡ after p s → alpha ≡ low → beta ≡ high → WithinAt (neg_ℤ (value (score_of g) q)) low high r → WithinAt (neg_ℤ (value (score_of g) (after p s))) alpha beta r
 WithinAt-reply g p q s alpha beta low high r e f h w = rw (f, h, ← e) w
@@ -136,48 +125,81 @@ WithinAt-reply g p q s alpha beta low high r e f h w = rw (f, h, ← e) w
 pub WithinLoop-same : (g : Scoring) (p : Position) (alpha beta : ℤ) (left : ℕ → Type 0) (best t : ℤ) → best ≡ t → WithinLoop g p alpha beta left t → WithinLoop g p alpha beta left best
 WithinLoop-same g p alpha beta left best t e l = rw (e) l
 
--- the known bounds after a search that lies below, above or inside the window
+-- a number, as an argument of type i8 is read
+abbrev read_i8 : ℤ → ℤ
+read_i8 z = to_z w8 (of_z w8 z)
 
-pub record Narrowed (v lower upper alpha beta : ℤ) : Type 0 where
-  pub interval : IsInterval lower upper
-  pub encloses : Encloses lower upper v
-  pub decides : Decides lower upper alpha beta
+-- low..high is the window alpha..beta, cut to the known bounds
+pub record Cut (alpha beta lower upper low high : ℤ) : Type 0 where
+  pub from : (low ≡ alpha) ⊎ (low ≡ lower)
+  pub to : (high ≡ beta) ⊎ (high ≡ upper)
+  pub inner : IsInner low high
 
-pub Narrowed-below : (v alpha beta lower upper low high found f : ℤ) → f ≡ found → IsInterval lower upper → Encloses lower upper v → WithinAt v low high found → found ≤ℤ low → low <ℤ high → IsGreater alpha lower low → Narrowed v lower f alpha beta
-Narrowed-below v alpha beta lower upper low high found f same i e w below open_ from =
-    let most : v ≤ℤ found = w.above (omega (arith, ints, below, open_)) in
-    let least = e.below in
-    rw (same) (record {
-      interval = record { low = i.low; ordered = omega (arith, ints, most, least); high = w.score.high };
-      encloses = record { below = least; above = most };
-      decides = ⊎_elim
-          (λ h. inr (inr (omega (arith, ints, h, below))))
-          (λ h. inl (omega (arith, ints, h, below, most, least)))
-          from.one;
+pub cut : (alpha beta lower upper low high : ℤ) → IsWindow alpha beta → IsInterval lower upper → IsOpen lower upper alpha beta → read_i8 lower ≤ℤ low → (low ≡ read_i8 alpha) ⊎ (low ≡ read_i8 lower) → high ≤ℤ read_i8 upper → (high ≡ read_i8 beta) ⊎ (high ≡ read_i8 upper) → Cut alpha beta lower upper (read_i8 low) (read_i8 high)
+cut alpha beta lower upper low high w i o least from most to =
+    let a : read_i8 alpha ≡ alpha = omega (arith, ints, w.low, w.ordered, w.high) in
+    let b : read_i8 beta ≡ beta = omega (arith, ints, w.low, w.ordered, w.high) in
+    let l : read_i8 lower ≡ lower = omega (arith, ints, i.low, i.ordered, i.high) in
+    let u : read_i8 upper ≡ upper = omega (arith, ints, i.low, i.ordered, i.high) in
+    let starts : (low ≡ alpha) ⊎ (low ≡ lower) = ⊎_elim (λ h. inl (h ∙ a)) (λ h. inr (h ∙ l)) from in
+    let ends : (high ≡ beta) ⊎ (high ≡ upper) = ⊎_elim (λ h. inl (h ∙ b)) (λ h. inr (h ∙ u)) to in
+    let wide : low <ℤ high = ⊎_elim
+    (λ h. ⊎_elim (λ k. omega (arith, ints, h, k, w.ordered)) (λ k. omega (arith, ints, h, k, o.above)) ends)
+    (λ h. ⊎_elim (λ k. omega (arith, ints, h, k, o.below)) (λ k. omega (arith, ints, h, k, o.wide)) ends)
+    starts in
+    let below : low <ℤ pos 64 = omega (arith, ints, wide, most, u, i.high) in
+    let above : negsuc 63 ≤ℤ low = omega (arith, ints, least, l, i.low) in
+    let reaches : high ≤ℤ pos 64 = omega (arith, ints, most, u, i.high) in
+    let s : read_i8 low ≡ low = omega (arith, ints, above, below) in
+    let t : read_i8 high ≡ high = omega (arith, ints, above, wide, reaches) in
+    rw (s, t) (record { from = starts; to = ends; inner = record { low = above; ordered = wide; high = reaches } })
+
+-- a search with a window is a probe at its lower end, and one just below its upper end
+pub BoundsAt-low : (v w low high r : ℤ) → v ≡ w → IsInner low high → WithinAt w low high r → BoundsAt v low (read_i8 r)
+BoundsAt-low v w low high r e i h =
+    let s : read_i8 r ≡ r = omega (arith, ints, h.score.low, h.score.high) in
+    rw (e, s) (record {
+      score = h.score;
+      fails_low = λ k. h.above (omega (arith, ints, k, i.ordered));
+      fails_high = h.below;
     })
 
-pub Narrowed-above : (v alpha beta lower upper low high found f : ℤ) → f ≡ found → IsInterval lower upper → Encloses lower upper v → WithinAt v low high found → high ≤ℤ found → low <ℤ high → (high ≡ beta) ⊎ (high ≡ upper) → Narrowed v f upper alpha beta
-Narrowed-above v alpha beta lower upper low high found f same i e w above open_ to =
-    let least : found ≤ℤ v = w.below (omega (arith, ints, above, open_)) in
-    let most = e.above in
-    rw (same) (record {
-      interval = record { low = w.score.low; ordered = omega (arith, ints, most, least); high = i.high };
-      encloses = record { below = least; above = most };
-      decides = ⊎_elim
-          (λ h. inr (inl (omega (arith, ints, h, above))))
-          (λ h. inl (omega (arith, ints, h, above, most, least)))
-          to;
+pub BoundsAt-high : (v w low high r : ℤ) → v ≡ w → IsInner low high → WithinAt w low high r → BoundsAt v (read_i8 (high -ℤ pos 1)) (read_i8 r)
+BoundsAt-high v w low high r e i h =
+    let s : read_i8 r ≡ r = omega (arith, ints, h.score.low, h.score.high) in
+    let t : read_i8 (high -ℤ pos 1) ≡ high -ℤ pos 1 = omega (arith, ints, i.low, i.ordered, i.high) in
+    rw (e, s, t) (record {
+      score = h.score;
+      fails_low = λ k. h.above (omega (arith, ints, k));
+      fails_high = λ k. h.below (omega (arith, ints, k, i.ordered));
     })
 
-pub Narrowed-inside : (v alpha beta low high found f : ℤ) → f ≡ found → WithinAt v low high found → low <ℤ found → found <ℤ high → Narrowed v f f alpha beta
-Narrowed-inside v alpha beta low high found f same w above below =
-    let least = w.below above in
-    let most = w.above below in
-    rw (same) (record {
-      interval = record { low = w.score.low; ordered = omega (arith, ints); high = w.score.high };
-      encloses = record { below = least; above = most };
-      decides = inl refl;
-    })
+-- l..u is what a probe at a threshold leaves of the bounds lower..upper
+pub record Narrowed (lower upper at found l u : ℤ) : Type 0 where
+  pub above : at <ℤ found → (l ≡ found) × (u ≡ upper)
+  pub below : found ≤ℤ at → (l ≡ lower) × (u ≡ found)
+
+-- both probes decide the whole window
+pub Decides-narrowed : (alpha beta lower upper low high found l u least most : ℤ) → Cut alpha beta lower upper low high → Narrowed lower upper low found l u → Narrowed l u (read_i8 (high -ℤ pos 1)) found least most → least ≤ℤ most → Decides least most alpha beta
+Decides-narrowed alpha beta lower upper low high found l u least most c m n ordered =
+    let at : read_i8 (high -ℤ pos 1) ≡ high -ℤ pos 1 = omega (arith, ints, c.inner.low, c.inner.ordered, c.inner.high) in
+    by_lt_z low found
+    (λ above.
+    let f = m.above above in
+    by_lt_z (high -ℤ pos 1) found
+    (λ out. let s = n.above (omega (arith, ints, out, at)) in
+    ⊎_elim
+    (λ h. inr (inl (omega (arith, ints, h, out, s.0))))
+    (λ h. inl (omega (arith, ints, h, out, s.0, s.1, f.1, ordered)))
+    c.to)
+    (λ inside. let s = n.below (omega (arith, ints, inside, at)) in inl (omega (arith, ints, s.0, s.1, f.0))))
+    (λ below.
+    let f = m.below below in
+    let s = n.below (omega (arith, ints, below, c.inner.ordered, at)) in
+    ⊎_elim
+    (λ h. inr (inr (omega (arith, ints, h, below, s.1))))
+    (λ h. inl (omega (arith, ints, h, below, s.0, s.1, f.0, ordered)))
+    c.from)
 
 -- a value that a probe did not find above its threshold
 pub below_limit : (v lower upper limit beta : ℤ) → Encloses lower upper v → Decides lower upper limit beta → beta ≡ limit -ℤ negsuc 0 → lower ≤ℤ limit → v ≤ℤ limit
@@ -197,9 +219,6 @@ Decides-wider v lower upper limit alpha beta wide low e d is same less =
 pub Decides-same : (lower upper alpha beta low high : ℤ) → low ≡ alpha → high ≡ beta → Decides lower upper low high → Decides lower upper alpha beta
 Decides-same lower upper alpha beta low high e f d = rw (← e, ← f) d
 
-pub Narrowed-same : (v lower upper alpha beta l u : ℤ) → l ≡ lower → u ≡ upper → Narrowed v lower upper alpha beta → Narrowed v l u alpha beta
-Narrowed-same v lower upper alpha beta l u e f n = rw (e, f) n
-
 -- a value that a probe found below its upper end
 pub less_limit : (v lower upper limit alpha beta : ℤ) → Encloses lower upper v → Decides lower upper alpha beta → alpha ≡ limit -ℤ pos 1 → beta ≡ limit → lower <ℤ limit → v <ℤ limit
 less_limit v lower upper limit alpha beta e d is same low =
@@ -207,9 +226,6 @@ less_limit v lower upper limit alpha beta e d is same low =
     (λ one. omega (arith, ints, one, e.above, low))
     (λ out. ⊎_elim (λ h. absurd (omega (arith, ints, h, low, same))) (λ h. omega (arith, ints, h, e.above, is)) out)
     d
-
-pub one-same : (z x y x' y' : ℤ) → x' ≡ x → y' ≡ y → (z ≡ x') ⊎ (z ≡ y') → (z ≡ x) ⊎ (z ≡ y)
-one-same z x y x' y' e f one = ⊎_elim (λ h. inl (h ∙ e)) (λ h. inr (h ∙ f)) one
 
 -- a search above a bound that a probe found inside the window
 pub WithinAt-above : (v alpha beta found low r m : ℤ) → BoundsAt v alpha found → alpha <ℤ found → low ≡ found → WithinAt v low beta r → IsGreater found r m → WithinAt v alpha beta m

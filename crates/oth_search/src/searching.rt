@@ -91,7 +91,8 @@ impl Solved {
     }
 }
 
-// Narrows what is known of the canonical image until it decides the window, by a search of the board.
+// Narrows what is known of the canonical image until it decides the window, by a search of the board. What that finds
+// is the answer of a probe at `low`, and of one just below `high`.
 fn narrow<C: Cells>(board: Board, known: Solved, alpha: i8, beta: i8, cells: &mut C) -> Solved
     requires window { IsWindow alpha beta }
     requires open { IsOpen known.interval.lower known.interval.upper alpha beta }
@@ -104,11 +105,5 @@ fn narrow<C: Cells>(board: Board, known: Solved, alpha: i8, beta: i8, cells: &mu
     let low = greater(alpha, known.interval.lower);
     let high = lesser(beta, known.interval.upper);
     let found = search_window(board, low, high, cells, known.scoring);
-    if found <= low {
-        return Solved::between(known.board, known.scoring, known.interval.lower, found);
-    }
-    if found >= high {
-        return Solved::between(known.board, known.scoring, found, known.interval.upper);
-    }
-    Solved::between(known.board, known.scoring, found, found)
+    known.narrowed(low, found).narrowed(high - 1, found)
 }
