@@ -2,7 +2,7 @@ use Rattle.std.proofs.Common.{refl, ◌∙◌, arith}
 use Rattle.std.specs.Prelude.{ℤ, neg_ℤ}
 use Rattle.std.proofs.lemmas.Int.{ints}
 use Rattle.oth_search.proofs.SquareSets.{Takes-without, In-none}
-use Rattle.oth_search.proofs.Enclosing.{BoundsAt-lower, BoundsAt-upper, BoundsAt-same, Encloses-known, value-known, IsCanonical-canonical}
+use Rattle.oth_search.proofs.Enclosing.{BoundsAt-lower, BoundsAt-upper, BoundsAt-same, Encloses-known, Encloses-same, value-known, IsCanonical-canonical}
 use Rattle.oth_search.proofs.Replies.{BoundsAt-reply, BoundsAt-cut, BoundsAt-pass, BoundsAt-over, ReplyLoop-start, ReplyLoop-keeps, ReplyLoop-takes, ReplyLoop-end, NoneAbove-moves, can_move-from_moves, can_move-from_none, fewer_after, same_after_pass}
 use Rattle.oth_search.proofs.deep.+deep.Goals as goal
 
@@ -37,6 +37,24 @@ probe_kept-narrowed-requires g t c =
 pub probe_kept-canonical-requires-2 : goal.probe_kept-canonical-requires-2
 probe_kept-canonical-requires-2 g t c =
     IsCanonical-canonical c.args.node.board c.narrowed.result.board (c.narrowed.ensures.board ∙ c.known-known.ensures.board ∙ c.canonical.ensures.board)
+
+pub probe_remembered-returns-then-recalled-alpha-clause-value : goal.probe_remembered-returns-then-recalled-alpha-clause-value
+probe_remembered-returns-then-recalled-alpha-clause-value g t c =
+    let k = c.recalled-recalled.result in
+    BoundsAt-lower _ c.args.alpha k.interval.lower k.interval.upper _
+    (Encloses-same c.args.scoring k.scoring c.args.node.board k.board _ _ c.recalled-recalled.ensures.board c.recalled-recalled.ensures.scoring k.encloses)
+    k.interval.is_interval
+    (omega (arith, ints))
+    (omega (arith, ints, c.if-recalled-alpha.true))
+
+pub probe_remembered-returns-then-recalled-alpha-2-clause-value : goal.probe_remembered-returns-then-recalled-alpha-2-clause-value
+probe_remembered-returns-then-recalled-alpha-2-clause-value g t c =
+    let k = c.recalled-recalled.result in
+    BoundsAt-upper _ c.args.alpha k.interval.lower k.interval.upper _
+    (Encloses-same c.args.scoring k.scoring c.args.node.board k.board _ _ c.recalled-recalled.ensures.board c.recalled-recalled.ensures.scoring k.encloses)
+    k.interval.is_interval
+    (omega (arith, ints))
+    (omega (arith, ints, c.if-recalled-alpha-2.true))
 
 pub probe_children-loop-left-init : goal.probe_children-loop-left-init
 probe_children-loop-left-init g t c = (

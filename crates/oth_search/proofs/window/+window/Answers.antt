@@ -78,6 +78,13 @@ search_reply-returns-then-found-beta-clause-value g t c =
     (BoundsAt-negated _ c.args.alpha _ _ c.probe_with-found.result (omega (arith, ints)) (omega (arith, ints)) c.probe_with-found.ensures.value)
     (inr (omega (arith, ints, c.if-found-beta.true))) (let o = c.requires.ordered in omega (arith, ints, o))
 
+pub search_reply-search_window-requires : goal.search_reply-search_window-requires
+search_reply-search_window-requires g t c =
+    λ κs within. (
+      omega (arith, c.decreases),
+      (within, w.IsInner-negated c.args.alpha c.args.beta _ _ (omega (arith, ints)) (omega (arith, ints)) c.requires),
+    )
+
 pub search_reply-returns-then-beta-alpha-clause-value : goal.search_reply-returns-then-beta-alpha-clause-value
 search_reply-returns-then-beta-alpha-clause-value g t c =
     w.WithinAt-negated _ c.args.alpha c.args.beta _ _ _ c.search_window.result (omega (arith, ints)) (omega (arith, ints)) (omega (arith, ints)) c.search_window.ensures.value

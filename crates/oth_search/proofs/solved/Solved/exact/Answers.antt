@@ -11,3 +11,8 @@ loop-reply-smaller-then-reply-alpha g c =
     (omega (arith, ints, c.greater-alpha.ensures.left))
     (between old.lower old.upper _ _ _ (omega (arith, ints)) (omega (arith, ints, c.loop-reply-test.true)) (omega (arith, ints)) c.greater-alpha.ensures.one)
     (omega (arith, ints, c.decided_at-reply.ensures.lower)) (omega (arith, ints, c.decided_at-reply.ensures.upper)) (omega (arith, ints)) (omega (arith, ints)) c.decided_at-reply.ensures.decides
+
+pub returns-clause-exact : goal.returns-clause-exact
+returns-clause-exact g c =
+    let ordered = c.loop-reply.reply.interval.is_interval.ordered in
+    omega (arith, ints, c.loop-reply-test.false, ordered)
