@@ -16,8 +16,11 @@ fn board(rt: &impl Abort, top: &[u8], rest: u8) -> Board {
     Board::of(own, opp).expect(rt, "no cell is both")
 }
 
+// The first cells of the start; the others are empty.
+const START: &[u8] = b"---------------------------OX------XO---";
+
 fn start(rt: &impl Abort) -> Board {
-    board(rt, b"---------------------------OX------XO---", b'-')
+    board(rt, START, b'-')
 }
 
 // The legal squares that reach the score, by playing each.
@@ -138,6 +141,14 @@ fn scores_and_best_moves_by_discs(rt: HostRuntime) {
     );
 }
 
+// Nobody can move on this board, and it has these scores.
+fn check_finished(rt: &impl Abort, board: &Board, by_winner: i8, by_discs: i8) {
+    check_forms(rt, board);
+    assert!(rt; board.is_over());
+    assert_eq!(rt; board.final_score(Scoring::Winner), by_winner);
+    assert_eq!(rt; board.final_score(Scoring::Discs), by_discs);
+}
+
 #[test]
 fn finished_boards_are_scored_both_ways(rt: HostRuntime) {
     let last = board(
@@ -145,20 +156,14 @@ fn finished_boards_are_scored_both_ways(rt: HostRuntime) {
         b"XXXXXXXXXXXXXXXXXXXXXXXXXXXXXXXXXXXXXXXXXXXXXXXXXXXXXXXXXXXXXXX-",
         b'-',
     );
-    check_forms(&rt, &last);
-    assert!(rt; last.is_over());
+    check_finished(&rt, &last, 64, 63);
     assert_eq!(rt; last.empties(), 1);
-    assert_eq!(rt; last.final_score(Scoring::Winner), 64);
-    assert_eq!(rt; last.final_score(Scoring::Discs), 63);
     let draw = board(
         &rt,
         b"-XXXXXXXXOOOOOOXXOOOOOOXXOOOOOOXXOOOOOOXXOOOOOOXXXXXXXOXXXXXXXX-",
         b'-',
     );
-    check_forms(&rt, &draw);
-    assert!(rt; draw.is_over());
-    assert_eq!(rt; draw.final_score(Scoring::Winner), 0);
-    assert_eq!(rt; draw.final_score(Scoring::Discs), 0);
+    check_finished(&rt, &draw, 0, 0);
     assert_eq!(rt; draw.plain_score(Scoring::Discs), 0);
 }
 
@@ -175,10 +180,14 @@ fn words_that_share_a_square_are_refused(rt: HostRuntime) {
 fn nothing_wraps_from_h_to_a(rt: HostRuntime) {
     let edge = board(&rt, b"------XO", b'-');
     let a2 = Square::numbered(8);
-    assert_eq!(rt; edge.flips(a2), 0);
-    assert_eq!(rt; edge.flips_by_rays(a2), 0);
-    assert_eq!(rt; edge.flips_by_shifts(a2), 0);
-    assert_eq!(rt; edge.moves(), 0);
+    for squares in [
+        edge.flips(a2),
+        edge.flips_by_rays(a2),
+        edge.flips_by_shifts(a2),
+        edge.moves(),
+    ] {
+        assert_eq!(rt; squares, 0);
+    }
     check_forms(&rt, &edge);
 }
 
@@ -238,22 +247,26 @@ fn forms_on_scattered_discs(rt: HostRuntime) {
     assert_eq!(rt; seen, u64::MAX);
 }
 
-// What the opponent's stable discs leave, on boards where they can be named by eye: corners, what stands in a row with
-// one along an edge, what such discs keep on all four lines, and what no empty square is in line with.
+// Boards by their first cells and what all other cells are, and what the opponent's stable discs leave there. They can
+// be named by eye: corners, what stands in a row with one along an edge, and what such discs keep on all four lines.
+const STABLE_DISCS: [(&[u8], u8, i8); 9] = [
+    (START, b'-', 64),
+    (b"O", b'-', 62),
+    (b"-O", b'-', 64),
+    (b"O-O----O", b'-', 60),
+    (b"OOOX----", b'-', 58),
+    (b"OOOOOOOO", b'-', 48),
+    (b"OOOOOOOOOOOOOOO", b'-', 34),
+    (b"", b'O', -64),
+    (b"", b'X', 64),
+];
+
 #[test]
 fn stable_discs_that_are_seen(rt: HostRuntime) {
-    assert_eq!(rt; start(&rt).most_by_stable_discs(), 64);
-    assert_eq!(rt; board(&rt, b"O", b'-').most_by_stable_discs(), 62);
-    assert_eq!(rt; board(&rt, b"-O", b'-').most_by_stable_discs(), 64);
-    assert_eq!(rt; board(&rt, b"O-O----O", b'-').most_by_stable_discs(), 60);
-    assert_eq!(rt; board(&rt, b"OOOX----", b'-').most_by_stable_discs(), 58);
-    assert_eq!(rt; board(&rt, b"OOOOOOOO", b'-').most_by_stable_discs(), 48);
-    assert_eq!(rt;
-        board(&rt, b"OOOOOOOOOOOOOOO", b'-').most_by_stable_discs(),
-        34
-    );
-    assert_eq!(rt; board(&rt, b"", b'O').most_by_stable_discs(), -64);
-    assert_eq!(rt; board(&rt, b"", b'X').most_by_stable_discs(), 64);
+    for (top, rest, most) in STABLE_DISCS {
+        assert_eq!(rt; board(&rt, top, rest).most_by_stable_discs(), most);
+    }
+    // No empty square is in line with the others.
     let corners = 0x8100_0000_0000_0081;
     let last = Board::of(corners & !(1 << 63), !corners).expect(&rt, "apart");
     assert_eq!(rt; last.most_by_stable_discs(), 64 - 2 * 42);
@@ -279,18 +292,22 @@ fn stable_discs_of_all_images(rt: HostRuntime) {
     assert!(rt; least < 64);
 }
 
-// Lines of six discs in each direction, and lines that a shift would carry round the edge.
+// Lines of six discs in each direction, and lines that a shift would carry round the edge: the mover's discs, the
+// opponent's, and the moves.
+const LONGEST_LINES: [(u64, u64, u64); 5] = [
+    (1 << 7, 0x7e, A1),
+    (A1, 0x7e, H1),
+    (A1, 0x0001_0101_0101_0100, A8),
+    (A1, 0x0040_2010_0804_0200, 1 << 63),
+    (1 << 23, 1 << 15 | 1 << 16 | 1 << 31 | 1 << 32, H1 | 1 << 39),
+];
+
 #[test]
 fn moves_past_the_longest_lines(rt: HostRuntime) {
-    let across = Board::of(1 << 7, 0x7e).expect(&rt, "apart");
-    assert_eq!(rt; across.moves(), A1);
-    assert_eq!(rt; Board::of(A1, 0x7e).expect(&rt, "apart").moves(), H1);
-    let down = Board::of(A1, 0x0001_0101_0101_0100).expect(&rt, "apart");
-    assert_eq!(rt; down.moves(), A8);
-    let slant = Board::of(A1, 0x0040_2010_0804_0200).expect(&rt, "apart");
-    assert_eq!(rt; slant.moves(), 1 << 63);
-    let edges = Board::of(1 << 23, 1 << 15 | 1 << 16 | 1 << 31 | 1 << 32).expect(&rt, "apart");
-    assert_eq!(rt; edges.moves(), H1 | 1 << 39);
+    for (own, opp, moves) in LONGEST_LINES {
+        let board = Board::of(own, opp).expect(&rt, "apart");
+        assert_eq!(rt; board.moves(), moves);
+    }
 }
 
 #[test]
