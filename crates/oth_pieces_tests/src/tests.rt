@@ -4,11 +4,13 @@ mod refused;
 
 ghost use Rattle.std.specs.Prelude.{◌≡◌, ◌<◌, ℕ, length, slice_index_or};
 ghost use Rattle.oth_pieces.specs.Hands.{AreAllHands, IsHandOf, number_of};
+ghost use Rattle.oth_pieces.specs.Watch.{IsSeatOf};
 
-use oth_pieces::{Collector, Floor, Frontier, Hand, Refusal, Reply, Tasks};
+use oth_pieces::{Collector, Floor, FloorSeat, Frontier, Hand, Refusal, Reply, Tasks};
 use oth_rules::samples::board;
 use oth_rules::{Board, Scoring, Square};
 use oth_search::{NoCells, Solved};
+use std::process::Abort;
 use std::test::Fail;
 use std::thread;
 use std::thread::Threads;
@@ -34,6 +36,23 @@ fn lifted(root: &Board, number: u8) -> Option<Solved> {
     Solved::lift(root, square, &exactly(&child)).ok()
 }
 
+// The floor takes what is told of its root, and is so high then.
+fn check_raised(rt: &impl Abort, floor: &Floor, seat: &mut FloorSeat, told: &Solved, score: i8)
+    requires { IsSeatOf floor.now seat.old }
+    ensures { IsSeatOf floor.now seat.new }
+{
+    assert!(rt; floor.raise(seat, told).is_ok());
+    assert!(rt; floor.read(seat) == score);
+}
+
+// The floor refuses what is told of something else than its root.
+fn check_refused(rt: &impl Abort, floor: &Floor, seat: &mut FloorSeat, told: &Solved)
+    requires { IsSeatOf floor.now seat.old }
+    ensures { IsSeatOf floor.now seat.new }
+{
+    assert!(rt; floor.raise(seat, told).is_err());
+}
+
 #[test]
 fn a_floor_rises_to_the_best_move(rt: HostRuntime) -> Result<(), Fail> {
     let (Some(a), Some(c)) = (board(A), board(C)) else {
@@ -49,15 +68,11 @@ fn a_floor_rises_to_the_best_move(rt: HostRuntime) -> Result<(), Fail> {
         panic!(rt; "no seat")
     };
     assert!(rt; floor.read(&mut seat) == -64);
-    assert!(rt; floor.raise(&mut seat, &b1).is_ok());
-    assert!(rt; floor.read(&mut seat) == -64);
-    assert!(rt; floor.raise(&mut seat, &h1).is_ok());
-    assert!(rt; floor.read(&mut seat) == -50);
-    assert!(rt; floor.raise(&mut seat, &b1).is_ok());
-    assert!(rt; floor.read(&mut seat) == -50);
-    assert!(rt; floor.raise(&mut seat, &exactly(&c)).is_err());
-    let discs = Solved::unknown(a, Scoring::Discs);
-    assert!(rt; floor.raise(&mut seat, &discs).is_err());
+    check_raised(&rt, &floor, &mut seat, &b1, -64);
+    check_raised(&rt, &floor, &mut seat, &h1, -50);
+    check_raised(&rt, &floor, &mut seat, &b1, -50);
+    check_refused(&rt, &floor, &mut seat, &exactly(&c));
+    check_refused(&rt, &floor, &mut seat, &Solved::unknown(a, Scoring::Discs));
     assert!(rt; floor.read(&mut seat) == -50);
     assert!(rt; floor.read(&mut other) == -50);
     floor.meet(&mut seat, &mut other);
@@ -66,9 +81,17 @@ fn a_floor_rises_to_the_best_move(rt: HostRuntime) -> Result<(), Fail> {
 }
 
 // The words of an item's board, and whether its mover is the root's.
-fn item(frontier: &Frontier, number: u32) -> Option<(u64, u64, bool)> {
+type Item = (u64, u64, bool);
+
+// The item of this number, if the frontier has one.
+fn item(frontier: &Frontier, number: u32) -> Option<Item> {
     let item = frontier.entry(number)?;
     Some((item.board.own(), item.board.opp(), item.same_mover))
+}
+
+// Whether these two items are all that the frontier has.
+fn has_two_items(frontier: &Frontier, first: Item, second: Item) -> bool {
+    frontier.len() == 2 && item(frontier, 0) == Some(first) && item(frontier, 1) == Some(second)
 }
 
 #[test]
@@ -76,18 +99,15 @@ fn frontiers_put_passes_in(rt: HostRuntime) -> Result<(), Fail> {
     let (Some(a), Some(b)) = (board(A), board(B)) else {
         panic!(rt; "no boards")
     };
-    let one = Frontier::of(&a, 1);
-    assert!(rt; one.len() == 2);
-    assert!(rt; item(&one, 0) == Some((0xffff_ffff_ffff_ff70, 0x0e, false)));
-    assert!(rt; item(&one, 1) == Some((0xf8, 0xffff_ffff_ffff_ff04, true)));
-    let two = Frontier::of(&a, 2);
-    assert!(rt; two.len() == 2);
-    assert!(rt; item(&two, 0) == Some((0, 0xffff_ffff_ffff_ff7f, true)));
-    assert!(rt; item(&two, 1) == Some((0xffff_ffff_ffff_ff00, 0xfe, false)));
-    let two = Frontier::of(&b, 2);
-    assert!(rt; two.len() == 2);
-    assert!(rt; item(&two, 0) == Some((0, 0xffff_ffff_ffff_feff, false)));
-    assert!(rt; item(&two, 1) == Some((0, 0xffff_ffff_ffff_ffff, false)));
+    let below_b1 = (0xffff_ffff_ffff_ff70, 0x0e, false);
+    let below_h1 = (0xf8, 0xffff_ffff_ffff_ff04, true);
+    assert!(rt; has_two_items(&Frontier::of(&a, 1), below_b1, below_h1));
+    let below_b1 = (0, 0xffff_ffff_ffff_ff7f, true);
+    let below_h1 = (0xffff_ffff_ffff_ff00, 0xfe, false);
+    assert!(rt; has_two_items(&Frontier::of(&a, 2), below_b1, below_h1));
+    let first = (0, 0xffff_ffff_ffff_feff, false);
+    let second = (0, 0xffff_ffff_ffff_ffff, false);
+    assert!(rt; has_two_items(&Frontier::of(&b, 2), first, second));
     Ok(())
 }
 
@@ -102,6 +122,14 @@ fn drawn(tasks: &Tasks, hands: &mut Vec<Hand>, at: usize) -> Option<u32>
     tasks.draw(&mut hands[at])
 }
 
+// The hand at this place draws this number.
+fn check_draw(rt: &impl Abort, tasks: &Tasks, hands: &mut Vec<Hand>, at: usize, number: Option<u32>)
+    requires { AreAllHands tasks.now hands.old.items }
+    ensures { AreAllHands tasks.now hands.new.items }
+{
+    assert!(rt; drawn(tasks, hands, at) == number);
+}
+
 #[test]
 fn hands_steal_from_each_other(rt: HostRuntime) -> Result<(), Fail> {
     let Some(a) = board(A) else {
@@ -111,10 +139,10 @@ fn hands_steal_from_each_other(rt: HostRuntime) -> Result<(), Fail> {
     let Ok((tasks, mut hands)) = Tasks::new(rt.alloc(), &frontier, 2) else {
         panic!(rt; "no tasks")
     };
-    assert!(rt; drawn(&tasks, &mut hands, 0) == Some(0));
-    assert!(rt; drawn(&tasks, &mut hands, 0) == Some(1));
-    assert!(rt; drawn(&tasks, &mut hands, 0) == None);
-    assert!(rt; drawn(&tasks, &mut hands, 1) == None);
+    check_draw(&rt, &tasks, &mut hands, 0, Some(0));
+    check_draw(&rt, &tasks, &mut hands, 0, Some(1));
+    check_draw(&rt, &tasks, &mut hands, 0, None);
+    check_draw(&rt, &tasks, &mut hands, 1, None);
     let closed = tasks.close(hands);
     let [first, second] = closed.lists.as_slice() else {
         panic!(rt; "not two lists")
@@ -133,9 +161,9 @@ fn the_second_hand_draws_first(rt: HostRuntime) -> Result<(), Fail> {
     let Ok((tasks, mut hands)) = Tasks::new(rt.alloc(), &frontier, 2) else {
         panic!(rt; "no tasks")
     };
-    assert!(rt; drawn(&tasks, &mut hands, 1) == Some(1));
-    assert!(rt; drawn(&tasks, &mut hands, 1) == Some(0));
-    assert!(rt; drawn(&tasks, &mut hands, 1) == None);
+    check_draw(&rt, &tasks, &mut hands, 1, Some(1));
+    check_draw(&rt, &tasks, &mut hands, 1, Some(0));
+    check_draw(&rt, &tasks, &mut hands, 1, None);
     Ok(())
 }
 
@@ -150,13 +178,13 @@ fn numbers_are_drawn_by_rank(rt: HostRuntime) -> Result<(), Fail> {
     let Ok((tasks, mut hands)) = Tasks::by_rank(rt.alloc(), &frontier, &[9, 9, 0, 1, 5], 2) else {
         panic!(rt; "no tasks")
     };
-    assert!(rt; drawn(&tasks, &mut hands, 0) == Some(2));
-    assert!(rt; drawn(&tasks, &mut hands, 0) == Some(4));
-    assert!(rt; drawn(&tasks, &mut hands, 1) == Some(3));
-    assert!(rt; drawn(&tasks, &mut hands, 0) == Some(0));
-    assert!(rt; drawn(&tasks, &mut hands, 1) == Some(1));
-    assert!(rt; drawn(&tasks, &mut hands, 1) == Some(5));
-    assert!(rt; drawn(&tasks, &mut hands, 0) == Some(6));
+    check_draw(&rt, &tasks, &mut hands, 0, Some(2));
+    check_draw(&rt, &tasks, &mut hands, 0, Some(4));
+    check_draw(&rt, &tasks, &mut hands, 1, Some(3));
+    check_draw(&rt, &tasks, &mut hands, 0, Some(0));
+    check_draw(&rt, &tasks, &mut hands, 1, Some(1));
+    check_draw(&rt, &tasks, &mut hands, 1, Some(5));
+    check_draw(&rt, &tasks, &mut hands, 0, Some(6));
     Ok(())
 }
 
@@ -236,15 +264,15 @@ fn a_collector_takes_each_reply_once(rt: HostRuntime) -> Result<(), Fail> {
     let mut collector = Collector::new(&frontier, Scoring::Winner);
     let solved = exactly(&one);
     let discs = Solved::unknown(zero, Scoring::Discs);
-    assert!(rt; collector.take(Reply { number: 1, solved }).is_ok());
-    assert!(rt; collector.take(Reply { number: 1, solved }).err() == Some(Refusal::Double));
-    assert!(rt; collector.take(Reply { number: 2, solved }).err() == Some(Refusal::Stranger));
-    assert!(rt; collector.take(Reply { number: 0, solved }).err() == Some(Refusal::OtherBoard));
-    let other = collector.take(Reply {
-        number: 0,
-        solved: discs,
-    });
-    assert!(rt; other.err() == Some(Refusal::OtherScoring));
+    for (number, solved, refusal) in [
+        (1, solved, None),
+        (1, solved, Some(Refusal::Double)),
+        (2, solved, Some(Refusal::Stranger)),
+        (0, solved, Some(Refusal::OtherBoard)),
+        (0, discs, Some(Refusal::OtherScoring)),
+    ] {
+        assert!(rt; collector.take(Reply { number, solved }).err() == refusal);
+    }
     assert!(rt; collector.solved(0).is_none() && collector.solved(1).is_some());
     Ok(())
 }
