@@ -17,6 +17,7 @@ use oth_rules::{Board, Scoring};
 use oth_search::{Answer, Interval, Kind, NoCells, Solved, solve_alone};
 use oth_text::fakes::ByteSink;
 use std::alloc::{AllocError, Global};
+use std::process::Abort;
 use std::test::Fail;
 
 // Each board by its own and opposing discs.
@@ -247,6 +248,38 @@ fn book(rt: &HostRuntime, bytes: &[u8]) -> Option<Book> {
     verify(rt.alloc(), read_claims(rt.alloc(), bytes).ok()?).ok()
 }
 
+// The book has this score and these best moves of the board.
+fn check_found(rt: &impl Abort, book: &Book, words: [u64; 2], known: Option<(i8, u64)>) {
+    assert_eq!(rt; found(book, words), known);
+}
+
+// The book has these bounds of the board.
+fn check_bounds(rt: &impl Abort, book: &Book, words: [u64; 2], known: Option<(i8, i8)>) {
+    assert_eq!(rt; bounds(book, words), known);
+}
+
+// What is said where the board's answer is added to the book.
+fn check_added(
+    rt: &impl Abort,
+    book: &mut Book,
+    words: [u64; 2],
+    scoring: Scoring,
+    said: Result<Added, AddError>,
+) {
+    assert_eq!(rt; add(book, words, scoring), Some(said));
+}
+
+// What is said where these bounds of A are added to the book.
+fn check_added_bounds(
+    rt: &impl Abort,
+    book: &mut Book,
+    lower: i8,
+    upper: i8,
+    said: Result<Added, AddError>,
+) {
+    assert_eq!(rt; add_bounds(book, lower, upper), Some(said));
+}
+
 fn is_written(book: &Book, expected: &[u8]) -> bool {
     let mut sink = ByteSink::<256>::new(256);
     write(book, &mut sink).is_ok() && sink.taken() == expected
@@ -257,28 +290,22 @@ fn answers_are_added_and_found(rt: HostRuntime) -> Result<(), Fail> {
     let Some(mut book) = book(&rt, BOOK_1) else {
         panic!(rt; "the book of A")
     };
-    assert_eq!(rt; found(&book, A), Some((-50, 0x80)));
-    assert_eq!(rt; found(&book, FIRST_IMAGE), Some((-50, 1)));
-    assert_eq!(rt;
-        found(&book, SECOND_IMAGE),
-        Some((-50, 0x0100_0000_0000_0000))
-    );
-    assert_eq!(rt; found(&book, C), None);
+    check_found(&rt, &book, A, Some((-50, 0x80)));
+    check_found(&rt, &book, FIRST_IMAGE, Some((-50, 1)));
+    check_found(&rt, &book, SECOND_IMAGE, Some((-50, 0x0100_0000_0000_0000)));
+    check_found(&rt, &book, C, None);
     assert!(rt; is_written(&book, BOOK_2));
-    assert_eq!(rt;
-        add(&mut book, FIRST_IMAGE, Scoring::Winner),
-        Some(Ok(Added::Present))
+    check_added(
+        &rt,
+        &mut book,
+        FIRST_IMAGE,
+        Scoring::Winner,
+        Ok(Added::Present),
     );
-    assert_eq!(rt;
-        add(&mut book, A, Scoring::Discs),
-        Some(Err(AddError::Scoring))
-    );
-    assert_eq!(rt; add(&mut book, C, Scoring::Winner), Some(Ok(Added::New)));
-    assert_eq!(rt;
-        add(&mut book, C, Scoring::Winner),
-        Some(Ok(Added::Present))
-    );
-    assert_eq!(rt; found(&book, C), Some((64, 0x81)));
+    check_added(&rt, &mut book, A, Scoring::Discs, Err(AddError::Scoring));
+    check_added(&rt, &mut book, C, Scoring::Winner, Ok(Added::New));
+    check_added(&rt, &mut book, C, Scoring::Winner, Ok(Added::Present));
+    check_found(&rt, &book, C, Some((64, 0x81)));
     assert!(rt; is_written(&book, BOTH));
     Ok(())
 }
@@ -299,17 +326,14 @@ fn bounds_are_kept_and_made_closer(rt: HostRuntime) {
     let mut book = Book::new(rt.alloc(), Scoring::Winner);
     assert!(rt; is_written(&book, EMPTY_2));
     for (lower, upper, said, known) in CLOSER {
-        assert_eq!(rt; add_bounds(&mut book, lower, upper), Some(said));
-        assert_eq!(rt; bounds(&book, A), known);
-        assert_eq!(rt; bounds(&book, FIRST_IMAGE), known);
-        assert_eq!(rt; found(&book, A), None);
+        check_added_bounds(&rt, &mut book, lower, upper, said);
+        check_bounds(&rt, &book, A, known);
+        check_bounds(&rt, &book, FIRST_IMAGE, known);
+        check_found(&rt, &book, A, None);
     }
-    assert_eq!(rt; bounds(&book, C), None);
-    assert_eq!(rt;
-        add(&mut book, A, Scoring::Winner),
-        Some(Ok(Added::Sharper))
-    );
-    assert_eq!(rt; found(&book, A), Some((-50, 0x80)));
+    check_bounds(&rt, &book, C, None);
+    check_added(&rt, &mut book, A, Scoring::Winner, Ok(Added::Sharper));
+    check_found(&rt, &book, A, Some((-50, 0x80)));
     assert!(rt; is_written(&book, BOOK_2));
 }
 
@@ -345,11 +369,15 @@ fn a_writer_that_fails_has_the_first_bytes(rt: HostRuntime) -> Result<(), Fail> 
 #[test]
 fn a_text_is_checked_without_memory_as_it_is_read(rt: HostRuntime) -> Result<(), Fail> {
     let alloc = rt.alloc();
-    assert_eq!(rt; check_text(BOTH), Ok(()));
-    assert_eq!(rt; check_text(EMPTY_1), Ok(()));
-    assert_eq!(rt; check_text(EMPTY_2), Ok(()));
-    assert_eq!(rt; check_text(WRONG_ORDER), Err(BookFault::Order(2)));
-    assert_eq!(rt; check_text(TWICE), Err(BookFault::Order(2)));
+    for (bytes, judged) in [
+        (BOTH, Ok(())),
+        (EMPTY_1, Ok(())),
+        (EMPTY_2, Ok(())),
+        (WRONG_ORDER, Err(BookFault::Order(2))),
+        (TWICE, Err(BookFault::Order(2))),
+    ] {
+        assert_eq!(rt; check_text(bytes), judged);
+    }
     for len in 0..BOTH.len() {
         assert!(rt; is_checked_as_read(alloc, &BOTH[..len]));
     }

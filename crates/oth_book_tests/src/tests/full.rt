@@ -1,10 +1,11 @@
 //! A full book.
 
-use super::{A, add, add_bounds, board, bounds, found};
+use super::{A, board, check_added, check_added_bounds, check_bounds, check_found};
 use oth_book::{AddError, Added, Book};
 use oth_rules::Scoring;
 use oth_search::Solved;
 use std::alloc::Global;
+use std::process::Abort;
 
 // A board with the mover's disc on d1 alone, and with the number's 17 bits as the other side's discs on the last
 // squares; all squares between have discs of the other side. It is canonical, and greater numbers give boards later in
@@ -20,6 +21,16 @@ fn numbered(number: u32) -> [u64; 2] {
 fn add_unknown(book: &mut Book, words: [u64; 2]) -> Option<Result<Added, AddError>> {
     let unknown = Solved::unknown(board(words)?, Scoring::Winner);
     Some(book.add_bounds(&unknown))
+}
+
+// What is said where the board is put in, of which nothing is known.
+fn check_added_unknown(
+    rt: &impl Abort,
+    book: &mut Book,
+    words: [u64; 2],
+    said: Result<Added, AddError>,
+) {
+    assert_eq!(rt; add_unknown(book, words), Some(said));
 }
 
 // A book of 100,000 boards of which nothing is known.
@@ -39,19 +50,13 @@ fn a_full_book_takes_no_further_board(rt: HostRuntime) {
         panic!(rt; "no book")
     };
     assert_eq!(rt; book.len(), 100_000);
-    assert_eq!(rt; bounds(&book, numbered(99_999)), Some((-64, 64)));
-    assert_eq!(rt; bounds(&book, numbered(100_000)), None);
-    assert_eq!(rt;
-        add_unknown(&mut book, numbered(100_000)),
-        Some(Err(AddError::Full))
-    );
-    assert_eq!(rt;
-        add(&mut book, A, Scoring::Winner),
-        Some(Err(AddError::Full))
-    );
-    assert_eq!(rt; add_bounds(&mut book, -64, -40), Some(Err(AddError::Full)));
+    check_bounds(&rt, &book, numbered(99_999), Some((-64, 64)));
+    check_bounds(&rt, &book, numbered(100_000), None);
+    check_added_unknown(&rt, &mut book, numbered(100_000), Err(AddError::Full));
+    check_added(&rt, &mut book, A, Scoring::Winner, Err(AddError::Full));
+    check_added_bounds(&rt, &mut book, -64, -40, Err(AddError::Full));
     assert_eq!(rt; book.len(), 100_000);
-    assert_eq!(rt; bounds(&book, A), None);
+    check_bounds(&rt, &book, A, None);
 }
 
 // Refusals that come before want of room, and boards that are there.
@@ -60,24 +65,24 @@ fn a_full_book_takes_what_it_has(rt: HostRuntime) {
     let Some(mut book) = full_book(rt.alloc()) else {
         panic!(rt; "no book")
     };
-    assert_eq!(rt;
-        add(&mut book, A, Scoring::Discs),
-        Some(Err(AddError::Scoring))
-    );
-    assert_eq!(rt;
-        add_bounds(&mut book, -50, -50),
-        Some(Err(AddError::OneNumber))
-    );
+    check_added(&rt, &mut book, A, Scoring::Discs, Err(AddError::Scoring));
+    check_added_bounds(&rt, &mut book, -50, -50, Err(AddError::OneNumber));
     let near_full = numbered(65_535);
-    assert_eq!(rt; add_unknown(&mut book, near_full), Some(Ok(Added::Present)));
-    assert_eq!(rt; found(&book, near_full), None);
-    assert_eq!(rt;
-        add(&mut book, near_full, Scoring::Winner),
-        Some(Ok(Added::Sharper))
+    check_added_unknown(&rt, &mut book, near_full, Ok(Added::Present));
+    check_found(&rt, &book, near_full, None);
+    check_added(
+        &rt,
+        &mut book,
+        near_full,
+        Scoring::Winner,
+        Ok(Added::Sharper),
     );
-    assert_eq!(rt;
-        add(&mut book, near_full, Scoring::Winner),
-        Some(Ok(Added::Present))
+    check_added(
+        &rt,
+        &mut book,
+        near_full,
+        Scoring::Winner,
+        Ok(Added::Present),
     );
     assert_eq!(rt; book.len(), 100_000);
 }
