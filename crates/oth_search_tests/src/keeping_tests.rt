@@ -1,6 +1,7 @@
 //! What no clause says of looking up and putting, and how many boards a search comes to.
 ghost use Rattle.std.specs.Prelude.{◌≡◌, IfSome};
 
+use crate::tests::{board_of, check_bounds};
 use oth_rules::samples::{after_least_moves, board as sample};
 use oth_rules::{Board, Scoring};
 use oth_search::{Cells, Entry, Memo, NoCells, Solved, search, solve_with};
@@ -43,6 +44,11 @@ impl Kept {
     }
 }
 
+/// The cells keep the entry of these words, were looked at so often and put so often.
+fn check_kept(rt: &impl Abort, cells: &Kept, words: [u64; 3], looks: u32, puts: u32) {
+    assert!(rt; cells.has(words, looks, puts));
+}
+
 impl Cells for Kept {
     ghost Fixed = { Unit {0} };
 
@@ -65,49 +71,49 @@ impl Cells for Kept {
 
 #[test]
 fn looks_up_and_puts(rt: HostRuntime) -> Result<(), Fail> {
-    let Ok(board) = Board::of(A[0], A[1]) else {
-        panic!(rt; "no board")
-    };
+    let board = board_of(&rt, A);
     let mut cells = Kept::nothing();
     let first = search(&board, -65, 65, &mut cells, Scoring::Winner);
-    assert!(rt; first.lower == -50 && first.upper == -50);
-    assert!(rt; cells.has([A[0], A[1], EXACT], 1, 1));
+    check_bounds(&rt, first, -50, -50);
+    check_kept(&rt, &cells, [A[0], A[1], EXACT], 1, 1);
     let second = search(&board, -65, 65, &mut cells, Scoring::Winner);
-    assert!(rt; second.lower == -50 && second.upper == -50);
-    assert!(rt; cells.has([A[0], A[1], EXACT], 2, 1));
+    check_bounds(&rt, second, -50, -50);
+    check_kept(&rt, &cells, [A[0], A[1], EXACT], 2, 1);
     Ok(())
 }
 
 #[test]
 fn keeps_a_bound(rt: HostRuntime) -> Result<(), Fail> {
-    let Ok(board) = Board::of(A[0], A[1]) else {
-        panic!(rt; "no board")
-    };
+    let board = board_of(&rt, A);
     let mut above = Kept::nothing();
     search(&board, -51, -50, &mut above, Scoring::Winner);
-    assert!(rt; above.has([A[0], A[1], AT_LEAST], 1, 1));
+    check_kept(&rt, &above, [A[0], A[1], AT_LEAST], 1, 1);
     search(&board, -60, -55, &mut above, Scoring::Winner);
-    assert!(rt; above.has([A[0], A[1], AT_LEAST], 2, 1));
+    check_kept(&rt, &above, [A[0], A[1], AT_LEAST], 2, 1);
     let mut below = Kept::nothing();
     search(&board, -50, 0, &mut below, Scoring::Winner);
-    assert!(rt; below.has([A[0], A[1], AT_MOST], 1, 1));
+    check_kept(&rt, &below, [A[0], A[1], AT_MOST], 1, 1);
     search(&board, -20, 65, &mut below, Scoring::Winner);
-    assert!(rt; below.has([A[0], A[1], AT_MOST], 2, 1));
+    check_kept(&rt, &below, [A[0], A[1], AT_MOST], 2, 1);
     search(&board, -51, -50, &mut below, Scoring::Winner);
-    assert!(rt; below.has([A[0], A[1], EXACT], 3, 2));
+    check_kept(&rt, &below, [A[0], A[1], EXACT], 3, 2);
     Ok(())
 }
 
 #[test]
 fn keeps_a_board_that_passes(rt: HostRuntime) -> Result<(), Fail> {
-    let Ok(board) = Board::of(A[1], A[0]) else {
-        panic!(rt; "no board")
-    };
+    let board = board_of(&rt, [A[1], A[0]]);
     let mut cells = Kept::nothing();
     let found = search(&board, -65, 65, &mut cells, Scoring::Winner);
-    assert!(rt; found.lower == 50 && found.upper == 50);
+    check_bounds(&rt, found, 50, 50);
     let (image, _) = board.canonical();
-    assert!(rt; cells.has([image.own(), image.opp(), 114 + 256 * 114], 1, 1));
+    check_kept(
+        &rt,
+        &cells,
+        [image.own(), image.opp(), 114 + 256 * 114],
+        1,
+        1,
+    );
     Ok(())
 }
 
@@ -117,12 +123,10 @@ fn keeps_images_under_one_board(rt: HostRuntime) -> Result<(), Fail> {
         [0x10, 0xffff_ffff_ffff_ff2e],
         [0x10 << 56, 0x2eff_ffff_ffff_ffff],
     ] {
-        let Ok(board) = Board::of(words[0], words[1]) else {
-            panic!(rt; "no board")
-        };
+        let board = board_of(&rt, words);
         let mut cells = Kept::nothing();
         search(&board, -65, 65, &mut cells, Scoring::Winner);
-        assert!(rt; cells.has([A[0], A[1], EXACT], 1, 1));
+        check_kept(&rt, &cells, [A[0], A[1], EXACT], 1, 1);
     }
     Ok(())
 }
@@ -130,12 +134,10 @@ fn keeps_images_under_one_board(rt: HostRuntime) -> Result<(), Fail> {
 #[test]
 fn looks_up_no_finished_board(rt: HostRuntime) -> Result<(), Fail> {
     for own in [u64::MAX, !(1 << 63), !0x3fff_ffff] {
-        let Ok(board) = Board::of(own, 0) else {
-            panic!(rt; "no board")
-        };
+        let board = board_of(&rt, [own, 0]);
         let mut cells = Kept::nothing();
         let found = search(&board, -65, 65, &mut cells, Scoring::Winner);
-        assert!(rt; found.lower == 64 && found.upper == 64);
+        check_bounds(&rt, found, 64, 64);
         assert!(rt; cells.looks == 0 && cells.puts == 0);
     }
     Ok(())
@@ -155,13 +157,19 @@ fn keeps_what_a_probe_tells(rt: HostRuntime) -> Result<(), Fail> {
     let found = Solved::by_probe(&board, value - 1, &mut above, Scoring::Winner);
     assert!(rt; found.interval.lower == value && found.interval.upper == 64);
     let lower = (i16::from(value) + 64) as u64;
-    assert!(rt; above.has([image.own(), image.opp(), lower + 256 * 128], 1, 1));
+    check_kept(
+        &rt,
+        &above,
+        [image.own(), image.opp(), lower + 256 * 128],
+        1,
+        1,
+    );
     Solved::by_probe(&board, value - 1, &mut above, Scoring::Winner);
     assert!(rt; above.looks == 2 && above.puts == 1);
     let mut below = Kept::nothing();
     let found = Solved::by_probe(&board, value, &mut below, Scoring::Winner);
     assert!(rt; found.interval.lower == -64 && found.interval.upper == value);
-    assert!(rt; below.has([image.own(), image.opp(), 256 * lower], 1, 1));
+    check_kept(&rt, &below, [image.own(), image.opp(), 256 * lower], 1, 1);
     Ok(())
 }
 

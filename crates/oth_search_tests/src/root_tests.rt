@@ -1,6 +1,7 @@
 //! What no clause says of a root: what is asked, and what is not.
 ghost use Rattle.std.specs.Prelude.{◌≡◌};
 
+use crate::tests::board_of;
 use oth_rules::{Board, Scoring};
 use oth_search::{Cells, Entry, NoCells, Solved, settle_moves, solve_alone};
 use std::test::Fail;
@@ -26,9 +27,7 @@ impl Cells for Counted {
 
 #[test]
 fn searches_no_reply_that_is_settled(rt: HostRuntime) -> Result<(), Fail> {
-    let Ok(board) = Board::of(0xd470_0405_47e5_dd00, 0x0205_7a18_b81a_22fc) else {
-        panic!(rt; "no board")
-    };
+    let board = board_of(&rt, [0xd470_0405_47e5_dd00, 0x0205_7a18_b81a_22fc]);
     let root = Solved::unknown(board, Scoring::Winner);
     let replies = settle_moves(&root, &[], &mut NoCells);
     assert!(rt; replies.as_slice().len() == board.moves().count_ones() as usize);
@@ -49,9 +48,7 @@ fn searches_no_reply_that_is_settled(rt: HostRuntime) -> Result<(), Fail> {
 
 #[test]
 fn starts_from_a_guess(rt: HostRuntime) -> Result<(), Fail> {
-    let Ok(board) = Board::of(0x887e_3660_0403_0312, 0x3200_899f_bb7c_0c08) else {
-        panic!(rt; "no board")
-    };
+    let board = board_of(&rt, [0x887e_3660_0403_0312, 0x3200_899f_bb7c_0c08]);
     assert!(rt; board.empties() == 17);
     match solve_alone(&board, Scoring::Winner) {
         Ok(answer) => assert!(rt; answer.score == -32 && answer.best == 0x4000_0000_0000_4000),

@@ -4,13 +4,24 @@ ghost use Rattle.std.specs.Prelude.{◌≡◌, IfSome};
 use oth_rules::samples::after_least_moves;
 use oth_rules::{Board, Scoring};
 use oth_search::{
-    Cells, Entry, Kind, Memo, NoCells, Solved, TooManyEmpties, known_below, search, seeming_value,
-    solve_alone, solve_with,
+    Cells, Entry, Interval, Kind, Memo, NoCells, Solved, TooManyEmpties, known_below, search,
+    seeming_value, solve_alone, solve_with,
 };
+use std::process::Abort;
 use std::test::Fail;
 
 /// The board with row 1 `--OXOOO-` and all else `O`, seen by `X`.
 const A: [u64; 2] = [0x8, 0xffff_ffff_ffff_ff74];
+
+/// The board of these words.
+pub(crate) fn board_of(rt: &impl Abort, words: [u64; 2]) -> Board {
+    Board::of(words[0], words[1]).expect(rt, "no disc is of both sides")
+}
+
+/// The bounds that were found are these.
+pub(crate) fn check_bounds(rt: &impl Abort, found: Interval, lower: i8, upper: i8) {
+    assert!(rt; found.lower == lower && found.upper == upper);
+}
 
 /// A board by own and opposing discs, with its score and all best moves.
 type Row = (u64, u64, i8, u64, Kind);
@@ -83,9 +94,7 @@ fn solves_the_worked_boards(rt: HostRuntime) -> Result<(), Fail> {
 
 #[test]
 fn seems_to_have_its_value_where_few_squares_are_empty(rt: HostRuntime) -> Result<(), Fail> {
-    let Ok(board) = Board::of(A[0], A[1]) else {
-        panic!(rt; "no board")
-    };
+    let board = board_of(&rt, A);
     assert!(rt; seeming_value(board, -51, &mut NoCells, Scoring::Winner) == -50);
     assert!(rt; seeming_value(board, -50, &mut NoCells, Scoring::Winner) == -50);
     assert!(rt; seeming_value(board, -50, &mut NoCells, Scoring::Discs) == -49);
@@ -94,9 +103,7 @@ fn seems_to_have_its_value_where_few_squares_are_empty(rt: HostRuntime) -> Resul
 
 #[test]
 fn refuses_31_empties(rt: HostRuntime) -> Result<(), Fail> {
-    let Ok(board) = Board::of(!0x7fff_ffff, 0) else {
-        panic!(rt; "no board")
-    };
+    let board = board_of(&rt, [!0x7fff_ffff, 0]);
     for scoring in [Scoring::Winner, Scoring::Discs] {
         match solve_alone(&board, scoring) {
             Ok(_) => panic!(rt; "31 empty squares are solved"),
@@ -134,11 +141,9 @@ fn ends_at_16_empties(rt: HostRuntime) -> Result<(), Fail> {
 
 #[test]
 fn decides_each_window(rt: HostRuntime) -> Result<(), Fail> {
-    let Ok(board) = Board::of(A[0], A[1]) else {
-        panic!(rt; "no board")
-    };
+    let board = board_of(&rt, A);
     let exact = search(&board, -65, 65, &mut NoCells, Scoring::Winner);
-    assert!(rt; exact.lower == -50 && exact.upper == -50);
+    check_bounds(&rt, exact, -50, -50);
     let above = search(&board, -51, -50, &mut NoCells, Scoring::Winner);
     assert!(rt; above.lower == -50);
     let below = search(&board, -50, 0, &mut NoCells, Scoring::Winner);
@@ -148,9 +153,7 @@ fn decides_each_window(rt: HostRuntime) -> Result<(), Fail> {
 
 #[test]
 fn packs_bounds(rt: HostRuntime) -> Result<(), Fail> {
-    let Ok(board) = Board::of(A[0], A[1]) else {
-        panic!(rt; "no board")
-    };
+    let board = board_of(&rt, A);
     let solved = Solved::by_search(&board, -65, 65, &mut NoCells, Scoring::Winner);
     for (lower, upper, packed) in [
         (-64, -50, 3584),
@@ -183,36 +186,37 @@ fn combines_what_is_known(rt: HostRuntime) -> Result<(), Fail> {
         Solved::by_search(&second, -65, 65, &mut NoCells, Scoring::Winner),
     ];
     let combined = known_below(root, 1, &known, Scoring::Winner).interval;
-    assert!(rt; combined.lower == -50 && combined.upper == -50);
+    check_bounds(&rt, combined, -50, -50);
     Ok(())
 }
 
 #[test]
 fn probes_one_threshold(rt: HostRuntime) -> Result<(), Fail> {
-    let Ok(board) = Board::of(A[0], A[1]) else {
-        panic!(rt; "no board")
-    };
+    let board = board_of(&rt, A);
     let above = Solved::by_probe(&board, -51, &mut NoCells, Scoring::Winner).interval;
-    assert!(rt; above.lower == -50 && above.upper == 64);
+    check_bounds(&rt, above, -50, 64);
     let below = Solved::by_probe(&board, -50, &mut NoCells, Scoring::Winner).interval;
-    assert!(rt; below.lower == -64 && below.upper == -50);
+    check_bounds(&rt, below, -64, -50);
     Ok(())
+}
+
+/// Nothing of the board is remembered.
+fn check_forgotten(rt: &impl Abort, memo: &Memo, board: &Board, scoring: Scoring) {
+    assert!(rt; memo.recall(board, scoring).is_none());
 }
 
 #[test]
 fn recalls_what_it_remembers(rt: HostRuntime) -> Result<(), Fail> {
-    let Ok(board) = Board::of(A[0], A[1]) else {
-        panic!(rt; "no board")
-    };
+    let board = board_of(&rt, A);
     let mut memo = Memo::new();
-    assert!(rt; matches!(memo.recall(&board, Scoring::Winner), None));
+    check_forgotten(&rt, &memo, &board, Scoring::Winner);
     memo.remember(&Solved::by_search(&board, -65, 65, &mut NoCells, Scoring::Winner));
     let Some(told) = memo.recall(&board, Scoring::Winner) else {
         panic!(rt; "nothing is recalled")
     };
-    assert!(rt; told.interval.lower == -50 && told.interval.upper == -50);
-    assert!(rt; matches!(memo.recall(&board, Scoring::Discs), None));
-    assert!(rt; matches!(memo.recall(&board.pass(), Scoring::Winner), None));
+    check_bounds(&rt, told.interval, -50, -50);
+    check_forgotten(&rt, &memo, &board, Scoring::Discs);
+    check_forgotten(&rt, &memo, &board.pass(), Scoring::Winner);
     Ok(())
 }
 
