@@ -9,6 +9,7 @@ use oth_rules::{Board, Scoring};
 use oth_search::{Cells, Entry, NoCells, Solved, search};
 use oth_table::{Look, Put, SharedTable, TableCells, TableError, TableSeat};
 use std::alloc::Global;
+use std::process::Abort;
 use std::test::Fail;
 use std::thread::{Threads, join};
 
@@ -64,6 +65,31 @@ fn bounds(found: &Look, words: [u64; 2]) -> Option<u64> {
     }
 }
 
+// What the table says where the entry is put into its first cell.
+fn check_put(rt: &impl Abort, table: &SharedTable, seat: &mut TableSeat, entry: &Entry, said: Put)
+    requires seat { IsSeatOf table.now seat.old }
+    requires scoring { entry.now.scoring ≡ table.now.terms.scoring }
+    requires cell { 0 < table.now.cells }
+    ensures { IsSeatOf table.now seat.new }
+{
+    assert!(rt; table.put(seat, 0, entry) == said);
+}
+
+// The bounds that the first cell has of the board of these words.
+fn check_bounds(
+    rt: &impl Abort,
+    table: &SharedTable,
+    seat: &mut TableSeat,
+    words: [u64; 2],
+    packed: Option<u64>,
+)
+    requires seat { IsSeatOf table.now seat.old }
+    requires cell { 0 < table.now.cells }
+    ensures { IsSeatOf table.now seat.new }
+{
+    assert!(rt; bounds(&table.look(seat, 0), words) == packed);
+}
+
 #[test]
 fn keeps_the_closer_bounds(rt: HostRuntime) -> Result<(), Fail> {
     let Ok((table, mut seat)) = SharedTable::new(rt.alloc(), 1, Scoring::Winner) else {
@@ -74,13 +100,13 @@ fn keeps_the_closer_bounds(rt: HostRuntime) -> Result<(), Fail> {
     };
     assert!(rt; table.cells() == 1 && table.scoring() == Scoring::Winner);
     assert!(rt; matches!(table.look(&mut seat, 0), Look::Empty));
-    assert!(rt; table.put(&mut seat, 0, &three.low) == Put::Stored);
-    assert!(rt; bounds(&table.look(&mut seat, 0), A) == Some(3584));
-    assert!(rt; table.put(&mut seat, 0, &three.high) == Put::Stored);
-    assert!(rt; bounds(&table.look(&mut seat, 0), A) == Some(3598));
-    assert!(rt; table.put(&mut seat, 0, &three.other) == Put::Stored);
-    assert!(rt; bounds(&table.look(&mut seat, 0), A) == None);
-    assert!(rt; bounds(&table.look(&mut seat, 0), C) == Some(32896));
+    check_put(&rt, &table, &mut seat, &three.low, Put::Stored);
+    check_bounds(&rt, &table, &mut seat, A, Some(3584));
+    check_put(&rt, &table, &mut seat, &three.high, Put::Stored);
+    check_bounds(&rt, &table, &mut seat, A, Some(3598));
+    check_put(&rt, &table, &mut seat, &three.other, Put::Stored);
+    check_bounds(&rt, &table, &mut seat, A, None);
+    check_bounds(&rt, &table, &mut seat, C, Some(32896));
     Ok(())
 }
 
@@ -92,10 +118,10 @@ fn wears_out(rt: HostRuntime) -> Result<(), Fail> {
     let Some(three) = stored_entries() else {
         panic!(rt; "no entries")
     };
-    assert!(rt; table.put(&mut seat, 0, &three.low) == Put::Stored);
-    assert!(rt; table.put(&mut seat, 0, &three.high) == Put::Stored);
-    assert!(rt; table.put(&mut seat, 0, &three.other) == Put::Worn);
-    assert!(rt; bounds(&table.look(&mut seat, 0), A) == Some(3598));
+    check_put(&rt, &table, &mut seat, &three.low, Put::Stored);
+    check_put(&rt, &table, &mut seat, &three.high, Put::Stored);
+    check_put(&rt, &table, &mut seat, &three.other, Put::Worn);
+    check_bounds(&rt, &table, &mut seat, A, Some(3598));
     assert!(rt; table.published(&mut seat, 0) == 2);
     Ok(())
 }
@@ -129,11 +155,11 @@ fn two_seats_meet(rt: HostRuntime) -> Result<(), Fail> {
     let Some(three) = stored_entries() else {
         panic!(rt; "no entries")
     };
-    assert!(rt; table.put(&mut first, 0, &three.low) == Put::Stored);
-    assert!(rt; table.put(&mut second, 0, &three.high) == Put::Stored);
+    check_put(&rt, &table, &mut first, &three.low, Put::Stored);
+    check_put(&rt, &table, &mut second, &three.high, Put::Stored);
     table.meet(&mut first, &mut second);
-    assert!(rt; bounds(&table.look(&mut first, 0), A) == Some(3598));
-    assert!(rt; bounds(&table.look(&mut second, 0), A) == Some(3598));
+    check_bounds(&rt, &table, &mut first, A, Some(3598));
+    check_bounds(&rt, &table, &mut second, A, Some(3598));
     Ok(())
 }
 
@@ -145,8 +171,8 @@ fn keeps_scores_by_discs(rt: HostRuntime) -> Result<(), Fail> {
     let Some(exact) = entry(A, -49, -49, Scoring::Discs) else {
         panic!(rt; "no entry")
     };
-    assert!(rt; table.put(&mut seat, 0, &exact) == Put::Stored);
-    assert!(rt; bounds(&table.look(&mut seat, 0), A) == Some(3855));
+    check_put(&rt, &table, &mut seat, &exact, Put::Stored);
+    check_bounds(&rt, &table, &mut seat, A, Some(3855));
     Ok(())
 }
 
@@ -164,7 +190,7 @@ fn a_search_finds_what_it_kept(rt: HostRuntime) -> Result<(), Fail> {
     let again = search(&board, -65, 65, &mut cells, Scoring::Winner);
     assert!(rt; again.lower == -50 && again.upper == -50);
     let mut seat = cells.into_seat();
-    assert!(rt; bounds(&table.look(&mut seat, 0), A) == Some(3598));
+    check_bounds(&rt, &table, &mut seat, A, Some(3598));
     Ok(())
 }
 
@@ -174,6 +200,17 @@ fn found_of(cells: &mut TableCells<'_>, entry: &Entry, scoring: Scoring) -> Opti
     let found = cells.look(&entry.board(), scoring)?;
     let [_, _, packed] = found.words();
     Some(packed)
+}
+
+// The bounds that a search would find of the entry's board are these.
+fn check_found(
+    rt: &impl Abort,
+    cells: &mut TableCells<'_>,
+    entry: &Entry,
+    scoring: Scoring,
+    packed: Option<u64>,
+) {
+    assert!(rt; found_of(cells, entry, scoring) == packed);
 }
 
 #[test]
@@ -193,13 +230,13 @@ fn gives_each_board_two_cells(rt: HostRuntime) -> Result<(), Fail> {
     cells.put(&a);
     cells.put(&by_discs);
     cells.put(&c);
-    assert!(rt; found_of(&mut cells, &a, Scoring::Winner) == Some(3598));
-    assert!(rt; found_of(&mut cells, &c, Scoring::Winner) == Some(32896));
-    assert!(rt; found_of(&mut cells, &a, Scoring::Discs) == None);
+    check_found(&rt, &mut cells, &a, Scoring::Winner, Some(3598));
+    check_found(&rt, &mut cells, &c, Scoring::Winner, Some(32896));
+    check_found(&rt, &mut cells, &a, Scoring::Discs, None);
     cells.put(&d);
-    assert!(rt; found_of(&mut cells, &d, Scoring::Winner) == Some(32896));
-    assert!(rt; found_of(&mut cells, &a, Scoring::Winner) == Some(3598));
-    assert!(rt; found_of(&mut cells, &c, Scoring::Winner) == None);
+    check_found(&rt, &mut cells, &d, Scoring::Winner, Some(32896));
+    check_found(&rt, &mut cells, &a, Scoring::Winner, Some(3598));
+    check_found(&rt, &mut cells, &c, Scoring::Winner, None);
     Ok(())
 }
 
@@ -338,8 +375,8 @@ fn threads_share_a_cell(rt: HostRuntime) -> Result<(), Fail> {
         panic!(rt; "no seat")
     };
     assert!(rt; crowd(&rt, rt.alloc(), &table, other, &three, ALL));
-    assert!(rt; table.put(&mut seat, 0, &three.other) == Put::Stored);
-    assert!(rt; bounds(&table.look(&mut seat, 0), C) == Some(32896));
+    check_put(&rt, &table, &mut seat, &three.other, Put::Stored);
+    check_bounds(&rt, &table, &mut seat, C, Some(32896));
     Ok(())
 }
 
@@ -360,8 +397,8 @@ fn threads_wear_out_a_cell(rt: HostRuntime) -> Result<(), Fail> {
         let published = table.published(&mut seat, 0);
         assert!(rt; published <= wear);
         if published == wear {
-            assert!(rt; table.put(&mut seat, 0, &three.low) == Put::Worn);
-            assert!(rt; table.put(&mut seat, 0, &three.other) == Put::Worn);
+            check_put(&rt, &table, &mut seat, &three.low, Put::Worn);
+            check_put(&rt, &table, &mut seat, &three.other, Put::Worn);
             assert!(rt; matches!(table.look(&mut seat, 0), Look::Whole(_)));
         }
     }
