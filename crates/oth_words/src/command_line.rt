@@ -5,6 +5,7 @@ ghost use Rattle.std.specs.Prelude.{map, option_map, true};
 ghost use Rattle.clap.specs.Words.{app_of, first_of, found_of, kind_of, new_app, one_text, rows_of, rule_of};
 ghost use Rattle.clap.specs.Words.{subcommand_of, subcommand_rows_of, takes};
 ghost use Rattle.clap.specs.declared.builder.command.Command.TheViews.{out-Command};
+ghost use Rattle.clap.specs.declared.builder.texts.Texts.TheVariants.{One};
 ghost use Rattle.oth_words.specs.CommandLine.{AreScorings, HasNumbers, IsNumber, IsPlain, IsReading, Meaning, Means};
 ghost use Rattle.oth_words.specs.CommandLine.{ScoringWords, add_app, book_rule, cells_rule, file_rule, meaning_of};
 ghost use Rattle.oth_words.specs.CommandLine.{option_rule, othsolve, run, scoring_rule, scoring_word, solve_app};
@@ -121,6 +122,7 @@ On standard error:
 // An option with this name that takes one value, and what help calls the value.
 fn option<'a>(alloc: Global, name: &'a str, value: &'a str) -> Arg<'a>
     ensures rule { rule_of result ≡ option_rule name.entry.now }
+    ensures value { result.val_names ≡ One value.entry }
     ensures local { result.global ≡ false }
 {
     Arg::new(alloc, name)
