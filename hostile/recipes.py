@@ -2,7 +2,8 @@
 
 A recipe is a section of the page. Each of its blocks marked `bash` is run, in their order by one shell, and has to end with status 0 and to write
 the block marked `text` that comes right behind it, word for word, or nothing where there is none. A recipe begins in an empty folder with a copy
-of examples, and with `othsolve` on the PATH. One whose tool isn't installed is passed over. What is written to standard error isn't compared.
+of examples, and with `othsolve` on the PATH. One whose tool isn't installed is passed over, and its step is named so. What is written to standard
+error isn't compared.
 """
 import os
 import re
@@ -16,8 +17,9 @@ SECTION = re.compile(r"^## (.*)$", re.MULTILINE)
 BLOCK = re.compile(r"^```bash\n(.*?)^```\n(?:\n```text\n(.*?)^```\n)?", re.MULTILINE | re.DOTALL)
 BEGIN = "Begin here"
 SEVERAL = "A collection on several machines"
-TOOLS = ("pv", "parallel", "ssh")
-LEAST = 9
+BOOK = "Keep and extend a book"
+TOOLS = ("pv", "parallel", "ssh", "iconv", "flock")
+LEAST = 15
 PATIENCE = 20
 
 # In place of ssh: every machine is this one, but some are lost.
@@ -36,6 +38,19 @@ exec bash -c "$*"
 HERE = "machines=1/:\n"
 LOST = ("refuses", "dies_early", "dies_late")
 
+# Behind the first block of the recipe for books, whose `book_add` has made a book of eight boards.
+AT_ONCE = """cut -c 1-100 examples/games.txt | othsolve transcript > more.txt
+for n in {1..8}; do sed -n ${n}p more.txt | book_add my.book & done
+wait
+othsolve book-verify my.book
+"""
+FAILING = """cp my.book old.book
+othsolve() { head -c 100 my.book; return 3; }
+book_add my.book < collection.txt; echo $?
+cmp my.book old.book && ls
+"""
+LEFT = "3\ncollection.txt\nexamples\nmy.book\nmy.book.lock\nold.book\n"
+
 
 def recipes():
     """The sections of the page that have blocks: title, and the blocks, each with what it writes."""
@@ -50,22 +65,30 @@ def steps(program):
     page = recipes()
     yield f"recipes: at least {LEAST} stand on the page", None if len(page) >= LEAST else f"found {list(page)}"
     for title, blocks in page.items():
-        missing = missing_tools(blocks)
-        if missing:
-            yield f"recipe passed over, since {' and '.join(missing)} isn't installed: {title}", None
+        if missing_tools(blocks):
+            yield passed_over(title, blocks)
         elif title == BEGIN:
             yield f"recipe: {title}", begin(blocks)
         else:
             yield f"recipe: {title}", cooked(program, blocks)
-    if SEVERAL not in page:
-        yield SEVERAL, "isn't on the page"
-    elif shutil.which("parallel"):
-        yield from lost_machines(program, page[SEVERAL])
+    for title, further in ((SEVERAL, lost_machines), (BOOK, book_kept)):
+        if title not in page:
+            yield title, "isn't on the page"
+        elif missing_tools(page[title]):
+            yield passed_over(f"{title}, where something fails", page[title])
+        else:
+            yield from further(program, page[title])
 
 
 def missing_tools(blocks):
     """The tools that the blocks name and that aren't installed."""
-    return [tool for tool in TOOLS if not shutil.which(tool) and any(re.search(rf"\b{tool}\b", code) for code, _ in blocks)]
+    code = "".join(code for code, _ in blocks)
+    return [tool for tool in TOOLS if not shutil.which(tool) and re.search(rf"\b{tool}\b", code)]
+
+
+def passed_over(name, blocks):
+    """A step that says that it wasn't run."""
+    return f"passed over and not run, since {' and '.join(missing_tools(blocks))} isn't installed: {name}", None
 
 
 def begin(blocks):
@@ -119,6 +142,13 @@ def lost_machines(program, blocks):
     yield "several machines by ssh", cooked(program, among(blocks, "1/one,2/two"), STAND_IN)
     code, _ = among(blocks, "1/refuses")[0]
     yield "the only machine refuses", cooked(program, [(f"{code}(( $? == 2 ))\n", "")], STAND_IN)
+
+
+def book_kept(program, blocks):
+    """Additions at once are all in the book; one that fails leaves the book as it was, and no other file."""
+    first, further = blocks[0], (AT_ONCE, "book ok 16\n")
+    yield "a book that eight add to at once", cooked(program, [first, further])
+    yield "a book-add that fails", cooked(program, [first, (FAILING, LEFT)])
 
 
 def among(blocks, machines):
