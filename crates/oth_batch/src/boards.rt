@@ -1,50 +1,48 @@
 //! Boards that wait to be solved together.
 
-ghost use Rattle.std.specs.Prelude.{◌≡◌, ◌≤◌, ◌<◌, ◌++◌, ◌∷◌, [], length};
+ghost use Rattle.std.specs.Prelude.{◌≡◌, ◌≤◌, ◌<◌, ◌↔◌, ◌++◌, ◌∷◌, [], length, true, IfOk};
 ghost use Rattle.oth_rules.specs.Position.{empty_count};
 
-use crate::effort::{MOST_EMPTIES_FOR_ONE, effort};
-use arrayvec::ArrayVec;
+use crate::effort::MOST_EMPTIES_FOR_ONE;
 use oth_rules::Board;
+use std::alloc::{AllocError, Global};
 use std::marker::Model;
 
 /// The most boards of a batch.
 pub const MOST_BOARDS: usize = 1_024;
 
-// No more boards are taken from so much work on: some ten seconds of one worker, so that answers don't wait long for
-// each other.
-const MOST_EFFORT: u64 = 1 << 28;
-
-/// Boards that wait to be solved together: at most 1,024, and no more when they are some seconds of work.
+/// Boards that wait to be solved together: at most 1,024.
 #[derive(Drop)]
 pub struct Boards {
-    list: ArrayVec<Board, MOST_BOARDS>,
-    effort: u64,
+    list: Vec<Board>,
 }
 
 impl Model for Boards {
-    ghost use Rattle.std.specs.Prelude.{List};
+    ghost use Rattle.std.specs.Prelude.{◌≤◌, List, vec_capacity};
     ghost use Rattle.oth_rules.specs.Position.{Position};
 
     ghost Value = { List Position };
 
     ghost view = { λ b. b.list.items };
+
+    ghost invariant = { λ b. 1024 ≤ vec_capacity b.list };
 }
 
 impl Boards {
-    /// No board waits.
-    pub fn new() -> Self
-        ensures { result ≡ [] }
+    /// No board waits. It takes the memory for all of them.
+    pub fn new(alloc: Global) -> Result<Self, AllocError>
+        ensures { IfOk result (λ boards. boards ≡ []) }
     {
-        Boards {
-            list: ArrayVec::new(),
-            effort: 0,
-        }
+        Ok(Boards {
+            list: Vec::with_capacity(alloc, MOST_BOARDS)?,
+        })
     }
 
-    /// Whether no further board is to wait.
-    pub fn is_full(&self) -> bool {
-        self.list.is_full() || self.effort >= MOST_EFFORT
+    /// Whether no further board can wait.
+    pub fn is_full(&self) -> bool
+        ensures { result ≡ true ↔ (MOST_BOARDS ≤ length self.now) }
+    {
+        self.list.len() >= MOST_BOARDS
     }
 
     /// Lets the board wait too, behind the others, if fewer than 1,024 wait and one worker is enough for it.
@@ -54,8 +52,8 @@ impl Boards {
         ensures large { MOST_EMPTIES_FOR_ONE < empty_count board → self.new ≡ self.old }
         ensures full { MOST_BOARDS ≤ length self.old → self.new ≡ self.old }
     {
-        if board.empties() <= MOST_EMPTIES_FOR_ONE && self.list.try_push(board).is_ok() {
-            self.effort = self.effort.saturating_add(effort(&board));
+        if board.empties() <= MOST_EMPTIES_FOR_ONE && !self.is_full() {
+            self.list.push_reserved(board);
         }
     }
 

@@ -2,13 +2,16 @@
 #![tactic(auto)]
 
 mod batch;
+mod beside;
 mod boards;
 mod effort;
 mod found;
+mod jobs;
 mod verifying;
 
 pub use batch::Batch;
 pub use boards::{Boards, MOST_BOARDS};
 pub use effort::MOST_EMPTIES_FOR_ONE;
 pub use found::answer_among;
+pub use jobs::Jobs;
 pub use verifying::verify_by;

@@ -92,14 +92,21 @@ impl<'b, R: Threads + Sync> ClaimSolver<'b, R> {
         solved.ok()
     }
 
+    // Solves the boards of as many of the first claims as make a batch, if there is memory for them.
+    fn look_ahead(&mut self, claims: &[Claim]) {
+        let Ok(mut boards) = Boards::new(self.batch.alloc) else {
+            return;
+        };
+        self.claims = gather(&mut boards, claims);
+        self.answers = self.batch.answers(&boards);
+    }
+
     // The answer of the first claim's board, found before or now, where that pays. Where the claim wasn't looked at,
     // the boards of as many of the claims as make a batch are solved side by side.
     fn next(&mut self, claims: &[Claim]) -> Option<Answer> {
         let first = claims.first()?;
         if self.claims == 0 {
-            let (boards, count) = boards_of(claims);
-            self.answers = self.batch.answers(&boards);
-            self.claims = count;
+            self.look_ahead(claims);
         }
         self.claims = self.claims.saturating_sub(1);
         match answer_among(self.answers.as_slice(), &first.board, self.batch.scoring) {
@@ -109,17 +116,16 @@ impl<'b, R: Threads + Sync> ClaimSolver<'b, R> {
     }
 }
 
-// The boards of the first claims, up to a batch, and the number of these claims.
-fn boards_of(claims: &[Claim]) -> (Boards, usize) {
-    let mut boards = Boards::new();
+// Lets the boards of the first claims wait, up to a batch, and gives the number of these claims.
+fn gather(boards: &mut Boards, claims: &[Claim]) -> usize {
     for count in 0..claims.len() {
         if boards.is_full() {
-            return (boards, count);
+            return count;
         }
         let board = claims[count].board;
         if !board.is_over() {
             boards.push(board);
         }
     }
-    (boards, claims.len())
+    claims.len()
 }

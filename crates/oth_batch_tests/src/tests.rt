@@ -1,5 +1,6 @@
 //! Boards that wait together are answered as one worker alone answers them.
 
+mod jobs;
 mod refused;
 mod verifying;
 
@@ -8,12 +9,13 @@ use oth_pool::Open;
 use oth_rules::samples::after_least_moves;
 use oth_rules::{Board, Scoring, Sym};
 use oth_search::{Answer, solve_alone};
+use std::alloc::Global;
 use std::test::Fail;
 use std::thread::Threads;
 
 /// The eight images of each of two boards of a game, with so many empty squares and one less.
-fn images(empties: u8) -> Option<Boards> {
-    let mut boards = Boards::new();
+fn images(alloc: Global, empties: u8) -> Option<Boards> {
+    let mut boards = Boards::new(alloc).ok()?;
     for most_empties in [empties, empties.saturating_sub(1)] {
         let board = after_least_moves(most_empties)?;
         for number in 0..8 {
@@ -56,7 +58,7 @@ fn answered(boards: &Boards, answers: &[Answer]) -> usize {
 
 #[test]
 fn each_board_is_answered(rt: HostRuntime) -> Result<(), Fail> {
-    let Some(boards) = images(10) else {
+    let Some(boards) = images(rt.alloc(), 10) else {
         panic!(rt; "no boards")
     };
     for scoring in [Scoring::Winner, Scoring::Discs] {
@@ -72,7 +74,7 @@ fn each_board_is_answered(rt: HostRuntime) -> Result<(), Fail> {
 
 #[test]
 fn a_batch_that_is_not_worth_a_second_thread_is_left(rt: HostRuntime) -> Result<(), Fail> {
-    let (Some(few), Some(boards)) = (images(4), images(10)) else {
+    let (Some(few), Some(boards)) = (images(rt.alloc(), 4), images(rt.alloc(), 10)) else {
         panic!(rt; "no boards")
     };
     assert!(rt; few.as_slice().len() == 16);
@@ -87,7 +89,7 @@ fn a_batch_that_is_not_worth_a_second_thread_is_left(rt: HostRuntime) -> Result<
 
 #[test]
 fn a_board_that_is_worth_all_workers_is_left(rt: HostRuntime) -> Result<(), Fail> {
-    let (Some(mut boards), Some(large)) = (images(9), after_least_moves(14)) else {
+    let (Some(mut boards), Some(large)) = (images(rt.alloc(), 9), after_least_moves(14)) else {
         panic!(rt; "no boards")
     };
     boards.push(large);

@@ -1,4 +1,4 @@
-//! Boards of lines that wait together, solved side by side before their lines are answered.
+//! Boards of lines that wait together, solved side by side before their lines are answered or while they are.
 
 ghost use Rattle.std.specs.Prelude.{◌≡◌, ◌<◌, ◌↔◌, IsErr, IfOk, IfErr};
 ghost use Rattle.oth_rules.specs.Position.{empty_count};
@@ -6,7 +6,7 @@ ghost use Rattle.oth_rules.specs.Position.{empty_count};
 use crate::checking::Lawful;
 use crate::lines::split_line;
 use crate::solver::Solver;
-use oth_batch::{Boards, answer_among};
+use oth_batch::{Batch, Boards, Jobs, answer_among};
 use oth_pool::Gate;
 use oth_rules::Board;
 use oth_search::{Answer, MOST_EMPTIES, TooManyEmpties};
@@ -70,29 +70,60 @@ impl Ahead {
             return;
         }
         if self.lines == 0 {
-            let (boards, lines) = boards_of(bytes);
-            self.answers = solver.batch(settings).answers(&boards);
-            self.lines = lines;
+            self.look(solver, settings, bytes);
         }
         self.lines = self.lines.saturating_sub(1);
     }
+
+    // Solves the boards of as many of the lines in these bytes as make a batch, if there is memory for them.
+    fn look<T: Threads + Sync, G: Gate>(
+        &mut self,
+        solver: &Solver<'_, T, G>,
+        settings: &Lawful,
+        bytes: &[u8],
+    ) {
+        let Ok(mut boards) = Boards::new(solver.alloc) else {
+            return;
+        };
+        self.lines = gather(&mut boards, bytes);
+        self.answers = solver.batch(settings).answers(&boards);
+    }
 }
 
-// The boards of the whole lines in these bytes, up to a batch, and the number of lines.
-fn boards_of(bytes: &[u8]) -> (Boards, usize) {
-    let mut boards = Boards::new();
+/// The boards of the whole lines in these bytes as jobs of a batch; none where one worker is asked for or enough, or
+/// memory is wanting.
+pub(crate) fn jobs_of<'b, T: Threads + Sync, G: Gate>(
+    batch: &'b Batch<'b, T, G>,
+    command: Command,
+    bytes: &[u8],
+) -> Jobs<'b, T, G> {
+    if command != Command::Solve || batch.workers < 2 {
+        return Jobs::none(&*batch);
+    }
+    let Ok(mut boards) = Boards::new(batch.alloc) else {
+        return Jobs::none(&*batch);
+    };
+    gather(&mut boards, bytes);
+    match Jobs::of(&*batch, boards.as_slice()) {
+        Some(jobs) => jobs,
+        None => Jobs::none(&*batch),
+    }
+}
+
+// Lets the boards of the whole lines in these bytes wait, up to a batch, and gives the number of these lines.
+fn gather(boards: &mut Boards, bytes: &[u8]) -> usize {
     let mut rest = bytes;
     for lines in 0..MOST_LINES {
         if boards.is_full() {
-            return (boards, lines);
+            return lines;
         }
         let Some((line, others)) = split_line(rest) else {
-            return (boards, lines);
+            return lines;
         };
         if let Ok(position) = read_solvable(line) {
             boards.push(position.board);
         }
         rest = others;
     }
-    (boards, MOST_LINES)
+    MOST_LINES
 }

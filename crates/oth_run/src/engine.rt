@@ -8,48 +8,47 @@ ghost use Rattle.oth_run.specs.Reply.{reply};
 ghost use Rattle.oth_run.specs.Report.{last_report, with_end};
 ghost use Rattle.oth_run.specs.Run.{FailsBy};
 
-use crate::ahead::Ahead;
+use crate::ahead::jobs_of;
 use crate::checking::Lawful;
 use crate::fault::RunFault;
 use crate::line::Line;
 use crate::lines::split_line;
 use crate::solver::Solver;
 use crate::waiting::Waiting;
+use oth_batch::Jobs;
 use oth_pool::Gate;
 use oth_text::{Failed, Sink, Source};
 use oth_words::Command;
-use std::alloc::Global;
 use std::sync::Wait;
 use std::thread::Threads;
 
-// So many bytes are read at once.
-const BUFFER_LEN: usize = 65_536;
+// So many bytes are read at once: 244 board lines, whose boards are solved side by side.
+const BUFFER_LEN: usize = 16_384;
 
-/// The line that has begun, answers of the next lines, and the bytes of the report that wait to be written.
+/// The line that has begun, and the bytes of the report that wait to be written.
 #[derive(Drop)]
 pub struct Engine {
     line: Line,
-    ahead: Ahead,
     waiting: Waiting,
 }
 
 impl Engine {
     /// Nothing was read yet.
-    pub fn new(alloc: Global, command: Command) -> Self
+    pub fn new(command: Command) -> Self
         ensures line { Holds command result.line [] }
         ensures waiting { result.waiting.bytes.items ≡ [] }
     {
         Engine {
             line: Line::new(command),
-            ahead: Ahead::nothing(alloc),
             waiting: Waiting::new(),
         }
     }
 
     // Answers the line that has begun, and begins a new one.
-    fn end_line<T: Threads + Sync, W: Sink, G: Gate>(
+    fn end_line<T: Wait + Threads + Sync, W: Sink, G: Gate>(
         &mut self,
         solver: &Solver<'_, T, G>,
+        jobs: &Jobs<'_, T, G>,
         settings: &Lawful,
         writer: &mut W,
     ) -> Result<(), Failed>
@@ -62,7 +61,7 @@ impl Engine {
         ensures works { OnOk result (W.failed writer.new ≡ W.failed writer.old) }
         ensures fails { OnErr result (W.failed writer.new ≡ true) }
     {
-        let answer = self.line.reply(solver, &self.ahead, settings);
+        let answer = self.line.reply(solver, jobs, settings);
         self.waiting.push_text(writer, answer.as_slice())?;
         self.waiting.push_text(writer, b"\n")?;
         self.line.clear();
@@ -70,9 +69,10 @@ impl Engine {
     }
 
     // Takes the last part of a line and answers the line. A solver's answers are written at once, since each took time.
-    fn take_line<T: Threads + Sync, W: Sink, G: Gate>(
+    fn take_line<T: Wait + Threads + Sync, W: Sink, G: Gate>(
         &mut self,
         solver: &Solver<'_, T, G>,
+        jobs: &Jobs<'_, T, G>,
         settings: &Lawful,
         writer: &mut W,
         part: &[u8],
@@ -86,16 +86,17 @@ impl Engine {
         ensures fails { OnErr result (W.failed writer.new ≡ true) }
     {
         self.line.push(part);
-        self.end_line(solver, settings, writer)?;
+        self.end_line(solver, jobs, settings, writer)?;
         self.waiting
             .write_if(settings.get().command == Command::Solve, writer)?;
         Ok(())
     }
 
     // Takes further bytes of the input, and gathers the reports of the lines that end in them.
-    fn take_bytes<T: Threads + Sync, W: Sink, G: Gate>(
+    fn take_bytes<T: Wait + Threads + Sync, W: Sink, G: Gate>(
         &mut self,
         solver: &Solver<'_, T, G>,
+        jobs: &Jobs<'_, T, G>,
         settings: &Lawful,
         writer: &mut W,
         bytes: &[u8],
@@ -109,16 +110,69 @@ impl Engine {
     {
         let mut rest = bytes;
         while let Some((line, others)) = split_line(rest) {
-            self.ahead.pass(solver, settings, rest);
-            self.take_line(solver, settings, writer, line)?;
+            self.take_line(solver, jobs, settings, writer, line)?;
             rest = others;
         }
         self.line.push(rest);
         Ok(())
     }
 
+    // The same, while other workers do the jobs, until a write fails.
+    fn take_beside<T: Wait + Threads + Sync, W: Sink, G: Gate>(
+        &mut self,
+        solver: &Solver<'_, T, G>,
+        jobs: &Jobs<'_, T, G>,
+        settings: &Lawful,
+        writer: &mut W,
+        bytes: &[u8],
+    ) -> Result<(), Failed>
+        ensures ok { OnOk result (Takes settings.now self.old self.new
+            (W.contents writer.old) (W.contents writer.new) bytes.now) }
+        ensures err { OnErr result (StopsWithin settings.now self.old
+            (W.contents writer.old) (W.contents writer.new) bytes.now) }
+        ensures works { OnOk result (W.failed writer.new ≡ W.failed writer.old) }
+        ensures fails { OnErr result (W.failed writer.new ≡ true) }
+    {
+        let mut work = || -> Result<(), Failed>
+            ensures ok { OnOk result (Takes settings.entry.now self.entry.now self.exit.now
+                (W.contents writer.entry.now) (W.contents writer.exit.now) bytes.entry.now) }
+            ensures err { OnErr result (StopsWithin settings.entry.now self.entry.now
+                (W.contents writer.entry.now) (W.contents writer.exit.now) bytes.entry.now) }
+            ensures works { OnOk result (W.failed writer.exit.now ≡ W.failed writer.entry.now) }
+            ensures fails { OnErr result (W.failed writer.exit.now ≡ true) }
+        {
+            let taken = self.take_bytes(solver, jobs, settings, writer, bytes);
+            if taken.is_err() {
+                jobs.stop();
+            }
+            taken
+        };
+        jobs.beside(&mut work)
+    }
+
+    // The same, while other workers solve boards of these lines too, where that pays. A report is written as soon as it
+    // and those before it are known.
+    fn take_side_by_side<T: Wait + Threads + Sync, W: Sink, G: Gate>(
+        &mut self,
+        solver: &Solver<'_, T, G>,
+        settings: &Lawful,
+        writer: &mut W,
+        bytes: &[u8],
+    ) -> Result<(), Failed>
+        ensures ok { OnOk result (Takes settings.now self.old self.new
+            (W.contents writer.old) (W.contents writer.new) bytes.now) }
+        ensures err { OnErr result (StopsWithin settings.now self.old
+            (W.contents writer.old) (W.contents writer.new) bytes.now) }
+        ensures works { OnOk result (W.failed writer.new ≡ W.failed writer.old) }
+        ensures fails { OnErr result (W.failed writer.new ≡ true) }
+    {
+        let batch = solver.batch(settings);
+        let jobs = jobs_of(&batch, settings.get().command, bytes);
+        self.take_beside(solver, &jobs, settings, writer, bytes)
+    }
+
     // Takes further bytes of the input, and writes the reports of the lines that end in them.
-    fn take_chunk<T: Threads + Sync, W: Sink, G: Gate>(
+    fn take_chunk<T: Wait + Threads + Sync, W: Sink, G: Gate>(
         &mut self,
         solver: &Solver<'_, T, G>,
         settings: &Lawful,
@@ -133,7 +187,7 @@ impl Engine {
         ensures works { OnOk result (W.failed writer.new ≡ W.failed writer.old) }
         ensures fails { OnErr result (W.failed writer.new ≡ true) }
     {
-        self.take_bytes(solver, settings, writer, bytes)?;
+        self.take_side_by_side(solver, settings, writer, bytes)?;
         self.waiting.write_to(writer)?;
         Ok(())
     }
@@ -173,7 +227,7 @@ impl Engine {
     }
 
     // Answers the last line, unless it is empty.
-    fn end_last<T: Threads + Sync, W: Sink, G: Gate>(
+    fn end_last<T: Wait + Threads + Sync, W: Sink, G: Gate>(
         &mut self,
         solver: &Solver<'_, T, G>,
         settings: &Lawful,
@@ -189,11 +243,13 @@ impl Engine {
         if self.line.is_empty() {
             return Ok(());
         }
-        self.end_line(solver, settings, writer)
+        let batch = solver.batch(settings);
+        let jobs = Jobs::none(&batch);
+        self.end_line(solver, &jobs, settings, writer)
     }
 
     /// Answers the last line, unless it is empty, writes what is left of the report, and flushes.
-    pub fn finish<T: Threads + Sync, W: Sink, G: Gate>(
+    pub fn finish<T: Wait + Threads + Sync, W: Sink, G: Gate>(
         &mut self,
         solver: &Solver<'_, T, G>,
         settings: &Lawful,

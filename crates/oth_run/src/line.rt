@@ -7,16 +7,17 @@ ghost use Rattle.oth_words.specs.declared.settings.Command.{Command as CommandGi
 ghost use Rattle.oth_run.specs.Line.{Holds};
 ghost use Rattle.oth_run.specs.Reply.{moves_reply, reply, solve_reply, transcript_reply};
 
-use crate::ahead::Ahead;
 use crate::checking::Lawful;
 use crate::solver::Solver;
 use arrayvec::ArrayVec;
+use oth_batch::Jobs;
 use oth_pool::Gate;
 use oth_text::{
     BoardReader, LineFault, REPORT_LINE_LEN, TranscriptReader, fault_line, moves_line, report_line,
     transcript_fault_line, write_board,
 };
 use oth_words::Command;
+use std::sync::Wait;
 use std::thread::Threads;
 
 /// The most bytes of a line that is written, without byte 10.
@@ -76,18 +77,18 @@ impl Line {
         }
     }
 
-    /// What is written of the line, without byte 10.
-    pub fn reply<T: Threads + Sync, G: Gate>(
+    /// What is written of the line, without byte 10. The answer of a board that is one of the jobs is awaited.
+    pub fn reply<T: Wait + Threads + Sync, G: Gate>(
         &self,
         solver: &Solver<'_, T, G>,
-        ahead: &Ahead,
+        jobs: &Jobs<'_, T, G>,
         settings: &Lawful,
     ) -> ArrayVec<u8, REPLY_LEN>
         ensures { (line : List ℕ) → Holds settings.now.command self.now line
             → result.items ≡ reply settings.now line }
     {
         match self {
-            Line::Solve(reader) => solve_reply(reader, solver, ahead, settings),
+            Line::Solve(reader) => solve_reply(reader, solver, jobs, settings),
             Line::Moves(reader) => moves_reply(reader),
             Line::Transcript(reader) => transcript_reply(reader),
         }
@@ -95,10 +96,10 @@ impl Line {
 }
 
 // The score and all best moves, or the line's fault.
-fn solve_reply<T: Threads + Sync, G: Gate>(
+fn solve_reply<T: Wait + Threads + Sync, G: Gate>(
     reader: &BoardReader,
     solver: &Solver<'_, T, G>,
-    ahead: &Ahead,
+    jobs: &Jobs<'_, T, G>,
     settings: &Lawful,
 ) -> ArrayVec<u8, REPLY_LEN>
     ensures { (line : List ℕ) → KeepsLine reader.now line
@@ -108,7 +109,7 @@ fn solve_reply<T: Threads + Sync, G: Gate>(
         Ok(position) => position,
         Err(fault) => return copied(fault_line(&fault).as_slice()),
     };
-    match ahead.answer_of(solver, &position.board, settings) {
+    match solver.awaited_answer_of(jobs, &position.board, settings) {
         Ok(answer) => report_line(&answer),
         Err(many) => copied(fault_line(&LineFault::Empties(many.empties)).as_slice()),
     }

@@ -27,7 +27,8 @@ use std::thread::Threads;
 /// fault no device is called again. The run returns only if the input ends or a device fails.
 ///
 /// A board is solved by so many workers over a table of so many cells, and a book that is given is asked first. Boards
-/// of lines that wait together may be solved side by side, each by one worker over a table of at most so many cells.
+/// of lines that wait together may be solved side by side, each by one worker over a table of at most so many cells;
+/// the answer of a line is written as soon as it and those before it are known.
 /// None of this changes the report, nor does the gate, nor want of memory or threads. A line takes no memory, however
 /// long it is.
 pub fn run<T: Wait + Threads + Sync, R: Source, W: Sink, G: Gate>(
@@ -77,7 +78,7 @@ fn run_lines<T: Wait + Threads + Sync, R: Source, W: Sink, G: Gate>(
     ensures devices { FailsBy result (R.failed reader.new) (W.failed writer.new) }
     ensures past_tests { IsPastTests result }
 {
-    let mut engine = Engine::new(solver.alloc, settings.get().command);
+    let mut engine = Engine::new(settings.get().command);
     engine.run_ended(solver, reader, writer, settings)?;
     match engine.finish(solver, settings, writer) {
         Ok(()) => Ok(()),

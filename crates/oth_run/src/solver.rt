@@ -1,16 +1,17 @@
 //! What boards are solved with.
 
-ghost use Rattle.std.specs.Prelude.{◌≡◌, ◌<◌, ◌↔◌, IsErr, IfOk, IfErr};
+ghost use Rattle.std.specs.Prelude.{◌≡◌, ◌<◌, ◌↔◌, IsErr, IfOk, IfErr, IfSome};
 ghost use Rattle.oth_rules.specs.Position.{empty_count};
 
 use crate::checking::Lawful;
-use oth_batch::Batch;
+use oth_batch::{Batch, Jobs};
 use oth_book::Book;
 use oth_pool::{Gate, solve};
-use oth_rules::Board;
-use oth_search::{Answer, TooManyEmpties};
+use oth_rules::{Board, Scoring};
+use oth_search::{Answer, MOST_EMPTIES, TooManyEmpties};
 use oth_words::Settings;
 use std::alloc::Global;
+use std::sync::Wait;
 use std::thread::Threads;
 
 /// What boards are solved with. No answer depends on any of it.
@@ -69,5 +70,47 @@ impl<'s, T: Threads + Sync, G: Gate> Solver<'s, T, G> {
             cells,
             scoring,
         }
+    }
+}
+
+impl<'s, T: Wait + Threads + Sync, G: Gate> Solver<'s, T, G> {
+    /// The value and all best moves of a board: of one of the jobs as soon as whoever solves it has found them.
+    pub fn awaited_answer_of(
+        &self,
+        jobs: &Jobs<'_, T, G>,
+        board: &Board,
+        settings: &Lawful,
+    ) -> Result<Answer, TooManyEmpties>
+        ensures refused { IsErr result ↔ (30 < empty_count board.now) }
+        ensures counted { IfErr result (λ e. e.empties ≡ empty_count board.now) }
+        ensures board { IfOk result (λ a. a.board ≡ board.now) }
+        ensures scoring { IfOk result (λ a. a.scoring ≡ settings.now.scoring) }
+    {
+        let empties = board.empties();
+        if empties > MOST_EMPTIES {
+            return Err(TooManyEmpties { empties });
+        }
+        match answer_by_jobs(self.rt, jobs, board, settings.get().scoring) {
+            Some(answer) => Ok(answer),
+            None => self.answer_of(board, settings),
+        }
+    }
+}
+
+// The answer by this scoring of a board that is one of the jobs.
+fn answer_by_jobs<T: Wait + Threads + Sync, G: Gate>(
+    rt: &T,
+    jobs: &Jobs<'_, T, G>,
+    board: &Board,
+    scoring: Scoring,
+) -> Option<Answer>
+    ensures board { IfSome result (λ a. a.board ≡ board.now) }
+    ensures scoring { IfSome result (λ a. a.scoring ≡ scoring) }
+{
+    let answer = jobs.answer_of(rt, board)?;
+    if answer.scoring == scoring {
+        Some(answer)
+    } else {
+        None
     }
 }

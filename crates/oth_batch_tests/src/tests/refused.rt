@@ -2,19 +2,37 @@
 
 use super::verifying::SIX;
 use super::{are_right, batch, images};
-use oth_batch::verify_by;
+use oth_batch::{Jobs, verify_by};
 use oth_book::{BookFault, Wrong, read_claims};
 use oth_rules::Scoring;
+use oth_search::solve_alone;
 use std::test::Fail;
 
 #[test]
 fn a_batch(rt: HostRuntime) -> Result<(), Fail> {
-    let Some(boards) = images(8) else {
-        panic!(rt; "no boards")
+    let Some(boards) = images(rt.alloc(), 8) else {
+        return Ok(());
     };
     let answers = batch(&rt, 2, 64, Scoring::Discs).answers(&boards);
     assert!(rt; answers.len() <= boards.as_slice().len());
     assert!(rt; are_right(answers.as_slice(), Scoring::Discs));
+    Ok(())
+}
+
+#[test]
+fn boards_that_others_solve_too(rt: HostRuntime) -> Result<(), Fail> {
+    let Some(boards) = images(rt.alloc(), 8) else {
+        return Ok(());
+    };
+    let batch = batch(&rt, 2, 64, Scoring::Winner);
+    let Some(jobs) = Jobs::of(&batch, boards.as_slice()) else {
+        return Ok(());
+    };
+    let mut work = || {
+        boards.as_slice().iter().all(|board| jobs.answer_of(&rt, board)
+            == solve_alone(board, Scoring::Winner).ok())
+    };
+    assert!(rt; jobs.beside(&mut work));
     Ok(())
 }
 

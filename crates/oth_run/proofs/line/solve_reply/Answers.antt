@@ -10,15 +10,15 @@ returns-in-Err g c = λ line kept.
     c.copied.ensures ∙ c.as_slice.ensures.value ∙ c.fault_line.ensures.text
     ∙ sym (solve_reply-fault c.args.settings.now.scoring line c.in-Err.fault (sym (c.read.ensures line kept) ∙ c.in-Err.is))
 
-pub returns-in-Ok-answer_of : goal.returns-in-Ok-answer_of
-returns-in-Ok-answer_of g c = λ line kept.
+pub returns-in-Ok-awaited_answer_of : goal.returns-in-Ok-awaited_answer_of
+returns-in-Ok-awaited_answer_of g c = λ line kept.
     c.report_line.ensures.text
-    ∙ ap (λ b. report_line_of c.in-Ok-answer_of.answer.scoring b) c.in-Ok-answer_of.ensures.board
-    ∙ ap (λ s. report_line_of s c.in-Ok.position.board) c.in-Ok-answer_of.ensures.scoring
-    ∙ sym (solve_reply-few c.args.settings.now.scoring line c.in-Ok.position (sym (c.read.ensures line kept) ∙ c.in-Ok.is) (λ many. true≢false (sym (c.in-Ok-answer_of.ensures.refused.1 many))))
+    ∙ ap (λ b. report_line_of c.in-Ok-awaited_answer_of.answer.scoring b) c.in-Ok-awaited_answer_of.ensures.board
+    ∙ ap (λ s. report_line_of s c.in-Ok.position.board) c.in-Ok-awaited_answer_of.ensures.scoring
+    ∙ sym (solve_reply-few c.args.settings.now.scoring line c.in-Ok.position (sym (c.read.ensures line kept) ∙ c.in-Ok.is) (λ many. true≢false (sym (c.in-Ok-awaited_answer_of.ensures.refused.1 many))))
 
-pub returns-in-Err-answer_of : goal.returns-in-Err-answer_of
-returns-in-Err-answer_of g c = λ line kept.
-    c.copied-in-Err-answer_of.ensures ∙ c.as_slice-in-Err-answer_of.ensures.value ∙ c.fault_line-in-Err-answer_of.ensures.text
-    ∙ ap (λ n. fault_line_of (Empties n)) c.in-Err-answer_of.ensures.counted
-    ∙ sym (solve_reply-many c.args.settings.now.scoring line c.in-Ok.position (sym (c.read.ensures line kept) ∙ c.in-Ok.is) (c.in-Err-answer_of.ensures.refused.0 refl))
+pub returns-in-Err-awaited_answer_of : goal.returns-in-Err-awaited_answer_of
+returns-in-Err-awaited_answer_of g c = λ line kept.
+    c.copied-in-Err-awaited_answer_of.ensures ∙ c.as_slice-in-Err-awaited_answer_of.ensures.value ∙ c.fault_line-in-Err-awaited_answer_of.ensures.text
+    ∙ ap (λ n. fault_line_of (Empties n)) c.in-Err-awaited_answer_of.ensures.counted
+    ∙ sym (solve_reply-many c.args.settings.now.scoring line c.in-Ok.position (sym (c.read.ensures line kept) ∙ c.in-Ok.is) (c.in-Err-awaited_answer_of.ensures.refused.0 refl))

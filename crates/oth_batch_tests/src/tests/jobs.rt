@@ -1,0 +1,87 @@
+//! Boards are answered for whoever asks, while other workers solve them.
+
+use crate::tests::{batch, images};
+use oth_batch::Jobs;
+use oth_rules::Scoring;
+use oth_search::solve_alone;
+use std::test::Fail;
+
+#[test]
+fn each_board_is_answered_while_others_solve(rt: HostRuntime) -> Result<(), Fail> {
+    let Some(boards) = images(rt.alloc(), 10) else {
+        panic!(rt; "no boards")
+    };
+    for (workers, cells) in [(2, 0), (4, 64), (16, 1)] {
+        let batch = batch(&rt, workers, cells, Scoring::Discs);
+        let Some(jobs) = Jobs::of(&batch, boards.as_slice()) else {
+            panic!(rt; "no jobs")
+        };
+        let mut work = || {
+            let mut right = 0u32;
+            for board in boards.as_slice() {
+                let answer = jobs.answer_of(&rt, board);
+                if answer.is_some() && answer == solve_alone(board, Scoring::Discs).ok() {
+                    right = right.saturating_add(1);
+                }
+            }
+            right
+        };
+        assert!(rt;
+            jobs.beside(&mut work) == 16,
+            "{workers} workers, {cells} cells"
+        );
+    }
+    Ok(())
+}
+
+#[test]
+fn nobody_is_waited_for_where_nobody_helps(rt: HostRuntime) -> Result<(), Fail> {
+    let Some(boards) = images(rt.alloc(), 10) else {
+        panic!(rt; "no boards")
+    };
+    let batch = batch(&rt, 4, 64, Scoring::Winner);
+    let Some(jobs) = Jobs::of(&batch, boards.as_slice()) else {
+        panic!(rt; "no jobs")
+    };
+    for board in boards.as_slice() {
+        assert!(rt; jobs.found(board).is_none());
+        assert!(rt; jobs.answer_of(&rt, board) == solve_alone(board, Scoring::Winner).ok());
+        assert!(rt; jobs.found(board).is_some());
+    }
+    Ok(())
+}
+
+#[test]
+fn no_job_is_begun_after_a_stop(rt: HostRuntime) -> Result<(), Fail> {
+    let Some(boards) = images(rt.alloc(), 10) else {
+        panic!(rt; "no boards")
+    };
+    let batch = batch(&rt, 4, 64, Scoring::Winner);
+    let Some(jobs) = Jobs::of(&batch, boards.as_slice()) else {
+        panic!(rt; "no jobs")
+    };
+    jobs.stop();
+    jobs.do_all();
+    assert!(rt;
+        boards
+            .as_slice()
+            .iter()
+            .all(|board| jobs.found(board).is_none())
+    );
+    Ok(())
+}
+
+#[test]
+fn no_jobs_have_no_answer(rt: HostRuntime) -> Result<(), Fail> {
+    let Some(boards) = images(rt.alloc(), 10) else {
+        panic!(rt; "no boards")
+    };
+    let batch = batch(&rt, 4, 64, Scoring::Winner);
+    let jobs = Jobs::none(&batch);
+    let mut work = || 7u8;
+    assert!(rt; jobs.beside(&mut work) == 7);
+    for board in boards.as_slice() {
+        assert!(rt; jobs.answer_of(&rt, board).is_none());
+    }
+    Ok(())
+}
