@@ -1,8 +1,9 @@
 """Compares the built program with the small solver: the same answers by both scorings, any number of workers, any table, and from a book."""
-import subprocess
+import random
 import tempfile
 
 import minimax
+from running import ran
 
 SEED = 20261123
 BOARDS = 2000
@@ -10,6 +11,9 @@ BOOKED = 500
 MOST_EMPTIES = 7
 WAITING = 1000
 MOST_EMPTIES_WAITING = 12
+TOGETHER = 40
+EMPTIES_TOGETHER = (13, 14)
+PATIENCE = 120
 WORKERS = (1, 2, 16)
 CELLS = (0, 1, 65536)
 SCORINGS = ("winner", "discs")
@@ -31,6 +35,7 @@ def steps(program):
         name = f"a book of {BOOKED} boards, added to, verified and asked: {scoring}"
         yield name, by_book(program, scoring, lines, [line[at] for line in wanted])
     yield from side_by_side(program)
+    yield from together(program)
     yield from book_side_by_side(program)
 
 
@@ -39,10 +44,21 @@ def side_by_side(program):
     boards = minimax.boards(SEED + 1, WAITING, MOST_EMPTIES_WAITING)
     lines = [minimax.board_line(*board) for board in boards]
     text = "".join(f"{line}\n" for line in lines)
-    alone = subprocess.run([program, "solve"], input=text, stdout=subprocess.PIPE, text=True, timeout=120, check=False).stdout.splitlines()
+    alone = printed([program, "solve"], text)[1]
     for workers in ("2", "4", "16"):
         name = f"{WAITING} boards of 0 to {MOST_EMPTIES_WAITING} empty squares side by side by {workers} workers as by one"
         yield name, difference([program, "solve", "--workers", workers], lines, alone)
+
+
+def together(program):
+    """Boards that come alone, each of which several workers search together, have the answers that one worker gives."""
+    draw = random.Random(SEED + 2)
+    boards = [minimax.game_board(draw, EMPTIES_TOGETHER[at % 2]) for at in range(TOGETHER)]
+    lines = [minimax.board_line(*board) for board in boards]
+    alone = printed([program, "solve"], "".join(f"{line}\n" for line in lines))[1]
+    name = f"{TOGETHER} boards of {' or '.join(map(str, EMPTIES_TOGETHER))} empty squares, each by 4 workers together as by one"
+    wrong = [difference([program, "solve", "--workers", "4"], [line], [answer]) for line, answer in zip(lines, alone)]
+    yield name, next(filter(None, wrong), None) if len(alone) == TOGETHER else f"{len(alone)} answers by one"
 
 
 def book_side_by_side(program):
@@ -68,8 +84,13 @@ def book_side_by_side(program):
 
 def output(words, text):
     """The status, and what was written on standard output and on standard error."""
-    ran = subprocess.run(words, input=text, stdout=subprocess.PIPE, stderr=subprocess.PIPE, timeout=120, check=False)
-    return ran.returncode, ran.stdout, ran.stderr
+    return tuple(ran(words, text, PATIENCE))
+
+
+def printed(words, text):
+    """The status, and the lines that were written."""
+    done = ran(words, text.encode(), PATIENCE)
+    return done.status, done.wrote.decode(errors="replace").splitlines()
 
 
 def with_another_score(entry):
@@ -85,23 +106,22 @@ def by_book(program, scoring, lines, wanted):
         empty.write(f"OBOOK2 {scoring[0].upper()}\nEND 000000\n".encode())
         empty.flush()
         text = "".join(f"{line}\n" for line in lines[:BOOKED])
-        added = subprocess.run([program, "book-add", empty.name], input=text.encode(), stdout=book, stderr=subprocess.PIPE, timeout=120)
-        if added.returncode != 0 or added.stderr:
-            return f"book-add: status {added.returncode}, {added.stderr[:200]!r}"
-        verified = subprocess.run([program, "book-verify", book.name], stdout=subprocess.PIPE, timeout=120, text=True)
-        if verified.returncode != 0 or not verified.stdout.startswith("book ok "):
-            return f"book-verify: status {verified.returncode}, {verified.stdout!r}"
+        added = ran([program, "book-add", empty.name], text.encode(), PATIENCE, stdout=book)
+        if added.status != 0 or added.said:
+            return f"book-add: status {added.status}, {added.said[:200]!r}"
+        verified = ran([program, "book-verify", book.name], patience=PATIENCE)
+        if verified.status != 0 or not verified.wrote.startswith(b"book ok "):
+            return f"book-verify: status {verified.status}, {verified.wrote!r}"
         return difference([program, "solve", "--scoring", scoring, "--book", book.name], lines, wanted)
 
 
 def difference(words, lines, wanted):
     """The first board that the program answers otherwise, or None."""
     text = "".join(f"{line}\n" for line in lines)
-    ran = subprocess.run(words, input=text, stdout=subprocess.PIPE, stderr=subprocess.PIPE, text=True, timeout=120)
-    answers = ran.stdout.splitlines()
+    status, answers = printed(words, text)
     for line, answer, want in zip(lines, answers, wanted):
         if answer != want:
             return f"{line}: {answer}, and not {want}"
-    if len(answers) != len(lines) or ran.returncode != 0:
-        return f"{len(answers)} answers to {len(lines)} lines, status {ran.returncode}"
+    if len(answers) != len(lines) or status != 0:
+        return f"{len(answers)} answers to {len(lines)} lines, status {status}"
     return None

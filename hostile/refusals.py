@@ -5,12 +5,10 @@ request is refused: for n = 1, 2, .. the n-th request of the run is refused, unt
 worked board over a table of 64 cells makes more requests than without one by more than the table alone takes, so that the workers' seats
 of the table are asked for. It needs `cc`.
 """
-import mmap
 import os
-import struct
-import subprocess
-import sys
 import tempfile
+
+from running import Preloaded, ran
 
 # Stands in front of the C library: counts in the file COUNTED, and refuses the request of the number REFUSED.
 REFUSING = r"""
@@ -73,30 +71,21 @@ class Walk:
 
     def __init__(self, program, folder):
         self.program = os.path.abspath(program)
-        self.library = f"{folder}/refusing.so"
-        self.counted = f"{folder}/counted"
-        source = f"{folder}/refusing.c"
-        with open(source, "w", encoding="utf-8") as text:
-            text.write(REFUSING)
-        subprocess.run(["cc", "-shared", "-fPIC", "-O1", "-o", self.library, source, "-ldl"], check=True)
+        self.library = Preloaded(folder, REFUSING, 1)
 
     def tests(self):
         """The tests that hold whichever request is refused."""
-        listed = subprocess.run([self.program, "--list"], stdout=subprocess.PIPE, check=True, text=True).stdout
+        listed = ran([self.program, "--list"]).wrote.decode()
         names = [line.removesuffix(": test") for line in listed.splitlines() if line.endswith(": test")]
         return [name for name in names if "::refused::" in name]
 
     def run(self, test, refused):
         """What is wrong with the run, if anything, and how many requests it made."""
-        with open(self.counted, "wb") as file:
-            file.write(bytes(8))
-        words = {"LD_PRELOAD": self.library, "COUNTED": self.counted, "REFUSED": str(refused)}
-        ran = subprocess.run([self.program, test], env=words, stdout=subprocess.PIPE, stderr=subprocess.STDOUT, timeout=60)
-        with open(self.counted, "r+b") as file, mmap.mmap(file.fileno(), 8) as page:
-            count = struct.unpack("q", page[:])[0]
-        if ran.returncode == 0:
+        done, (count,) = self.library.ran([self.program, test], REFUSED=str(refused))
+        if done.status == 0:
             return None, count
-        return f"fails where request {refused} is refused (0: none)\n{ran.stdout.decode(errors='replace')}", count
+        told = (done.wrote + done.said).decode(errors="replace")
+        return f"status {done.status} where request {refused} is refused (0: none)\n{told}", count
 
     def all(self, test):
         """What is wrong with the test, if anything, and the requests that it makes where none is refused."""

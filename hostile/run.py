@@ -4,16 +4,19 @@
     hostile/run.py [CRATES] [WORD ..]
 
 CRATES is the folder of the crates, `crates` if not given. Each step is a line, `ok` or `FAILED` and its name, and after a failure what is
-wrong. With words only the steps are run whose part (`statuses`, `differential`, `recipes`, `refusals`, `c_library`) is one of them. The last line is
-`N passed, M failed`; the exit status is 1 where a step failed.
+wrong. With words only the steps are run whose part is one of them: `statuses`, `flow`, `limits`, `seen`, `differential`, `recipes`,
+`refusals`, `c_library`. The last line is `N passed, M failed`; the exit status is 1 where a step failed.
 """
 import os
+import subprocess
 import sys
 
 import c_library
 import differential
+import flow
 import recipes
 import refusals
+import seen
 import statuses
 
 
@@ -22,13 +25,18 @@ def steps(crates, parts):
     program = os.path.abspath(f"{crates}/othsolve/out/othsolve")
     every = {
         "statuses": lambda: statuses.steps(program),
+        "flow": lambda: flow.steps(program),
+        "seen": lambda: seen.steps(program),
         "differential": lambda: differential.steps(program),
         "recipes": lambda: recipes.steps(program),
         "refusals": lambda: refusals.steps(crates),
         "c_library": lambda: c_library.steps(crates),
     }
     for part in parts or every:
-        yield from every[part]()
+        try:
+            yield from every[part]()
+        except (OSError, subprocess.SubprocessError) as error:
+            yield f"{part} comes to its end", f"{error}"
 
 
 def main():

@@ -1,22 +1,27 @@
 """Runs the built program on command lines, files and devices of every kind, and wants the status and the texts that docs/FORMATS.md names."""
 import os
+import re
 import resource
 import select
 import subprocess
 import tempfile
 
+from running import EMPTY_BOOK, file_of, ran
+
 START = "---------------------------OX------XO--------------------------- X"
 FULL_BOARD = "X" * 64 + " X"
 CORNERS = "X" * 60 + "OOO- X"
-EMPTY_BOOK = "OBOOK2 W\nEND 000000\n"
+TWO_CORNERS = "-OXXXXO-" + "X" * 56 + " X"
 VERSION = b"othsolve 0.1.0\n"
 MEGABYTE = 1 << 20
 LITTLE = 64
-PATIENCE = 20
+AT_ONCE = 5
+FAULTY_WORDS = re.compile(rb"^error: .+\n")
+COMMANDS = ("solve", "moves", "transcript", "book-verify", "book-add")
 
 
 class Case:
-    """One run: the words, standard input, and what is wanted of the status, of standard output and of standard error."""
+    """One run: the words, standard input, and what is wanted of the status and, as bytes or a pattern, of standard output and error."""
 
     def __init__(self, name, words, given=b"", status=0, wrote=None, said=None, **how):
         self.name, self.words, self.given, self.status = name, words, given, status
@@ -24,17 +29,24 @@ class Case:
 
     def wrong(self, program):
         """What is wrong with the run, if anything."""
-        how = {"stdout": subprocess.PIPE, "stderr": subprocess.PIPE, "timeout": PATIENCE, **self.how}
-        if "stdin" not in how:
-            how["input"] = self.given
-        ran = subprocess.run([program, *self.words], **how)
-        if ran.returncode != self.status:
-            return f"status {ran.returncode} in place of {self.status}"
-        if self.wrote is not None and ran.stdout != self.wrote:
-            return f"wrote {ran.stdout[:200]!r} in place of {self.wrote[:200]!r}"
-        if self.said is not None and ran.stderr != self.said:
-            return f"said {ran.stderr[:200]!r} in place of {self.said[:200]!r}"
+        done = ran([program, *self.words], self.given, **self.how)
+        if done.status != self.status:
+            return f"status {done.status} in place of {self.status}"
+        if not fits(done.wrote, self.wrote):
+            return f"wrote {done.wrote[:200]!r} in place of {self.wrote!r:.200}"
+        if not fits(done.said, self.said):
+            return f"said {done.said[:200]!r} in place of {self.said!r:.200}"
         return None
+
+
+def fits(found, wanted):
+    """Whether the bytes are the wanted ones, or have the wanted pattern; where nothing is wanted any do."""
+    return found == wanted if isinstance(wanted, bytes) else wanted is None or bool(wanted.search(found))
+
+
+def helps(*names):
+    """A pattern of help that has a line of usage and names each of these, each behind the one before."""
+    return re.compile(rb"Usage: othsolve.*" + b".*".join(rb"\b%s\b" % name.encode() for name in names), re.DOTALL)
 
 
 def done(folder):
@@ -45,15 +57,17 @@ def done(folder):
     yield Case("moves", ["moves"], lines, wrote=b"d3 c4 f5 e6\nh8\nend\n", said=b"")
     yield Case("transcript", ["transcript"], b"\n", wrote=f"{START}\n".encode(), said=b"")
     yield Case("a last line without byte 10", ["solve"], FULL_BOARD.encode(), wrote=b"+64 end\n", said=b"")
-    yield Case("help", ["--help"], said=b"")
+    for words in (["--help"], ["-h"], ["help"]):
+        yield Case(f"help by {words[0]}", words, wrote=helps(*COMMANDS), said=b"")
     yield Case("version", ["--version"], wrote=VERSION, said=b"")
     yield Case("version in short", ["-V"], wrote=VERSION, said=b"")
-    for command in ("solve", "moves", "transcript", "book-verify", "book-add"):
-        yield Case(f"help of {command}", [command, "--help"], said=b"")
+    for command in COMMANDS:
+        for words in ([command, "--help"], [command, "-h"], ["help", command]):
+            yield Case(f"help by {' '.join(words)}", words, wrote=helps(command), said=b"")
     yield Case("book-verify", ["book-verify", f"{folder}/empty.book"], wrote=b"book ok 0\n", said=b"")
-    yield Case("book-add of no lines", ["book-add", f"{folder}/empty.book"], wrote=EMPTY_BOOK.encode(), said=b"")
+    yield Case("book-add of no lines", ["book-add", f"{folder}/empty.book"], wrote=EMPTY_BOOK, said=b"")
     yield Case(
-        "book-add passes a faulty line over", ["book-add", f"{folder}/empty.book"], b"X\n", wrote=EMPTY_BOOK.encode(), said=b"line 1: error 1\n"
+        "book-add passes a faulty line over", ["book-add", f"{folder}/empty.book"], b"X\n", wrote=EMPTY_BOOK, said=b"line 1: error 1\n"
     )
 
 
@@ -98,7 +112,12 @@ def command_line(folder):
         ["book-add", "--scoring", "discs", book],
     ):
         name = " ".join(words).replace(book, "FILE")
-        yield Case(f"refused words: {name}".rstrip(), words, status=2, wrote=b"")
+        yield Case(f"refused words: {name}".rstrip(), words, status=2, wrote=b"", said=FAULTY_WORDS)
+    unreadable = os.fsencode(folder) + b"/\xff.book"
+    os.link(book, unreadable)
+    for words in (["book-verify"], ["book-add"], ["solve", "--book"]):
+        name = f"refused words: {' '.join(words)}: a name that isn't UTF-8"
+        yield Case(name, [*words, unreadable], status=2, wrote=b"", said=FAULTY_WORDS)
     for words in (["solve", "--cells", "3"], ["solve", "--cells", "3", "--book", "nowhere"], ["book-add", "--cells", "3", "nowhere"]):
         yield Case(f"refused cells: {' '.join(words)}", words, status=2, wrote=b"", said=b"run error 4\n")
 
@@ -144,35 +163,56 @@ def books(folder):
         "no entry": ("OBOOK2 W\nx\n", "book error 2 at 1"),
         "a wrong count": ("OBOOK2 W\nEND 000001\n", "book error 4"),
         "cut short": ("OBOOK2 W\nEND 00", "book error 5"),
-        "bytes behind the end": (f"{EMPTY_BOOK}\n", "book error 6"),
+        "bytes behind the end": (f"{EMPTY_BOOK.decode()}\n", "book error 6"),
         "wrong bounds": (entry("X" * 64, "-64", "+62", 0), "book wrong 1 at 1"),
         "wrong best moves": (entry("X" * 64, "+64", "+64", 1), "book wrong 2 at 1"),
         "too many empty squares": (entry("-" * 64, "-64", "+64", 0), "book wrong 3 at 1"),
     }
     for name, (text, said) in texts.items():
-        with open(f"{folder}/{name}", "w", encoding="ascii") as file:
-            file.write(text)
+        file_of(folder, name, text.encode())
         for words in (["book-verify"], ["book-add"], ["solve", "--book"]):
             yield Case(f"{' '.join(words)}: {name}", [*words, f"{folder}/{name}"], status=3, wrote=b"", said=f"{said}\n".encode())
 
 
-def is_answered_at_once(program):
-    """What is wrong with a line that comes alone, if anything: its answer is wanted while the input is still open."""
-    with subprocess.Popen([program, "solve"], stdin=subprocess.PIPE, stdout=subprocess.PIPE) as started:
-        started.stdin.write(f"{FULL_BOARD}\n".encode())
-        started.stdin.flush()
-        ready, _, _ = select.select([started.stdout], [], [], PATIENCE)
-        wrote = os.read(started.stdout.fileno(), 100) if ready else b""
-        started.stdin.close()
-    return None if wrote == b"+64 end\n" else f"wrote {wrote!r} while the input was open"
+def is_answered_at_once(program, words, lines):
+    """What is wrong with lines that come one by one, if anything: the answer to each is wanted while the input is still open."""
+    with subprocess.Popen([program, *words], stdin=subprocess.PIPE, stdout=subprocess.PIPE, bufsize=0) as started:
+        try:
+            for line, wanted in lines:
+                started.stdin.write(f"{line}\n".encode())
+                ready, _, _ = select.select([started.stdout], [], [], AT_ONCE)
+                wrote = os.read(started.stdout.fileno(), 100) if ready else b""
+                if wrote != f"{wanted}\n".encode():
+                    return f"wrote {wrote!r} while the input was open behind {line!r}"
+            started.stdin.close()
+            status = started.wait(AT_ONCE)
+        except (OSError, subprocess.TimeoutExpired) as error:
+            return f"{error}"
+        finally:
+            started.kill()
+    return None if status == 0 else f"status {status}"
+
+
+def lines_one_by_one(program):
+    """A step for each command that answers lines."""
+    boards = [(FULL_BOARD, "+64 end"), (TWO_CORNERS, "+64 a1 h1"), ("X", "error 1"), (FULL_BOARD, "+64 end")]
+    moves = [(START, "d3 c4 f5 e6"), ("X", "error 1"), (FULL_BOARD, "end")]
+    games = [("", START), ("f5d", "error 1"), ("", START)]
+    for words, lines in (
+        (["solve"], boards),
+        (["solve", "--workers", "4"], boards),
+        (["solve", "--workers", "16", "--cells", "0"], boards),
+        (["moves"], moves),
+        (["transcript"], games),
+    ):
+        yield f"a line that comes alone is answered at once: {' '.join(words)}", is_answered_at_once(program, words, lines)
 
 
 def steps(program):
     """A step for each run: its name, and what is wrong with it, if anything."""
     with tempfile.TemporaryDirectory() as folder:
-        with open(f"{folder}/empty.book", "w", encoding="ascii") as file:
-            file.write(EMPTY_BOOK)
+        file_of(folder, "empty.book", EMPTY_BOOK)
         for cases in (done(folder), lines_of_every_kind(), command_line(folder), devices(folder), books(folder)):
             for case in cases:
                 yield f"status {case.status}: {case.name}", case.wrong(program)
-    yield "a line that comes alone is answered at once", is_answered_at_once(program)
+    yield from lines_one_by_one(program)

@@ -1,0 +1,109 @@
+#!/usr/bin/env python3
+"""Runs the built program in small address spaces and with small stacks: it answers rightly or says why not, and dies of no signal.
+
+    hostile/limits.py PROGRAM [--fine]
+
+Status 0 wants all answers, status 1, 2 or 3 a text on standard error and a beginning of the answers. Of the address spaces in which
+memory is wanting at a bad moment many are narrow: `--fine` tries one each 500 kB, and takes half a minute where the coarse walk takes ten
+seconds.
+"""
+import os
+import signal
+import sys
+import tempfile
+from concurrent.futures import ThreadPoolExecutor
+
+from running import board_lines, book_of, ran
+
+SEED = 20261126
+BOARDS = 20
+EMPTIES = 14
+WORKERS = (1, 2, 4, 8, 16)
+# In kB.
+COARSE_MEMORY = sorted((*range(4000, 40001, 4000), 10500, 11500, 19000, 20500, 28500, 29000, 36500, 37000))
+FINE_MEMORY = range(4000, 40001, 500)
+STACKS = (128, 192, 256, 320, 384, 448, 512, 768, 1024)
+USUAL_STACK = 8192
+AT_ONCE = 4
+# A shell sets both limits, soft and hard, and becomes the program.
+UNDER = 'ulimit -s "$0" && ulimit -v "$1" && shift && exec "$@"; exit 99'
+
+
+class Walk:
+    """One command under each of some limits: its words, its input, the limits in kB as pairs of a stack and an address space."""
+
+    def __init__(self, program, words, given, limits):
+        self.words, self.given, self.limits = [program, *words], given, limits
+
+    def wrong(self):
+        """What is wrong under which limits, if anything."""
+        wanted = ran(self.words, self.given)
+        if wanted.status != 0:
+            return f"status {wanted.status} without limits"
+        with ThreadPoolExecutor(AT_ONCE) as at_once:
+            found = at_once.map(lambda limits: self.wrong_under(*limits, wanted.wrote), self.limits)
+            told = [f"{shown(limits)}: {wrong}" for limits, wrong in zip(self.limits, found) if wrong]
+        return "; ".join(told) or None
+
+    def wrong_under(self, stack, memory, wanted):
+        """What is wrong under these limits, if anything."""
+        done = ran(["sh", "-c", UNDER, str(stack), str(memory), *self.words], self.given, env={})
+        if done.status == 0:
+            return None if done.wrote == wanted else "other answers"
+        if done.status not in (1, 2, 3):
+            return f"status {status_name(done.status)}"
+        if not done.said:
+            return f"status {done.status} without a word"
+        return None if wanted.startswith(done.wrote) else f"status {done.status} behind other answers"
+
+
+def status_name(status):
+    return signal.Signals(-status).name if isinstance(status, int) and status < 0 else status
+
+
+def shown(limits):
+    stack, memory = limits
+    return f"-s {stack}" if memory == "unlimited" else f"-v {memory}"
+
+
+def walks(program, fine):
+    """Each walk with its name. Threads have the stack of their process, so that of an address space is told too."""
+    memory = [(USUAL_STACK, size) for size in (FINE_MEMORY if fine else COARSE_MEMORY)]
+    stacks = [(size, "unlimited") for size in STACKS]
+    given = board_lines(SEED, BOARDS, EMPTIES)
+    for workers in WORKERS:
+        words = ["solve", "--workers", str(workers)]
+        for limits, kind in ((memory, "address spaces"), (stacks, "stacks")):
+            yield f"{BOARDS} boards by {workers} workers in {len(limits)} small {kind}", Walk(program, words, given, limits)
+    with tempfile.TemporaryDirectory() as folder:
+        book = book_of(program, folder, given)
+        commands = {
+            "moves": (["moves"], given),
+            "transcript": (["transcript"], b"f5d6c3d3c4\n" * BOARDS),
+            "book-verify": (["book-verify", book], b""),
+            "book-add": (["book-add", book], board_lines(SEED + 1, BOARDS, EMPTIES)),
+        }
+        for name, (words, lines) in commands.items():
+            for limits, kind in ((memory, "address spaces"), (stacks, "stacks")):
+                yield f"{name} in {len(limits)} small {kind}", Walk(program, words, lines, limits)
+
+
+def steps(program, fine=False):
+    """A step for each walk: its name, and what is wrong with it, if anything."""
+    for name, walk in walks(program, fine):
+        yield name, walk.wrong()
+
+
+def main():
+    if len(sys.argv) < 2 or sys.argv[2:] not in ([], ["--fine"]):
+        print(__doc__)
+        return 2
+    failed = 0
+    for name, wrong in steps(os.path.abspath(sys.argv[1]), sys.argv[2:] == ["--fine"]):
+        print(f"FAILED {name}\n    {wrong}" if wrong else f"ok {name}", flush=True)
+        failed += bool(wrong)
+    return 1 if failed else 0
+
+
+if __name__ == "__main__":
+    sys.exit(main())

@@ -1,0 +1,72 @@
+"""What several parts need: runs that come to an end or are killed, libraries in front of the C library, lines of boards, and books."""
+import mmap
+import random
+import struct
+import subprocess
+from typing import NamedTuple
+
+import minimax
+
+PATIENCE = 60
+LONG = 8
+EMPTY_BOOK = b"OBOOK2 W\nEND 000000\n"
+
+
+class Ran(NamedTuple):
+    """How a run ended: its status, or a text where it couldn't be begun or didn't end in time; what it wrote, and what it said."""
+
+    status: object
+    wrote: bytes
+    said: bytes
+
+
+def ran(words, given=b"", patience=PATIENCE, **how):
+    """Runs the words with these bytes as standard input, unless another one is told, to their end. A run that hangs is killed."""
+    how = {"stdout": subprocess.PIPE, "stderr": subprocess.PIPE, "timeout": patience, **how}
+    if "stdin" not in how:
+        how["input"] = given
+    try:
+        done = subprocess.run(words, check=False, **how)
+    except subprocess.TimeoutExpired as late:
+        return Ran(f"(none after {patience} seconds)", late.stdout or b"", late.stderr or b"")
+    except (OSError, subprocess.SubprocessError) as error:
+        return Ran(f"(none: {error})", b"", b"")
+    return Ran(done.returncode, done.stdout or b"", done.stderr or b"")
+
+
+def board_lines(seed, count, empties):
+    """Lines of so many boards that random games lead to."""
+    draw = random.Random(seed)
+    return "".join(f"{minimax.board_line(*minimax.game_board(draw, empties))}\n" for _ in range(count)).encode()
+
+
+def file_of(folder, name, given):
+    """The path of a file that is made with these bytes."""
+    path = f"{folder}/{name}"
+    with open(path, "wb") as file:
+        file.write(given)
+    return path
+
+
+def book_of(program, folder, given):
+    """The path of a book that the program makes of these lines."""
+    empty = file_of(folder, "empty.book", EMPTY_BOOK)
+    return file_of(folder, "made.book", ran([program, "book-add", empty], given).wrote)
+
+
+class Preloaded:
+    """A library in front of the C library's, which keeps numbers for whoever runs a program with it."""
+
+    def __init__(self, folder, source, numbers):
+        """Builds it with `cc`. It finds the file of its numbers by the name COUNTED, and maps it into its memory."""
+        self.library, self.counted, self.numbers = f"{folder}/preloaded.so", f"{folder}/counted", numbers
+        text = file_of(folder, "preloaded.c", source.encode())
+        subprocess.run(["cc", "-shared", "-fPIC", "-O1", "-o", self.library, text, "-ldl"], check=True)
+
+    def ran(self, words, given=b"", **environment):
+        """How a run of the words ends, and the numbers that it leaves, of which each was 0."""
+        with open(self.counted, "wb") as file:
+            file.write(bytes(LONG * self.numbers))
+        done = ran(words, given, env={"LD_PRELOAD": self.library, "COUNTED": self.counted, **environment})
+        with open(self.counted, "r+b") as file, mmap.mmap(file.fileno(), LONG * self.numbers) as page:
+            return done, struct.unpack(f"{self.numbers}q", page[:])
