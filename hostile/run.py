@@ -4,8 +4,8 @@
     hostile/run.py [CRATES] [WORD ..]
 
 CRATES is the folder of the crates, `crates` if not given. Each step is a line, `ok` or `FAILED` and its name, and after a failure what is
-wrong. With words only the steps are run whose part (`statuses`, `differential`, `recipes`, `refusals`, `c_library`) is one of them. The last line is
-`N passed, M failed`; the exit status is 1 where a step failed.
+wrong. With words only the steps are run whose part (`statuses`, `terminal`, `differential`, `recipes`, `refusals`, `c_library`) is one of
+them. The last line is `N passed, M failed`; the exit status is 1 where a step failed.
 """
 import os
 import sys
@@ -15,6 +15,7 @@ import differential
 import recipes
 import refusals
 import statuses
+import terminal
 
 
 def steps(crates, parts):
@@ -22,6 +23,7 @@ def steps(crates, parts):
     program = os.path.abspath(f"{crates}/othsolve/out/othsolve")
     every = {
         "statuses": lambda: statuses.steps(program),
+        "terminal": lambda: terminal.steps(program),
         "differential": lambda: differential.steps(program),
         "recipes": lambda: recipes.steps(program),
         "refusals": lambda: refusals.steps(crates),

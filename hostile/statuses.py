@@ -99,6 +99,8 @@ def command_line(folder):
     ):
         name = " ".join(words).replace(book, "FILE")
         yield Case(f"refused words: {name}".rstrip(), words, status=2, wrote=b"")
+    said = b"error: a word of the command line isn't UTF-8, and such files can't be used\n"
+    yield Case("a name that isn't UTF-8", ["book-verify", b"b\xff.book"], status=2, wrote=b"", said=said)
     for words in (["solve", "--cells", "3"], ["solve", "--cells", "3", "--book", "nowhere"], ["book-add", "--cells", "3", "nowhere"]):
         yield Case(f"refused cells: {' '.join(words)}", words, status=2, wrote=b"", said=b"run error 4\n")
 
