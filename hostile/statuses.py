@@ -113,11 +113,12 @@ def command_line(folder):
     ):
         name = " ".join(words).replace(book, "FILE")
         yield Case(f"refused words: {name}".rstrip(), words, status=2, wrote=b"", said=FAULTY_WORDS)
+    said = b"error: a word of the command line isn't UTF-8, and such files can't be used\n"
     unreadable = os.fsencode(folder) + b"/\xff.book"
     os.link(book, unreadable)
     for words in (["book-verify"], ["book-add"], ["solve", "--book"]):
         name = f"refused words: {' '.join(words)}: a name that isn't UTF-8"
-        yield Case(name, [*words, unreadable], status=2, wrote=b"", said=FAULTY_WORDS)
+        yield Case(name, [*words, unreadable], status=2, wrote=b"", said=said)
     for words in (["solve", "--cells", "3"], ["solve", "--cells", "3", "--book", "nowhere"], ["book-add", "--cells", "3", "nowhere"]):
         yield Case(f"refused cells: {' '.join(words)}", words, status=2, wrote=b"", said=b"run error 4\n")
 

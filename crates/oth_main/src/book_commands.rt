@@ -1,7 +1,7 @@
 //! The commands of the book.
 
 ghost use Rattle.std.specs.Prelude.{◌≡◌, ◌≢◌, ◌↔◌, ◌≤◌, ◌⊎◌, ◌++◌, ◌∷◌, [], ℕ, List, All, false, true};
-ghost use Rattle.std.specs.Prelude.{IfErr, IfOk, OnErr, OnOk};
+ghost use Rattle.std.specs.Prelude.{IfErr, IfOk, OnErr, OnOk, Some};
 ghost use Rattle.std.specs.Io.KnownBytes.{Appends, IsAtEnd};
 ghost use Rattle.oth_rules.specs.Position.{empty_count};
 ghost use Rattle.oth_rules.specs.Symmetry.{canonical};
@@ -15,12 +15,14 @@ ghost use Rattle.oth_main.specs.Addition.{HasAdded, HasNoPlace, IsAdding, IsAnsw
 ghost use Rattle.oth_main.specs.Addition.{IsRefusedLine, IsStatus, OfInput, StopsBy, StopsFull, StopsReading};
 ghost use Rattle.oth_main.specs.BookFile.{IsRefused, IsVerdict};
 ghost use Rattle.oth_main.specs.declared.book_commands.Stop.TheVariants.{Run};
+ghost use Rattle.oth_main.specs.declared.reasons.Reason.TheVariants.{Run as RunReason};
 ghost use Rattle.oth_run.specs.Report.{lines_of};
 ghost use Rattle.oth_run.specs.Run.{AreLawful, status_of};
 ghost use Rattle.oth_run.specs.declared.fault.RunFault.TheVariants.{Write};
 
 use crate::book_file::{REFUSED, open_book, print_refusal};
 use crate::message::Message;
+use crate::reasons::{Errors, Reason};
 use oth_book::{AddError, Book, write};
 use oth_pool::Open;
 use oth_run::{Ahead, Lawful, RunFault, Solver, split_line};
@@ -56,7 +58,7 @@ pub fn book_verify<T: Threads + Sync, W: Sink, E: Sink>(
     alloc: Global,
     file: &[u8],
     writer: &mut W,
-    errors: &mut E,
+    errors: &mut Errors<E>,
 ) -> u8
     ensures verdict { IsVerdict file.now result (W.failed writer.new) }
     ensures works { result ≡ 0 → (W.failed writer.new ≡ false) × (W.flushed writer.new ≡ true) }
@@ -87,7 +89,7 @@ pub fn book_add<T: Wait + Threads + Sync, R: Source, W: Sink, E: Sink>(
     file: &[u8],
     reader: &mut R,
     writer: &mut W,
-    errors: &mut E,
+    errors: &mut Errors<E>,
     settings: &Settings,
 ) -> u8
     ensures lawful { result ≡ 2 ↔ (AreLawful settings.now → ⊥) }
@@ -120,13 +122,16 @@ pub fn book_add<T: Wait + Threads + Sync, R: Source, W: Sink, E: Sink>(
     }
 }
 
-/// Prints the number of the fault, and gives the status of the program.
-pub fn print_run_fault<E: Sink>(fault: RunFault, errors: &mut E) -> u8
-    ensures { result ≡ status_of fault }
+/// Prints the number of the fault, and gives the status of the program. The reason is kept, for words.
+pub fn print_run_fault<E: Sink>(fault: RunFault, errors: &mut Errors<E>) -> u8
+    ensures status { result ≡ status_of fault }
+    ensures reason { errors.new.reason ≡ Some (RunReason fault) }
+    ensures terminal { errors.new.is_terminal ≡ errors.old.is_terminal }
 {
     Message::of(b"run error ")
         .number(u64::from(fault.number()))
-        .print(errors);
+        .print(&mut errors.sink);
+    errors.reason = Some(Reason::Run(fault));
     match fault {
         RunFault::Read | RunFault::Write => 1,
         RunFault::Workers | RunFault::Cells => 2,
@@ -165,7 +170,7 @@ fn add_lines<T: Wait + Threads + Sync, R: Source, W: Sink, E: Sink>(
     addition: Addition,
     reader: &mut R,
     writer: &mut W,
-    errors: &mut E,
+    errors: &mut Errors<E>,
 ) -> u8
     requires line { KeepsLine addition.line [] }
     requires holds { IsTrueBook addition.book }
@@ -178,7 +183,7 @@ fn add_lines<T: Wait + Threads + Sync, R: Source, W: Sink, E: Sink>(
         × (W.failed writer.new ≡ false) × (W.flushed writer.new ≡ true) }
 {
     let mut addition = addition;
-    match addition.run(rt, reader, writer, errors) {
+    match addition.run(rt, reader, writer, &mut errors.sink) {
         Ok(()) => DONE,
         Err(Stop::Run(fault)) => print_run_fault(fault, errors),
         Err(Stop::Refused(line, error)) => {
@@ -186,7 +191,8 @@ fn add_lines<T: Wait + Threads + Sync, R: Source, W: Sink, E: Sink>(
                 .number(line)
                 .text(b": book error ")
                 .number(u64::from(error.number()))
-                .print(errors);
+                .print(&mut errors.sink);
+            errors.reason = Some(Reason::Answer(line, error));
             REFUSED
         }
     }

@@ -1,11 +1,13 @@
 //! The book of a file, or why there is none.
 
-ghost use Rattle.std.specs.Prelude.{IfOk, IfErr};
+ghost use Rattle.std.specs.Prelude.{◌≡◌, Some, IfOk, IfErr};
 ghost use Rattle.oth_book.specs.Book.{IsTrueBook};
 ghost use Rattle.oth_book.specs.Contents.{IsText};
 ghost use Rattle.oth_main.specs.BookFile.{IsBook, IsForMemory, IsRefusal};
+ghost use Rattle.oth_main.specs.declared.reasons.Reason.TheVariants.{Book as BookReason};
 
 use crate::message::Message;
+use crate::reasons::{Errors, Reason};
 use oth_batch::verify_by;
 use oth_book::{Book, BookFault, Wrong, read_claims};
 use oth_text::Sink;
@@ -52,15 +54,20 @@ pub fn open_book<T: Threads + Sync>(
 }
 
 /// Prints why a file is no book: `book error n` or `book wrong n`, then ` at k` where a line or an entry is to blame.
-/// An output that fails is passed over.
-pub fn print_refusal<E: Sink>(refusal: &BookRefusal, errors: &mut E) {
+/// The reason is kept, for words. An output that fails is passed over.
+pub fn print_refusal<E: Sink>(refusal: &BookRefusal, errors: &mut Errors<E>)
+    ensures reason { errors.new.reason ≡ Some (BookReason refusal.now) }
+    ensures terminal { errors.new.is_terminal ≡ errors.old.is_terminal }
+{
     let (message, number, place) = match *refusal {
         BookRefusal::Text(fault) => (Message::of(b"book error "), fault.number(), fault.line()),
         BookRefusal::Claim(wrong) => (Message::of(b"book wrong "), wrong.number(), wrong.entry()),
     };
     let message = message.number(u64::from(number));
-    match place {
-        Some(place) => message.text(b" at ").number(u64::from(place)).print(errors),
-        None => message.print(errors),
-    }
+    let message = match place {
+        Some(place) => message.text(b" at ").number(u64::from(place)),
+        None => message,
+    };
+    message.print(&mut errors.sink);
+    errors.reason = Some(Reason::Book(*refusal));
 }

@@ -1,9 +1,10 @@
-//! Runs over rows and over devices that fail, and the commands of the book. The expected lines are those that the rules
-//! and the formats give.
+//! Runs over rows and over devices that fail, the commands of the book, and the reasons in words. The expected lines
+//! are those that the rules and the formats give.
 
 mod batches;
 mod books;
 mod devices;
+mod reasons;
 mod refused;
 mod rows;
 

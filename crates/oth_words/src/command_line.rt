@@ -47,6 +47,8 @@ Statuses, and what is then on standard error:
        line I: book error N: an answer can't be added (see book-add --help)";
 
 const SOLVE_NOTES: &str = "\
+Boards are read from standard input, a line each: othsolve solve < boards.txt
+
 A board line, and its answer, the score for the side to move and all best moves:
 
     --OXOOO-OOOOOOOOOOOOOOOOOOOOOOOOOOOOOOOOOOOOOOOOOOOOOOOOOOOOOOOO X
@@ -63,6 +65,8 @@ Faults of a board line:
     error 5 N     N squares are empty, more than 30";
 
 const MOVES_NOTES: &str = "\
+Boards are read from standard input, a line each: othsolve moves < boards.txt
+
 A board line, and its answer, all legal moves:
 
     ---------------------------OX------XO--------------------------- X
@@ -73,6 +77,8 @@ A board line, and its answer, all legal moves:
 is answered by 'error 1' to 'error 4', as in solve --help.";
 
 const TRANSCRIPT_NOTES: &str = "\
+Games are read from standard input, a line each: othsolve transcript < games.txt
+
 A transcript is the names of the moves from the start of a game with nothing between them. Forced
 passes are not written; they are put in. An empty line is the start. A transcript, and its answer:
 
@@ -150,7 +156,10 @@ fn cells_option<'a>(alloc: Global) -> Arg<'a>
     option(alloc, "cells", "N")
         .value_parser(value_parser!(u32).range(0..=262_144))
         .default_value("65536")
-        .help("Cells of 32 bytes of the table that they share: 0, or a power of two up to 262144")
+        .help(
+            "Cells of 32 bytes of the table that they share: 0, or a power of two up to 262144. \
+             Without any, large boards take longer; more than the default save little time",
+        )
 }
 
 // The option `--scoring`, with its two words.
@@ -162,7 +171,8 @@ fn scoring_option<'a>(alloc: Global, scorings: &'a [&'a str]) -> Arg<'a>
         .value_parser(scorings)
         .default_value("winner")
         .help(
-            "What a finished game is worth: the discs with the empty squares for the winner, or the discs alone",
+            "What a finished game is worth: 'winner', the usual scoring, of tournaments and of Edax, \
+             gives the empty squares to the winner, and 'discs' counts the discs alone",
         )
 }
 
@@ -195,6 +205,7 @@ fn titled_solve<'a>(alloc: Global) -> App<'a>
 {
     App::new(alloc, "solve")
         .about("Writes the score and all best moves of each board line of standard input")
+        .override_usage("othsolve solve [OPTIONS] < BOARDS")
         .after_help(SOLVE_NOTES)
 }
 
@@ -217,6 +228,7 @@ fn moves_command<'a>(alloc: Global) -> App<'a>
 {
     App::new(alloc, "moves")
         .about("Writes all legal moves of each board line of standard input")
+        .override_usage("othsolve moves < BOARDS")
         .after_help(MOVES_NOTES)
 }
 
@@ -227,6 +239,7 @@ fn transcript_command<'a>(alloc: Global) -> App<'a>
 {
     App::new(alloc, "transcript")
         .about("Writes the board line that each transcript of standard input leads to")
+        .override_usage("othsolve transcript < GAMES")
         .after_help(TRANSCRIPT_NOTES)
 }
 
@@ -250,6 +263,7 @@ fn add_command<'a>(alloc: Global) -> Result<App<'a>, AllocError>
         .about(
             "Writes the book of FILE with the answers to the board lines of standard input added",
         )
+        .override_usage("othsolve book-add [OPTIONS] FILE < BOARDS")
         .after_help(ADD_NOTES)
         .arg(workers_option(alloc))?
         .arg(cells_option(alloc))?

@@ -5,14 +5,15 @@ ghost use Rattle.std.specs.Prelude.{◌≡◌, false};
 
 use oth_book::{Book, BookFault};
 use oth_main::{
-    BookRefusal, MOST_BOOK_BYTES, REFUSED, RunFault, Settings, Words, book_add, book_verify,
-    check_settings, open_book, print_refusal, print_run_fault, read_words, run,
+    BookRefusal, Errors, MOST_BOOK_BYTES, REFUSED, Reason, RunFault, Scene, Settings, Words,
+    book_add, book_verify, check_settings, open_book, print_refusal, print_run_fault, read_words,
+    run, tell_scoring,
 };
 use oth_pool::Open;
 use oth_text::{FromRead, Sink, Source, ToWrite};
 use std::env::Env;
 use std::fs::File;
-use std::io::{ErrorKind, Read};
+use std::io::{ErrorKind, IsTerminal, Read, Write};
 use std::process::ExitCode;
 use std::rt::Files;
 use std::sync::Wait;
@@ -32,12 +33,43 @@ const COMMAND_LINE_FAULT: u8 = 2;
 fn main(rt: HostRuntime) -> ExitCode {
     let mut reader = FromRead::new(rt.stdin());
     let mut writer = ToWrite::new(rt.stdout());
-    let mut errors = ToWrite::new(rt.stderr());
+    let mut errors = Errors::new(ToWrite::new(rt.stderr()), rt.stderr().is_terminal());
     let status = match words(&rt) {
-        Ok(words) => obey(&rt, &words, &mut reader, &mut writer, &mut errors),
+        Ok(words) => obey_and_explain(&rt, &words, &mut reader, &mut writer, &mut errors),
         Err(status) => status,
     };
     ExitCode::from(status)
+}
+
+// Does what the words ask for, and tells why it ended, where the error output is a terminal.
+fn obey_and_explain<T: Wait + Threads + Sync + Files + AllocGlobal, R: Read, W: Write, E: Sink>(
+    rt: &T,
+    words: &Words,
+    reader: &mut FromRead<R>,
+    writer: &mut ToWrite<W>,
+    errors: &mut Errors<E>,
+) -> u8
+    requires reader { ⟦<FromRead<R> as Source>⟧.failed reader.old ≡ false }
+    requires writer { ⟦<ToWrite<W> as Sink>⟧.failed writer.old ≡ false }
+{
+    let status = obey(rt, words, reader, writer, errors);
+    let scene = Scene {
+        file: file_name(words),
+        input: reader.failure(),
+        output: writer.failure(),
+    };
+    errors.explain(rt.alloc(), &scene);
+    status
+}
+
+// The name of the file that the words name.
+fn file_name(words: &Words) -> &str {
+    match words {
+        Words::Run(_, Some(name)) => name.as_str(),
+        Words::Run(_, None) => "",
+        Words::Verify(name) => name.as_str(),
+        Words::Add(_, name) => name.as_str(),
+    }
 }
 
 // Does what the words ask for.
@@ -46,7 +78,7 @@ fn obey<T: Wait + Threads + Sync + Files + AllocGlobal, R: Source, W: Sink, E: S
     words: &Words,
     reader: &mut R,
     writer: &mut W,
-    errors: &mut E,
+    errors: &mut Errors<E>,
 ) -> u8
     requires reader { R.failed reader.old ≡ false }
     requires writer { W.failed writer.old ≡ false }
@@ -87,7 +119,7 @@ fn report<T: Wait + Threads + Sync + AllocGlobal, R: Source, W: Sink, E: Sink>(
     book: Option<&Book>,
     reader: &mut R,
     writer: &mut W,
-    errors: &mut E,
+    errors: &mut Errors<E>,
 ) -> u8
     requires reader { R.failed reader.old ≡ false }
     requires writer { W.failed writer.old ≡ false }
@@ -103,7 +135,7 @@ fn book_of<T: Threads + Sync + Files + AllocGlobal, E: Sink>(
     rt: &T,
     settings: &Settings,
     name: &str,
-    errors: &mut E,
+    errors: &mut Errors<E>,
 ) -> Result<Book, u8> {
     let file = tested_file_of(rt, settings, name, errors)?;
     match open_book(
@@ -113,7 +145,10 @@ fn book_of<T: Threads + Sync + Files + AllocGlobal, E: Sink>(
         settings.workers,
         settings.cells,
     ) {
-        Ok(book) => Ok(book),
+        Ok(book) => {
+            tell_scoring(rt.alloc(), name, &book, settings.scoring, errors);
+            Ok(book)
+        }
         Err(refusal) => {
             print_refusal(&refusal, errors);
             Err(REFUSED)
@@ -126,7 +161,7 @@ fn tested_file_of<T: Files + AllocGlobal, E: Sink>(
     rt: &T,
     settings: &Settings,
     name: &str,
-    errors: &mut E,
+    errors: &mut Errors<E>,
 ) -> Result<Vec<u8>, u8> {
     match check_settings(settings) {
         Ok(()) => file_of(rt, name, errors),
@@ -138,7 +173,7 @@ fn tested_file_of<T: Files + AllocGlobal, E: Sink>(
 fn file_of<T: Files + AllocGlobal, E: Sink>(
     rt: &T,
     name: &str,
-    errors: &mut E,
+    errors: &mut Errors<E>,
 ) -> Result<Vec<u8>, u8> {
     match read_file(rt, name) {
         Ok(file) => Ok(file),
@@ -146,7 +181,11 @@ fn file_of<T: Files + AllocGlobal, E: Sink>(
             print_refusal(&BookRefusal::Text(BookFault::Memory), errors);
             Err(REFUSED)
         }
-        Err(_) => Err(print_run_fault(RunFault::Read, errors)),
+        Err(error) => {
+            let status = print_run_fault(RunFault::Read, errors);
+            errors.reason = Some(Reason::File(error));
+            Err(status)
+        }
     }
 }
 
@@ -161,9 +200,13 @@ fn read_file<T: Files + AllocGlobal>(rt: &T, name: &str) -> io::Result<Vec<u8>> 
 // What the words of the command line ask for. Where they can't be read, the reason is printed, and this is the status.
 fn words<R: Env + AllocGlobal + Print + Eprint>(rt: &R) -> Result<Words, u8> {
     let alloc = rt.alloc();
-    let Ok(arguments) = arguments(rt) else {
-        let _ = eprintln!(rt; "error: the words of the command line can't be read");
-        return Err(COMMAND_LINE_FAULT);
+    let arguments = match arguments(rt) {
+        Ok(arguments) => arguments,
+        Err(error) => {
+            let reason = words_fault(error.kind());
+            let _ = eprintln!(rt; "error: {reason}");
+            return Err(COMMAND_LINE_FAULT);
+        }
     };
     let mut texts = Vec::new(alloc);
     for argument in arguments.iter() {
@@ -179,6 +222,14 @@ fn words<R: Env + AllocGlobal + Print + Eprint>(rt: &R) -> Result<Words, u8> {
             Err(_) if error.use_stderr() => Err(COMMAND_LINE_FAULT),
             Err(_) => Err(DEVICE_FAULT),
         },
+    }
+}
+
+// Why the words of the command line can't be read.
+fn words_fault(kind: ErrorKind) -> &'static str {
+    match kind {
+        ErrorKind::OutOfMemory => "out of memory",
+        _ => "a word of the command line isn't UTF-8, and such files can't be used",
     }
 }
 

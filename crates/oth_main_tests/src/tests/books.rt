@@ -2,7 +2,7 @@
 
 use super::{NO_FAILURE, by_two_workers, settings};
 use oth_book::Book;
-use oth_main::{Command, Settings, book_add, book_verify, open_book, run};
+use oth_main::{Command, Errors, Settings, book_add, book_verify, open_book, run};
 use oth_pool::Gate;
 use oth_rules::Scoring;
 use oth_text::fakes::{BrokenSource, ByteSink};
@@ -227,10 +227,10 @@ pub(super) const BOOK_OF_TWO: &[u8] =
 fn verifies_each_file(rt: HostRuntime) {
     for (file, written, told, status) in VERIFIED {
         let mut writer = ByteSink::<64>::new(NO_FAILURE);
-        let mut errors = ByteSink::<64>::new(NO_FAILURE);
+        let mut errors = Errors::new(ByteSink::<64>::new(NO_FAILURE), false);
         assert!(rt; book_verify(&rt, rt.alloc(), file, &mut writer, &mut errors) == status);
         assert!(rt; writer.taken() == written);
-        assert!(rt; errors.taken() == told);
+        assert!(rt; errors.sink.taken() == told);
     }
 }
 
@@ -238,12 +238,12 @@ fn verifies_each_file(rt: HostRuntime) {
 #[test]
 fn a_verdict_ends_with_its_status_where_a_device_fails(rt: HostRuntime) {
     let mut writer = ByteSink::<64>::new(4);
-    let mut errors = ByteSink::<64>::new(NO_FAILURE);
+    let mut errors = Errors::new(ByteSink::<64>::new(NO_FAILURE), false);
     assert!(rt; book_verify(&rt, rt.alloc(), EMPTY_BOOK, &mut writer, &mut errors) == 1);
     assert!(rt;
-        writer.taken() == b"book".as_slice() && errors.taken() == b"run error 2\n".as_slice()
+        writer.taken() == b"book".as_slice() && errors.sink.taken() == b"run error 2\n".as_slice()
     );
-    let mut errors = ByteSink::<64>::new(4);
+    let mut errors = Errors::new(ByteSink::<64>::new(4), false);
     assert!(rt; book_verify(&rt, rt.alloc(), b"", &mut writer, &mut errors) == 3);
 }
 
@@ -265,7 +265,7 @@ pub(super) fn add<R: Wait + Threads + Sync + AllocGlobal>(
 ) -> Addition {
     let mut reader = BrokenSource::new(input, until_read).in_steps(1);
     let mut writer = ByteSink::new(until_write);
-    let mut errors = ByteSink::new(NO_FAILURE);
+    let mut errors = Errors::new(ByteSink::new(NO_FAILURE), false);
     let status = book_add(
         rt,
         rt.alloc(),
@@ -277,7 +277,7 @@ pub(super) fn add<R: Wait + Threads + Sync + AllocGlobal>(
     );
     Addition {
         writer,
-        errors,
+        errors: errors.sink,
         status,
     }
 }
@@ -340,7 +340,7 @@ fn an_addition_tests_its_settings_first(rt: HostRuntime) {
 fn an_addition_passes_a_failing_standard_error_over(rt: HostRuntime) {
     let mut reader = BrokenSource::new(THREE_LINES, NO_FAILURE);
     let mut writer = ByteSink::<256>::new(NO_FAILURE);
-    let mut errors = ByteSink::<64>::new(0);
+    let mut errors = Errors::new(ByteSink::<64>::new(0), false);
     let status = book_add(
         &rt,
         rt.alloc(),
@@ -350,7 +350,7 @@ fn an_addition_passes_a_failing_standard_error_over(rt: HostRuntime) {
         &mut errors,
         &by_two_workers(Scoring::Winner),
     );
-    assert!(rt; status == 0 && errors.calls() == 1);
+    assert!(rt; status == 0 && errors.sink.calls() == 1);
     assert!(rt; writer.taken() == BOOK_OF_TWO && BOOK_OF_TWO.len() == 200);
 }
 
@@ -390,9 +390,9 @@ fn a_full_book_is_verified_and_takes_no_more(rt: HostRuntime) -> Result<(), Fail
     let file = full_book(rt.alloc())?;
     assert!(rt; file.len() == 9_000_020);
     let mut writer = ByteSink::<64>::new(NO_FAILURE);
-    let mut errors = ByteSink::<64>::new(NO_FAILURE);
+    let mut errors = Errors::new(ByteSink::<64>::new(NO_FAILURE), false);
     assert!(rt; book_verify(&rt, rt.alloc(), file.as_slice(), &mut writer, &mut errors) == 0);
-    assert!(rt; writer.taken() == b"book ok 100000\n".as_slice() && errors.taken().is_empty());
+    assert!(rt; writer.taken() == b"book ok 100000\n".as_slice() && errors.sink.taken().is_empty());
     let asked = by_two_workers(Scoring::Winner);
     let done = add(
         &rt,
@@ -414,10 +414,10 @@ fn a_longer_book_has_too_many_entries(rt: HostRuntime) -> Result<(), Fail> {
     file.truncate(9_000_009);
     file.push(b'O')?;
     let mut writer = ByteSink::<64>::new(NO_FAILURE);
-    let mut errors = ByteSink::<64>::new(NO_FAILURE);
+    let mut errors = Errors::new(ByteSink::<64>::new(NO_FAILURE), false);
     assert!(rt; book_verify(&rt, rt.alloc(), file.as_slice(), &mut writer, &mut errors) == 3);
     assert!(rt; writer.taken().is_empty());
-    assert!(rt; errors.taken() == b"book error 4\n".as_slice());
+    assert!(rt; errors.sink.taken() == b"book error 4\n".as_slice());
     Ok(())
 }
 

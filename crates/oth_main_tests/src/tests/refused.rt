@@ -3,8 +3,9 @@
 
 use super::books::{BOOK_OF_A, BOOK_OF_TWO, EMPTY_BOOK, TWO_LINES as NEW_LINES, add};
 use super::devices::{SOLVED_TWO, TWO_LINES};
+use super::reasons::told;
 use super::{NO_FAILURE, by_two_workers, walk};
-use oth_main::book_verify;
+use oth_main::{Errors, Reason, RunFault, book_verify};
 use oth_rules::Scoring;
 use oth_text::fakes::ByteSink;
 
@@ -22,14 +23,14 @@ const WANTING: [&[u8]; 2] = [b"book error 7\n", b"book wrong 4\n"];
 #[test]
 fn a_file_is_verified_or_memory_is_wanting(rt: HostRuntime) {
     let mut writer = ByteSink::<64>::new(NO_FAILURE);
-    let mut errors = ByteSink::<64>::new(NO_FAILURE);
+    let mut errors = Errors::new(ByteSink::<64>::new(NO_FAILURE), false);
     let status = book_verify(&rt, rt.alloc(), BOOK_OF_A, &mut writer, &mut errors);
     if status == 0 {
-        assert!(rt; writer.taken() == b"book ok 1\n".as_slice() && errors.taken().is_empty());
+        assert!(rt; writer.taken() == b"book ok 1\n".as_slice() && errors.sink.taken().is_empty());
         return;
     }
     assert!(rt; status == 3 && writer.taken().is_empty());
-    assert!(rt; WANTING.contains(&errors.taken()));
+    assert!(rt; WANTING.contains(&errors.sink.taken()));
 }
 
 // Where the addition of a line is refused, the line is told.
@@ -46,4 +47,12 @@ fn an_addition_writes_the_whole_book_or_none(rt: HostRuntime) {
     let told = done.errors.taken();
     assert!(rt; done.status == 3 && done.writer.taken().is_empty());
     assert!(rt; WANTING.contains(&told) || REFUSED.contains(&told));
+}
+
+#[test]
+fn a_reason_is_told_whole_or_not_at_all(rt: HostRuntime) {
+    let reason = Some(Reason::Run(RunFault::Workers));
+    let done = told(rt.alloc(), reason, true, NO_FAILURE, "");
+    let words = b"the workers must be 1 to 16\n".as_slice();
+    assert!(rt; done.taken().is_empty() || done.taken() == words);
 }
