@@ -13,11 +13,12 @@ use crate::claim::Claim;
 use crate::claims::Claims;
 use crate::wrong::{Cause, Wrong};
 use oth_rules::Scoring;
-use oth_search::{Answer, Interval, NoCells, search, solve_alone};
+use oth_search::{Answer, Interval, MemoCells, NoCells, search, solve_with};
 use std::alloc::Global;
 
 /// The book of claims that are all true, or the first that isn't. Each is solved anew. The claims are given up. Memory
-/// is asked for once, before any is solved, and not where there are no claims.
+/// for the book is asked for once, before any is solved, and not where there are no claims; want of other memory costs
+/// time alone.
 pub fn verify(alloc: Global, claims: Claims) -> Result<Book, Wrong>
     ensures same { IfOk result (λ book. book ≡ claims) }
     ensures holds { IfOk result (λ book. IsTrueBook book) }
@@ -62,7 +63,7 @@ fn verified<F: FnMut(&[Claim]) -> Option<Answer>>(
     };
     for claim in claims {
         let answer = known(&claims[entries.len()..]);
-        if let Err(cause) = check(claim, scoring, answer) {
+        if let Err(cause) = check(alloc, claim, scoring, answer) {
             return Err(Wrong::Entry(entries.len() as u32 + 1, cause));
         }
         entries.push(*claim).unwrap();
@@ -72,7 +73,12 @@ fn verified<F: FnMut(&[Claim]) -> Option<Answer>>(
 
 // Whether the claim is true, or the first cause for which it isn't: by the answer if it is that of the claim's board,
 // else by a search.
-fn check(claim: &Claim, scoring: Scoring, answer: Option<Answer>) -> Result<(), Cause>
+fn check(
+    alloc: Global,
+    claim: &Claim,
+    scoring: Scoring,
+    answer: Option<Answer>,
+) -> Result<(), Cause>
     requires { IsInterval claim.now.lower claim.now.upper }
     ensures ok { OnOk result (IsTrueClaim scoring claim.now) }
     ensures cause { IfErr result (λ why. IsCause scoring claim.now why) }
@@ -86,7 +92,7 @@ fn check(claim: &Claim, scoring: Scoring, answer: Option<Answer>) -> Result<(), 
         }
     }
     if is_exact(claim) {
-        return check_exact(claim, scoring);
+        return check_exact(alloc, claim, scoring);
     }
     if !encloses(claim, scoring) {
         return Err(Cause::Bounds);
@@ -111,15 +117,14 @@ fn check_by(claim: &Claim, answer: &Answer) -> Result<(), Cause>
 }
 
 // The same, of a claim whose bounds are one number.
-fn check_exact(claim: &Claim, scoring: Scoring) -> Result<(), Cause>
+fn check_exact(alloc: Global, claim: &Claim, scoring: Scoring) -> Result<(), Cause>
     requires few { empty_count claim.now.board ≤ 30 }
     ensures ok { OnOk result (IsTrueClaim scoring claim.now) }
     ensures cause { IfErr result (λ why. IsCause scoring claim.now why) }
 {
-    match solve_alone(&claim.board, scoring) {
-        Ok(answer) => check_by(claim, &answer),
-        Err(_) => Err(Cause::Empties),
-    }
+    let mut cells = MemoCells::of(alloc, claim.board.empties());
+    let answer = solve_with(claim.board, &mut cells, scoring);
+    check_by(claim, &answer)
 }
 
 // Whether the bounds enclose the value, by one search with the window just round them.

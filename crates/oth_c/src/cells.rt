@@ -12,7 +12,7 @@ use std::alloc::Global;
 #[derive(Drop)]
 pub struct CallCells<'t> {
     cells: TableCells<'t>,
-    memo: Option<Box<Memo>>,
+    memo: Option<Memo>,
 }
 
 impl<'t> CallCells<'t> {
@@ -20,7 +20,7 @@ impl<'t> CallCells<'t> {
     pub fn of(alloc: Global, cells: TableCells<'t>) -> CallCells<'t> {
         CallCells {
             cells,
-            memo: Box::new(alloc, Memo::new()).ok(),
+            memo: Memo::new(alloc).ok(),
         }
     }
 }

@@ -83,6 +83,7 @@ pub fn book_verify<T: Threads + Sync, W: Sink, E: Sink>(
 /// the end of input. Where a line can't be read, its number and its fault are printed, and it is left out. The status
 /// of the program: 0, or 1 where a device fails, or 2 where the settings aren't lawful, or 3 where the file or an
 /// answer is refused; then no book is written, save for what a writer took before it failed.
+#[inline(never)]
 pub fn book_add<T: Wait + Threads + Sync, R: Source, W: Sink, E: Sink>(
     rt: &T,
     alloc: Global,

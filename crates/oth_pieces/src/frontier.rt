@@ -39,6 +39,7 @@ impl Frontier {
     /// The boards one or two plies below the board, after a forced pass where there is one. They go by rising squares
     /// of the first move, and then of the second. A board that is over one ply below stands itself; below a root that
     /// is over there are none.
+    #[inline(never)]
     pub fn of(board: &Board, plies: u8) -> Frontier
         requires plies { IsPlies plies }
         requires few { empty_count board.now ≤ 30 }

@@ -65,6 +65,7 @@ impl Tasks {
     /// The same tasks and hands, where each deque has its numbers by rising rank. The rank of number `j` is the one at
     /// `j`; a number that has none goes last, and of equal ranks the lesser number goes first. Which number is drawn
     /// when rests on this alone.
+    #[inline(never)]
     pub fn by_rank(
         alloc: Global,
         frontier: &Frontier,

@@ -10,6 +10,7 @@ const BEYOND: u32 = 64;
 
 /// The rank of each item of the frontier, the least first: all replies to the root's first move in their order, then
 /// the best reply to each other move, then the second ones, and so on. Nothing rests on it but time.
+#[inline(never)]
 pub(crate) fn ranks(scene: &Scene) -> ArrayVec<u32, MOST_ITEMS> {
     let mut ranks = ArrayVec::new();
     let mut replies = replies_to(scene, Square::numbered(0));

@@ -81,6 +81,7 @@ pub fn run_workers<'t, R: Threads + Sync, G: Gate>(
 }
 
 /// The same, and what the workers found of the boards after the root's moves.
+#[inline(never)]
 pub(crate) fn run<'t, R: Threads + Sync, G: Gate>(
     means: &Means<R, G>,
     scene: &Scene,
@@ -154,6 +155,7 @@ fn hints_for<R, G>(means: &Means<R, G>, scene: &Scene) -> Option<Hints> {
 }
 
 // All is left.
+#[inline(never)]
 fn nothing(alloc: Global, scene: &Scene) -> (Gathered, Vec<Solved>)
     ensures gathered { AreGathered scene.now.frontier.now scene.now.plan.scoring result.0 }
     ensures lists { lists_of result.0.drawn ≡ [] }
@@ -166,6 +168,7 @@ fn nothing(alloc: Global, scene: &Scene) -> (Gathered, Vec<Solved>)
 }
 
 // The hands are closed before anything is drawn with them.
+#[inline(never)]
 fn without_jobs(
     alloc: Global,
     scene: &Scene,

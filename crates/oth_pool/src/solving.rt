@@ -8,9 +8,9 @@ ghost use Rattle.oth_pieces.specs.Hands.{IsCrew};
 ghost use Rattle.oth_pieces.specs.Watch.{IsSeatOf};
 
 use crate::book_lookup::{answer_in, bounds_in};
-use crate::run::{Means, room_for, run};
+use crate::run::{Gathered, Means, room_for, run};
 use oth_book::Book;
-use oth_pieces::{Collector, Floor, Frontier, Reply, is_crew};
+use oth_pieces::{Floor, Frontier, is_crew};
 use oth_rules::{Board, Scoring, Square};
 use oth_search::{
     Answer, Cells, MOST_EMPTIES, Solved, before_pass, ended, known_below, known_of, order,
@@ -155,7 +155,7 @@ fn cells_for(cells: u32, empties: u8) -> u32 {
     }
 }
 
-// The same: by the items of the frontier, and then by what they left open.
+// The same: by the items of the frontier.
 fn answer_over<'t, R: Threads + Sync, G: Gate>(
     means: &Means<R, G>,
     by_book: &Solved,
@@ -167,7 +167,50 @@ fn answer_over<'t, R: Threads + Sync, G: Gate>(
     ensures board { result.board ≡ by_book.now.board }
     ensures scoring { result.scoring ≡ by_book.now.scoring }
 {
-    let frontier = Frontier::of(&by_book.board, 2);
+    match frontier_of(means.alloc, &by_book.board) {
+        Some(frontier) => answer_by_items(means, by_book, &frontier, access),
+        None => answer_without_room(means, by_book, access),
+    }
+}
+
+// The frontier of the board, on the heap: a search is to have room on the stack. None where there is no memory.
+#[inline(never)]
+fn frontier_of(alloc: Global, board: &Board) -> Option<Box<Frontier>>
+    requires { IsSolvable board.now }
+{
+    Box::new(alloc, Frontier::of(board, 2)).ok()
+}
+
+// The same as `answer_over` does, with the frontier on the stack.
+#[inline(never)]
+fn answer_without_room<'t, R: Threads + Sync, G: Gate>(
+    means: &Means<R, G>,
+    by_book: &Solved,
+    access: &mut Option<TableAccess<'t>>,
+) -> Answer
+    requires some { can_move by_book.now.board ≡ true }
+    requires few { IsSolvable by_book.now.board }
+    requires crew { IsCrew means.now.workers }
+    ensures board { result.board ≡ by_book.now.board }
+    ensures scoring { result.scoring ≡ by_book.now.scoring }
+{
+    answer_by_items(means, by_book, &Frontier::of(&by_book.board, 2), access)
+}
+
+// The same by the items of this frontier, and then by what they left open.
+#[inline(never)]
+fn answer_by_items<'t, R: Threads + Sync, G: Gate>(
+    means: &Means<R, G>,
+    by_book: &Solved,
+    frontier: &Frontier,
+    access: &mut Option<TableAccess<'t>>,
+) -> Answer
+    requires some { can_move by_book.now.board ≡ true }
+    requires few { IsSolvable by_book.now.board }
+    requires crew { IsCrew means.now.workers }
+    ensures board { result.board ≡ by_book.now.board }
+    ensures scoring { result.scoring ≡ by_book.now.scoring }
+{
     let squares = order(&by_book.board);
     let plan = Plan::of(
         by_book.scoring,
@@ -176,7 +219,7 @@ fn answer_over<'t, R: Threads + Sync, G: Gate>(
         access.is_some(),
     );
     let scene = Scene {
-        frontier: &frontier,
+        frontier,
         root: by_book.board,
         squares: squares.as_slice(),
         plan,
@@ -205,24 +248,36 @@ fn search_items<'t, R: Threads + Sync, G: Gate>(
     };
     let _ = floor.raise(&mut seat, by_book);
     let (gathered, found) = run(means, scene, &floor, &mut seat, access);
-    let mut collector = Collector::new(scene.frontier, by_book.scoring);
-    for reply in gathered.replies.as_slice() {
-        let _ = collector.take(*reply);
-    }
     let cells = WorkerCells::of(alloc, scene.plan, access);
     let plan = Plan::alone(by_book.scoring, by_book.board.empties());
     let mut walk = Walk::of(alloc, plan, cells, Height::shared(&floor, seat), None);
     walk.found = found;
-    for number in gathered.drawn.left.as_slice() {
-        search_left_item(scene, *number, means.gate, &mut walk, &mut collector);
-    }
-    let replies = replies_of(alloc, scene.frontier.len(), &collector);
+    let replies = replies_of(scene, &gathered, means.gate, &mut walk);
     let children = children_of(scene, replies.as_slice(), &mut walk);
     (children, walk.into_cells())
 }
 
-// The same by the caller alone, where it is the only worker or there is no memory for a floor. What it finds of the
-// boards after the moves tells all.
+// What the workers found of the items, and the caller of those that none took, as far as there is room for it.
+fn replies_of<G: Gate, C: Cells>(
+    scene: &Scene,
+    gathered: &Gathered,
+    gate: &G,
+    walk: &mut Walk<C>,
+) -> Vec<Solved> {
+    let mut replies = room_for(walk.alloc, scene.frontier.len());
+    for reply in gathered.replies.as_slice() {
+        let _ = replies.push(reply.solved);
+    }
+    for number in gathered.drawn.left.as_slice() {
+        if let Some(item) = scene.frontier.entry(*number) {
+            let _ = replies.push(search_item(scene, *number, &item, gate, walk));
+        }
+    }
+    replies
+}
+
+// What `search_items` finds by the caller alone, where it is the only worker or there is no memory for a floor. What it
+// finds of the boards after the moves tells all.
 fn search_items_alone<'t, R: Threads + Sync, G: Gate>(
     means: &Means<R, G>,
     scene: &Scene,
@@ -253,20 +308,6 @@ fn settle_item<G: Gate, C: Cells>(scene: &Scene, number: u32, gate: &G, walk: &m
     gate.after(number);
 }
 
-// Searches an item that no worker took, and keeps what is found of it.
-fn search_left_item<G: Gate, C: Cells>(
-    scene: &Scene,
-    number: u32,
-    gate: &G,
-    walk: &mut Walk<C>,
-    collector: &mut Collector,
-) {
-    if let Some(item) = scene.frontier.entry(number) {
-        let solved = search_item(scene, number, &item, gate, walk);
-        let _ = collector.take(Reply { number, solved });
-    }
-}
-
 // What is known of the boards after the root's moves, by what workers found of them, and by the replies where that
 // leaves something open. The floor is raised by each.
 fn children_of<C: Cells>(scene: &Scene, replies: &[Solved], walk: &mut Walk<C>) -> Vec<Solved> {
@@ -284,17 +325,6 @@ fn children_of<C: Cells>(scene: &Scene, replies: &[Solved], walk: &mut Walk<C>) 
         }
     }
     children
-}
-
-// What was found of the items.
-fn replies_of(alloc: Global, count: u32, collector: &Collector) -> Vec<Solved> {
-    let mut replies = room_for(alloc, count);
-    for number in 0..count {
-        if let Some(solved) = collector.solved(number) {
-            let _ = replies.push(solved);
-        }
-    }
-    replies
 }
 
 // What all of these tell of the board.

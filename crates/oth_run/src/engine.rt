@@ -9,6 +9,7 @@ ghost use Rattle.oth_run.specs.Report.{last_report, with_end};
 ghost use Rattle.oth_run.specs.Run.{FailsBy};
 
 use crate::ahead::jobs_of;
+use crate::buffer::{SHORT, long_buffer, longer};
 use crate::checking::Lawful;
 use crate::fault::RunFault;
 use crate::line::Line;
@@ -21,9 +22,6 @@ use oth_text::{Failed, Sink, Source};
 use oth_words::Command;
 use std::sync::Wait;
 use std::thread::Threads;
-
-// So many bytes are read at once: 244 board lines, whose boards are solved side by side.
-const BUFFER_LEN: usize = 16_384;
 
 /// The line that has begun, and the bytes of the report that wait to be written.
 #[derive(Drop)]
@@ -211,9 +209,11 @@ impl Engine {
         ensures end { OnOk result (IsAtEnd (R.remaining reader.new)) }
         ensures devices { FailsBy result (R.failed reader.new) (W.failed writer.new) }
     {
-        let mut buffer = [0u8; BUFFER_LEN];
+        let mut long = long_buffer(solver.alloc);
+        let mut short = [0; SHORT];
+        let buffer = longer(long.as_mut_slice(), &mut short);
         for _ in solver.rt.forever() {
-            let Ok(count) = reader.read(&mut buffer) else {
+            let Ok(count) = reader.read(buffer) else {
                 return Err(RunFault::Read);
             };
             if count == 0 {

@@ -2,6 +2,7 @@
 #![tactic(auto)]
 
 mod ahead;
+mod buffer;
 mod checking;
 mod engine;
 mod fault;

@@ -1,5 +1,5 @@
 //! Probes by rank and with cells, of boards with more than a few empty squares.
-ghost use Rattle.std.specs.Prelude.{◌≡◌, ℕ, ◌<◌, neg_ℤ, pos, true, IfSome};
+ghost use Rattle.std.specs.Prelude.{◌≡◌, ℕ, ◌<◌, neg_ℤ, pos, true, IfSome, IfOk, IfErr};
 ghost use Rattle.std.specs.List.{All};
 ghost use Rattle.oth_rules.specs.Move.{can_move};
 ghost use Rattle.oth_rules.specs.Score.{score_of};
@@ -175,12 +175,50 @@ fn probe_long<C: Cells>(node: Node, alpha: i8, cells: &mut C, scoring: Scoring) 
     ensures value { BoundsAt (value (score_of scoring) node.board) alpha result }
     ensures fixed { C.fixed cells.new ≡ C.fixed cells.old }
 {
-    let list: ArrayVec<Child, 32> = children(&node);
-    if let Some(found) = recorded_above(&node.board, list.as_slice(), alpha, cells, scoring) {
-        return found;
+    let found = &looked_at_or_recorded(&node, alpha, cells, scoring);
+    probe_looked_at(node, found, alpha, cells, scoring)
+}
+
+// Searches the children that were looked at, unless there is a bound above `alpha` in their place.
+#[cycle(deep)]
+fn probe_looked_at<C: Cells>(
+    node: Node,
+    found: &Result<ArrayVec<Child, 32>, i8>,
+    alpha: i8,
+    cells: &mut C,
+    scoring: Scoring,
+) -> i8
+    requires threshold { IsThreshold alpha }
+    requires some { can_move node.board ≡ true }
+    requires children { IfOk found.now (λ list. All (IsChild node.board) list.items) }
+    requires bound { IfErr found.now (BoundsAt (value (score_of scoring) node.board) alpha) }
+    ensures value { BoundsAt (value (score_of scoring) node.board) alpha result }
+    ensures fixed { C.fixed cells.new ≡ C.fixed cells.old }
+{
+    match found {
+        Ok(list) => probe_children(node, list.as_slice(), alpha, cells, scoring),
+        Err(bound) => *bound,
     }
-    let looked: ArrayVec<Child, 32> = looked_at(&node, list.as_slice());
-    probe_children(node, looked.as_slice(), alpha, cells, scoring)
+}
+
+// The children, looked at, or a bound above `alpha` that is recorded of the board. It stands apart, so that a search of
+// many plies has one list of each board on the stack.
+#[inline(never)]
+fn looked_at_or_recorded<C: Cells>(
+    node: &Node,
+    alpha: i8,
+    cells: &mut C,
+    scoring: Scoring,
+) -> Result<ArrayVec<Child, 32>, i8>
+    ensures children { IfOk result (λ list. All (IsChild node.now.board) list.items) }
+    ensures value { IfErr result (BoundsAt (value (score_of scoring) node.now.board) alpha) }
+    ensures fixed { C.fixed cells.new ≡ C.fixed cells.old }
+{
+    let list: ArrayVec<Child, 32> = children(node);
+    match recorded_above(&node.board, list.as_slice(), alpha, cells, scoring) {
+        Some(found) => Err(found),
+        None => Ok(looked_at(node, list.as_slice())),
+    }
 }
 
 // Searches these children and any other, the best-ranked first.

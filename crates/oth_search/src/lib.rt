@@ -35,7 +35,7 @@ pub use entry::Entry;
 pub use guess::seeming_value;
 pub use interval::Interval;
 pub use kind::Kind;
-pub use memo::Memo;
+pub use memo::{Memo, MemoCells};
 pub use ordering::order;
 pub use root::{guessed_score, settle_moves};
 pub use searching::search;

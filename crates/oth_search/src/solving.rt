@@ -13,7 +13,7 @@ use crate::cells::{Cells, NoCells};
 use crate::combining::known_of;
 use crate::interval::Interval;
 use crate::kind::Kind;
-use crate::memo::MemoCells;
+use crate::memo::{StackCells, is_remembered};
 use crate::ordering::order;
 use crate::root::settle_moves;
 use crate::solved::Solved;
@@ -30,9 +30,6 @@ pub struct TooManyEmpties {
 
 /// The most empty squares of a board that is solved.
 pub const MOST_EMPTIES: u8 = 30;
-
-// From so many empty squares on a memory for boards of few empty squares pays.
-const FEWEST_EMPTIES_REMEMBERED: u8 = 10;
 
 /// The score and all best moves of a board of at most 30 empty squares, by the caller's thread alone.
 pub fn solve_alone(board: &Board, scoring: Scoring) -> Result<Answer, TooManyEmpties>
@@ -53,19 +50,21 @@ fn solve_without_table(board: Board, scoring: Scoring) -> Answer
     ensures board { result.board ≡ board }
     ensures scoring { result.scoring ≡ scoring }
 {
-    if board.empties() < FEWEST_EMPTIES_REMEMBERED {
-        solve_with(board, &mut NoCells, scoring)
-    } else {
+    if is_remembered(board.empties()) {
         solve_remembering(board, scoring)
+    } else {
+        solve_with(board, &mut NoCells, scoring)
     }
 }
 
-// The same, with a memory for boards of few empty squares, which takes time to make.
+// The same, with a memory for boards of few empty squares, which takes time to make, and 96 KB of the stack: so it
+// stands apart.
+#[inline(never)]
 fn solve_remembering(board: Board, scoring: Scoring) -> Answer
     ensures board { result.board ≡ board }
     ensures scoring { result.scoring ≡ scoring }
 {
-    solve_with(board, &mut MemoCells::new(), scoring)
+    solve_with(board, &mut StackCells::new(), scoring)
 }
 
 /// The answer of a board, by a search over the cells.

@@ -210,7 +210,13 @@ fn comes_to_few_boards(rt: HostRuntime) -> Result<(), Fail> {
     let Some(board) = after_least_moves(14) else {
         panic!(rt; "no line")
     };
-    check_counts(&rt, board, MOST_LOOKED, MOST_RECALLED);
+    check_counts(
+        &rt,
+        Memo::new(rt.alloc())?,
+        board,
+        MOST_LOOKED,
+        MOST_RECALLED,
+    );
     Ok(())
 }
 
@@ -226,7 +232,8 @@ fn ends_where_stable_discs_leave_too_little(rt: HostRuntime) -> Result<(), Fail>
     let Some(board) = sample([0x1fff_442a_1d20_0000, 0x6000_bad4_e21d_7ae0]) else {
         panic!(rt; "no board")
     };
-    let score = check_counts(&rt, board, MOST_LOOKED_WON, MOST_RECALLED_WON);
+    let memo = Memo::new(rt.alloc())?;
+    let score = check_counts(&rt, memo, board, MOST_LOOKED_WON, MOST_RECALLED_WON);
     assert!(rt; score == 42);
     Ok(())
 }
@@ -237,9 +244,15 @@ const MOST_LOOKED_WON: u32 = 2_100;
 const MOST_RECALLED_WON: u32 = 8_800;
 
 /// The score of the board, whose search looks up and recalls no more than so many boards.
-fn check_counts(rt: &impl Abort, board: Board, most_looked: u32, most_recalled: u32) -> i8 {
+fn check_counts(
+    rt: &impl Abort,
+    memo: Memo,
+    board: Board,
+    most_looked: u32,
+    most_recalled: u32,
+) -> i8 {
     let mut cells = Counted {
-        memo: Memo::new(),
+        memo,
         looked: 0,
         recalled: 0,
     };

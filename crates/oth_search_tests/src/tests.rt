@@ -208,7 +208,7 @@ fn check_forgotten(rt: &impl Abort, memo: &Memo, board: &Board, scoring: Scoring
 #[test]
 fn recalls_what_it_remembers(rt: HostRuntime) -> Result<(), Fail> {
     let board = board_of(&rt, A);
-    let mut memo = Memo::new();
+    let mut memo = Memo::new(rt.alloc())?;
     check_forgotten(&rt, &memo, &board, Scoring::Winner);
     memo.remember(&Solved::by_search(&board, -65, 65, &mut NoCells, Scoring::Winner));
     let Some(told) = memo.recall(&board, Scoring::Winner) else {
@@ -255,7 +255,7 @@ fn agrees_with_the_whole_tree_while_it_remembers(rt: HostRuntime) -> Result<(), 
         panic!(rt; "no line")
     };
     let mut cells = Remembering {
-        memo: Memo::new(),
+        memo: Memo::new(rt.alloc())?,
         recalled: 0,
     };
     for scoring in [Scoring::Winner, Scoring::Discs] {

@@ -90,7 +90,7 @@ impl<'t> WorkerCells<'t> {
 #[derive(Drop)]
 struct Memory {
     alloc: Global,
-    memo: Option<Box<Memo>>,
+    memo: Option<Memo>,
     // Whether it is still to be made.
     is_wanted: bool,
 }
@@ -115,13 +115,12 @@ impl Memory {
         }
     }
 
-    // Makes the memory, if there is room for it. It stands apart, since a memory takes 96 KB of the stack before it has
-    // its place, and the search calls itself.
+    // Makes the memory, if there is room for it.
     #[cold]
     #[inline(never)]
     fn make(&mut self) {
         self.is_wanted = false;
-        self.memo = Box::new(self.alloc, Memo::new()).ok();
+        self.memo = Memo::new(self.alloc).ok();
     }
 
     // Remembers these bounds, if there is room for a memory.

@@ -1,4 +1,4 @@
-use Rattle.std.proofs.Common.{[], ◌++◌, ◌∙◌}
+use Rattle.std.proofs.Common.{[], ◌++◌, ◌∙◌, arith}
 use Rattle.std.proofs.KnownBytes.{Consumes-nil, Consumes-trans}
 use Rattle.oth_run.proofs.CutLemmas.{up_to_no_waiting, up_to_none, up_to_waiting}
 use Rattle.oth_run.proofs.engine.Engine.run_ended.Goals as goal
@@ -7,6 +7,7 @@ pub loop-init : goal.loop-init
 loop-init g c = record {
   iterator = (tt, tt);
   done = ([], Consumes-nil _, up_to_none _ _ _ c.requires.line);
+  room = c.longer-buffer.ensures;
   waiting = c.requires.waiting;
   reader = c.requires.reader;
   writer = c.requires.writer;
@@ -19,6 +20,7 @@ loop-preserved g c =
     record {
       iterator = (tt, tt);
       done = (done.0 ++ _, Consumes-trans _ _ _ _ _ done.1 c.in-Ok.ensures.bytes.0, up_to_no_waiting _ _ _ _ _ _ c.in-Ok-take_chunk.ensures.empty (c.in-Ok-take_chunk.ensures.ok _ done.0 so_far));
+      room = omega (arith, c.in-Ok.ensures.bound, c.if-count-eq0.false);
       waiting = c.in-Ok-take_chunk.ensures.empty;
       reader = c.in-Ok.ensures.works ∙ c.loop.invariant.reader;
       writer = c.in-Ok-take_chunk.ensures.works ∙ c.loop.invariant.writer;
