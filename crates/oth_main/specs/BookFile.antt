@@ -3,8 +3,9 @@
 --         its entries is wanting
 --     IsBookOf file book      the bytes are the text of this true book
 --     IsRefused file      the bytes are refused, those of a true book for want of memory alone
+--     KeepsRefusal file reason      the reason that is kept for words is why the bytes are refused
 --     IsVerdict file status failed      the status of `book_verify`, whose writer has failed or not
-use Rattle.std.specs.Prelude.{◌≡◌, ◌⊎◌, ℕ, Bool, true, List}
+use Rattle.std.specs.Prelude.{◌≡◌, ◌⊎◌, ℕ, Bool, true, List, Option, Some}
 use Rattle.oth_book.specs.Book.{IsTrueBook}
 use Rattle.oth_book.specs.Contents.{Contents, IsText}
 use Rattle.oth_book.specs.Fault.{IsBookFault}
@@ -13,6 +14,8 @@ use Rattle.oth_book.specs.declared.fault.BookFault.TheVariants as faults
 use Rattle.oth_book.specs.declared.wrong.Wrong.TheVariants as wrongs
 use Rattle.oth_main.specs.declared.book_file.BookRefusal.{BookRefusal}
 use Rattle.oth_main.specs.declared.book_file.BookRefusal.TheVariants.{Text, Claim}
+use Rattle.oth_main.specs.declared.reasons.Reason.{Reason}
+use Rattle.oth_main.specs.declared.reasons.Reason.TheVariants as reasons
 
 abbrev pub IsRefusal : List ℕ → BookRefusal → Type 0
 IsRefusal file (Text fault) = IsBookFault file fault
@@ -32,6 +35,11 @@ IsForMemory (Claim wrong) = wrong ≡ wrongs.Memory
 -- for a reason, which for the text of a true book is want of memory
 abbrev pub IsRefused : List ℕ → Type 0
 IsRefused file = (why : BookRefusal) × IsRefusal file why × (IsBook file → IsForMemory why)
+
+pub record KeepsRefusal (file : List ℕ) (reason : Option Reason) : Type 0 where
+  pub why : BookRefusal
+  pub kept : reason ≡ Some (reasons.Book why)
+  pub holds : IsRefusal file why
 
 -- 0 of a true book, 1 where the writer has failed, 3 where the file is refused
 abbrev pub IsVerdict : List ℕ → ℕ → Bool → Type 0

@@ -13,7 +13,7 @@ ghost use Rattle.oth_book.specs.declared.add.AddError.{AddError as AnyRefusal};
 ghost use Rattle.oth_main.specs.Addition.{AddsBytes, AddsLines, AddsTo, AnswersLine, DeviceFails, FindsNoRoom};
 ghost use Rattle.oth_main.specs.Addition.{HasAdded, HasNoPlace, IsAdding, IsAnswered, IsFullFor, IsFullWithin};
 ghost use Rattle.oth_main.specs.Addition.{IsRefusedLine, IsStatus, OfInput, StopsBy, StopsFull, StopsReading};
-ghost use Rattle.oth_main.specs.BookFile.{IsRefused, IsVerdict};
+ghost use Rattle.oth_main.specs.BookFile.{IsRefused, IsVerdict, KeepsRefusal};
 ghost use Rattle.oth_main.specs.declared.book_commands.Stop.TheVariants.{Run};
 ghost use Rattle.oth_main.specs.declared.reasons.Reason.TheVariants.{Run as RunReason};
 ghost use Rattle.oth_run.specs.Report.{lines_of};
@@ -61,6 +61,7 @@ pub fn book_verify<T: Threads + Sync, W: Sink, E: Sink>(
     errors: &mut Errors<E>,
 ) -> u8
     ensures verdict { IsVerdict file.now result (W.failed writer.new) }
+    ensures reason { result ≡ 3 → KeepsRefusal file.now errors.new.reason }
     ensures works { result ≡ 0 → (W.failed writer.new ≡ false) × (W.flushed writer.new ≡ true) }
 {
     match open_book(rt, alloc, file, processors(rt), DEFAULT_CELLS) {
