@@ -14,6 +14,7 @@ import sys
 import c_library
 import differential
 import flow
+import limits
 import recipes
 import refusals
 import seen
@@ -27,6 +28,7 @@ def steps(crates, parts):
     every = {
         "statuses": lambda: statuses.steps(program),
         "flow": lambda: flow.steps(program),
+        "limits": lambda: limits.steps(program),
         "seen": lambda: seen.steps(program),
         "terminal": lambda: terminal.steps(program),
         "differential": lambda: differential.steps(program),
