@@ -5,7 +5,11 @@ import pty
 import subprocess
 import tempfile
 
-from statuses import EMPTY_BOOK, FULL_BOARD, PATIENCE, broken_pipe, entry
+import running
+from running import PATIENCE
+from statuses import FULL_BOARD, broken_pipe, entry
+
+EMPTY_BOOK = running.EMPTY_BOOK.decode()
 
 # The most that a terminal is asked for: more than any run says.
 MOST = 65_536
