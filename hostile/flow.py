@@ -25,7 +25,7 @@ PATIENCE = 120
 TICK = 0.005
 # Of the whole time.
 FIRST = 1 / 4
-SILENCE = 1 / 3
+SILENCE = 1 / 2
 # Of the time until a run is ended.
 STANDSTILL = 1 / 2
 # A busy machine may stop a run for a while, but hardly each one.

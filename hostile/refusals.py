@@ -111,6 +111,14 @@ def steps(crates):
                 yield f"{crate} has tests of refusals", "there are none"
             if crate == "oth_pool_tests":
                 yield "64 cells take more requests than none, by more than the table alone takes", table(counts)
+            if crate == "oth_main_tests":
+                yield "a run over 64 cells takes more requests than one without", run_cells(counts)
+
+
+def run_cells(counts):
+    """What is wrong with the numbers of requests of a run, if anything."""
+    over, without = counts["a_run_over_64_cells"], counts["a_run_without_cells"]
+    return None if over > without else f"{over} requests over 64 cells, {without} without"
 
 
 def table(counts):

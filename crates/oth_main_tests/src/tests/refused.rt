@@ -5,16 +5,37 @@ use super::books::{BOOK_OF_A, BOOK_OF_TWO, EMPTY_BOOK, TWO_LINES as NEW_LINES, a
 use super::devices::{SOLVED_TWO, TWO_LINES};
 use super::reasons::told;
 use super::{NO_FAILURE, by_two_workers, walk};
-use oth_main::{Errors, Reason, RunFault, book_verify};
+use oth_main::{Errors, Reason, RunFault, Settings, book_verify};
 use oth_rules::Scoring;
 use oth_text::fakes::ByteSink;
+use std::process::Abort;
+use std::sync::Wait;
+use std::thread::Threads;
+
+fn check_run<R: Wait + Threads + Sync + AllocGlobal + Abort>(rt: &R, cells: u32) {
+    let asked = Settings {
+        cells,
+        ..by_two_workers(Scoring::Winner)
+    };
+    let done = walk(rt, &asked, TWO_LINES, NO_FAILURE, NO_FAILURE);
+    assert!(rt; done.result == Ok(()));
+    assert!(rt; done.writer.taken() == SOLVED_TWO);
+}
 
 #[test]
 fn a_run_writes_the_same_report(rt: HostRuntime) {
-    let asked = by_two_workers(Scoring::Winner);
-    let done = walk(&rt, &asked, TWO_LINES, NO_FAILURE, NO_FAILURE);
-    assert!(rt; done.result == Ok(()));
-    assert!(rt; done.writer.taken() == SOLVED_TWO);
+    check_run(&rt, 1);
+}
+
+// `hostile/refusals.py` compares how many requests this test and the next one make.
+#[test]
+fn a_run_without_cells(rt: HostRuntime) {
+    check_run(&rt, 0);
+}
+
+#[test]
+fn a_run_over_64_cells(rt: HostRuntime) {
+    check_run(&rt, 64);
 }
 
 // What is told where no book can be made.
