@@ -4,8 +4,8 @@
     hostile/run.py [CRATES] [WORD ..]
 
 CRATES is the folder of the crates, `crates` if not given. Each step is a line, `ok` or `FAILED` and its name, and after a failure what is
-wrong. With words only the steps are run whose part is one of them: `statuses`, `flow`, `limits`, `seen`, `terminal`, `differential`,
-`recipes`, `refusals`, `c_library`. The last line is `N passed, M failed`; the exit status is 1 where a step failed.
+wrong. With words only the steps are run whose part is one of them: `statuses`, `flow`, `limits`, `seen`, `terminal`, `progress`,
+`differential`, `recipes`, `refusals`, `c_library`. The last line is `N passed, M failed`; the exit status is 1 where a step failed.
 """
 import os
 import subprocess
@@ -15,6 +15,7 @@ import c_library
 import differential
 import flow
 import limits
+import progress
 import recipes
 import refusals
 import seen
@@ -31,6 +32,7 @@ def steps(crates, parts):
         "limits": lambda: limits.steps(program),
         "seen": lambda: seen.steps(program),
         "terminal": lambda: terminal.steps(program),
+        "progress": lambda: progress.steps(program),
         "differential": lambda: differential.steps(program),
         "recipes": lambda: recipes.steps(program),
         "refusals": lambda: refusals.steps(crates),

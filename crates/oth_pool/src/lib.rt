@@ -2,6 +2,7 @@
 //! answer.
 #![tactic(auto)]
 
+mod announcing;
 mod at_once;
 mod book_lookup;
 mod promise;

@@ -69,7 +69,7 @@ pub fn run_workers<'t, R: Threads + Sync, G: Gate>(
         frontier,
         root,
         squares: squares.as_slice(),
-        plan: Plan::of(floor.scoring(), root.empties(), workers, table.is_some()),
+        plan: Plan::of(floor.scoring(), root.empties(), table.is_some()),
     };
     let means = Means {
         rt,
@@ -208,7 +208,7 @@ fn walks_of<'w, 't>(
         let Ok(own) = shared.floor.seat(alloc, seat) else {
             return None;
         };
-        let height = Height::shared(shared.floor, own);
+        let height = Height::of(shared.floor, own);
         let hints = seat_of(shared.hints);
         let cells = WorkerCells::of(alloc, shared.plan, table);
         walks.push_reserved(Walk::of(alloc, shared.plan, cells, height, hints));

@@ -1,24 +1,26 @@
 //! The whole search of a board.
-ghost use Rattle.std.specs.Prelude.{◌≡◌, ◌<◌, ◌≤◌, ◌≤ℤ◌, true, IfOk, IfErr, length};
+ghost use Rattle.std.specs.Prelude.{◌≡◌, ◌<◌, ◌≤◌, ◌≤ℤ◌, true, IfOk, IfErr, IfSome, length};
 ghost use Rattle.oth_rules.specs.Position.{empty_count};
 ghost use Rattle.oth_rules.specs.Move.{can_move};
 ghost use Rattle.oth_pool.specs.Solving.{IsSolvable, Refuses, Accepts};
 ghost use Rattle.oth_search.specs.Full.{IsFullMinimax};
 ghost use Rattle.oth_pieces.specs.Hands.{IsCrew};
+ghost use Rattle.oth_pieces.specs.History.{floor_after};
 ghost use Rattle.oth_pieces.specs.Watch.{IsSeatOf};
 
+use crate::announcing::Announcer;
 use crate::book_lookup::{answer_in, bounds_in};
 use crate::run::{Gathered, Means, room_for, run};
 use oth_book::Book;
-use oth_pieces::{Floor, Frontier, is_crew};
-use oth_rules::{Board, Scoring, Square};
+use oth_pieces::{Floor, FloorSeat, Frontier, is_crew};
+use oth_rules::{Board, Scoring};
 use oth_search::{
-    Answer, Cells, MOST_EMPTIES, Solved, before_pass, ended, known_below, known_of, order,
+    Answer, Cells, MOST_EMPTIES, Solved, Unobserved, before_pass, ended, known_below, order,
     solve_moves,
 };
 use oth_table::{SharedTable, is_size};
 use oth_walk::{
-    Gate, Height, Plan, RootMove, Scene, TableAccess, Walk, WorkerCells, is_settled, search_item,
+    Gate, Height, Plan, Scene, TableAccess, Walk, WorkerCells, is_settled, search_item,
 };
 use std::alloc::Global;
 use std::thread::Threads;
@@ -212,49 +214,80 @@ fn answer_by_items<'t, R: Threads + Sync, G: Gate>(
     ensures scoring { result.scoring ≡ by_book.now.scoring }
 {
     let squares = order(&by_book.board);
-    let plan = Plan::of(
-        by_book.scoring,
-        by_book.board.empties(),
-        means.workers,
-        access.is_some(),
-    );
+    let plan = Plan::of(by_book.scoring, by_book.board.empties(), access.is_some());
     let scene = Scene {
         frontier,
         root: by_book.board,
         squares: squares.as_slice(),
         plan,
     };
-    let (children, mut cells) = search_items(means, &scene, by_book, access);
-    let root = root_bounds(by_book, children.as_slice());
-    solve_moves(root, children.as_slice(), &mut cells)
+    if means.workers > 1 {
+        if let Some(answer) = answer_together(means, &scene, by_book, access) {
+            return answer;
+        }
+    }
+    answer_alone(means, &scene, by_book, access)
 }
 
-// What is found of the boards after the root's moves, by the workers, and by the caller where they left an item, and
-// what the caller searched over.
-fn search_items<'t, R: Threads + Sync, G: Gate>(
+// The answer by the caller alone, where it is the only worker or there is no memory for a floor.
+fn answer_alone<'t, R: Threads + Sync, G: Gate>(
     means: &Means<R, G>,
     scene: &Scene,
     by_book: &Solved,
     access: &mut Option<TableAccess<'t>>,
-) -> (Vec<Solved>, WorkerCells<'t>)
-    requires { IsCrew means.now.workers }
+) -> Answer
+    requires some { can_move by_book.now.board ≡ true }
+    ensures board { result.board ≡ by_book.now.board }
+    ensures scoring { result.scoring ≡ by_book.now.scoring }
 {
-    if means.workers == 1 {
-        return search_items_alone(means, scene, by_book, access);
-    }
+    let mut cells = WorkerCells::of(means.alloc, scene.plan, access);
+    let mut announcer = Announcer::of(scene, means.gate);
+    let answer = solve_moves(*by_book, &[], &mut cells, &mut announcer);
+    announcer.finish();
+    answer
+}
+
+// The answer by what workers find of the items, and by the caller's search of what they left open; none where there is
+// no memory for a floor.
+fn answer_together<'t, R: Threads + Sync, G: Gate>(
+    means: &Means<R, G>,
+    scene: &Scene,
+    by_book: &Solved,
+    access: &mut Option<TableAccess<'t>>,
+) -> Option<Answer>
+    requires some { can_move by_book.now.board ≡ true }
+    requires crew { IsCrew means.now.workers }
+    ensures board { IfSome result (λ a. a.board ≡ by_book.now.board) }
+    ensures scoring { IfSome result (λ a. a.scoring ≡ by_book.now.scoring) }
+{
     let alloc = means.alloc;
-    let Ok((floor, mut seat)) = Floor::new(alloc, &by_book.board, by_book.scoring) else {
-        return search_items_alone(means, scene, by_book, access);
-    };
-    let _ = floor.raise(&mut seat, by_book);
+    let (floor, mut seat) = raised_floor(alloc, by_book)?;
     let (gathered, found) = run(means, scene, &floor, &mut seat, access);
     let cells = WorkerCells::of(alloc, scene.plan, access);
-    let plan = Plan::alone(by_book.scoring, by_book.board.empties());
-    let mut walk = Walk::of(alloc, plan, cells, Height::shared(&floor, seat), None);
+    let mut walk = Walk::of(alloc, scene.plan, cells, Height::of(&floor, seat), None);
     walk.found = found;
     let replies = replies_of(scene, &gathered, means.gate, &mut walk);
     let children = children_of(scene, replies.as_slice(), &mut walk);
-    (children, walk.into_cells())
+    let root = by_book.joined(&walk.root());
+    let mut cells = walk.into_cells();
+    Some(solve_moves(
+        root,
+        children.as_slice(),
+        &mut cells,
+        &mut Unobserved,
+    ))
+}
+
+// A floor of the board that is as high as what the book tells of it, and its first seat; none where there is no memory.
+fn raised_floor(alloc: Global, by_book: &Solved) -> Option<(Floor, FloorSeat)>
+    ensures home { IfSome result (λ made. IsSeatOf made.0 made.1) }
+    ensures root { IfSome result (λ made. made.0.root.board ≡ by_book.now.board) }
+    ensures scoring { IfSome result (λ made. made.0.root.scoring ≡ by_book.now.scoring) }
+    ensures raised { IfSome result (λ made. by_book.now.interval.lower ≤ℤ floor_after made.1.seen) }
+{
+    let (floor, mut seat) = Floor::new(alloc, &by_book.board, by_book.scoring).ok()?;
+    floor.raise(&mut seat, by_book).ok()?;
+    Some((floor, seat))
 }
 
 // What the workers found of the items, and the caller of those that none took, as far as there is room for it.
@@ -274,38 +307,6 @@ fn replies_of<G: Gate, C: Cells>(
         }
     }
     replies
-}
-
-// What `search_items` finds by the caller alone, where it is the only worker or there is no memory for a floor. What it
-// finds of the boards after the moves tells all.
-fn search_items_alone<'t, R: Threads + Sync, G: Gate>(
-    means: &Means<R, G>,
-    scene: &Scene,
-    by_book: &Solved,
-    access: &mut Option<TableAccess<'t>>,
-) -> (Vec<Solved>, WorkerCells<'t>) {
-    let cells = WorkerCells::of(means.alloc, scene.plan, access);
-    let plan = Plan::alone(by_book.scoring, by_book.board.empties());
-    let mut walk = Walk::of(means.alloc, plan, cells, Height::Own(*by_book), None);
-    for number in 0..scene.frontier.len() {
-        settle_item(scene, number, means.gate, &mut walk);
-    }
-    let children = children_of(scene, &[], &mut walk);
-    (children, walk.into_cells())
-}
-
-// Settles the item's move of the root, of which the gate hears.
-fn settle_item<G: Gate, C: Cells>(scene: &Scene, number: u32, gate: &G, walk: &mut Walk<C>) {
-    let Some(item) = scene.frontier.entry(number) else {
-        return;
-    };
-    gate.before(number);
-    if !walk.is_settled(item.square) {
-        if let Some(root_move) = RootMove::of(scene.root, item.square) {
-            root_move.settle(walk);
-        }
-    }
-    gate.after(number);
 }
 
 // What is known of the boards after the root's moves, by what workers found of them, and by the replies where that
@@ -337,40 +338,4 @@ fn joined_bounds(board: Board, found: &[Solved], scoring: Scoring) -> Solved
         joined = joined.joined(solved);
     }
     joined
-}
-
-// The bounds of the root with the greatest lower one: those by the book, or those by what is known of the board after a
-// move.
-fn root_bounds(by_book: &Solved, children: &[Solved]) -> Solved
-    ensures board { result.board ≡ by_book.now.board }
-    ensures scoring { result.scoring ≡ by_book.now.scoring }
-    ensures lower { by_book.now.interval.lower ≤ℤ result.interval.lower }
-{
-    let mut best = *by_book;
-    for number in 0..64 {
-        let square = Square::numbered(number);
-        if let Some(child) = by_book.board.play(square) {
-            best = with_greater_lower_bound(
-                best,
-                &by_book.board,
-                square,
-                known_of(child, children, by_book.scoring),
-            );
-        }
-    }
-    best
-}
-
-// The bounds with the greater lower one: those of the root that are known, or those by a move.
-fn with_greater_lower_bound(best: Solved, root: &Board, square: Square, child: Solved) -> Solved
-    requires root { best.board ≡ root.now }
-    requires scoring { best.scoring ≡ child.scoring }
-    ensures board { result.board ≡ root.now }
-    ensures scoring { result.scoring ≡ best.scoring }
-    ensures lower { best.interval.lower ≤ℤ result.interval.lower }
-{
-    match Solved::lift(root, square, &child) {
-        Ok(bound) if bound.interval.lower > best.interval.lower => bound,
-        _ => best,
-    }
 }

@@ -55,7 +55,7 @@ fn search_all<G: Gate, C: Cells>(
             break;
         }
     }
-    settle_all(scene, walk);
+    settle_all(scene, gate, walk);
 }
 
 // Draws a number and searches its item. False where there is none.

@@ -83,7 +83,7 @@ fn workers_search_over_the_table(rt: HostRuntime) -> Result<(), Fail> {
         &Open,
     );
     assert!(rt; found.drawn.left.is_empty() && found.replies.len() == 2);
-    let mut cells = WorkerCells::of(rt.alloc(), Plan::alone(Scoring::Winner, 0), &mut access);
+    let mut cells = WorkerCells::of(rt.alloc(), Plan::of(Scoring::Winner, 0, false), &mut access);
     let mut whole = false;
     for number in [1, 7] {
         if let Some(child) = a.play(Square::numbered(number)) {

@@ -90,6 +90,7 @@ impl<'s, T: Wait + Threads + Sync, G: Gate> Solver<'s, T, G> {
         if empties > MOST_EMPTIES {
             return Err(TooManyEmpties { empties });
         }
+        self.gate.awaits(board);
         match answer_by_jobs(self.rt, jobs, board, settings.get().scoring) {
             Some(answer) => Ok(answer),
             None => self.answer_of(board, settings),

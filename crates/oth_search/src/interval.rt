@@ -56,7 +56,7 @@ impl Interval {
     }
 
     /// The same bounds as the opponent sees them.
-    pub(crate) fn turned(self) -> Interval
+    pub fn turned(self) -> Interval
         ensures lower { result.lower ≡ neg_ℤ self.upper }
         ensures upper { result.upper ≡ neg_ℤ self.lower }
     {

@@ -6,7 +6,8 @@ use crate::asking::wider;
 use crate::cells::Cells;
 use crate::combining::known_of;
 use crate::guess::guess;
-use crate::interval::lesser;
+use crate::interval::{Interval, lesser};
+use crate::observer::Observer;
 use crate::ordering::order;
 use crate::solved::Solved;
 use arrayvec::ArrayVec;
@@ -19,17 +20,21 @@ const FEWEST_EMPTIES_GUESSED: u8 = 12;
 const ROUNDS: u8 = 6;
 
 /// The boards after the root's moves, each with bounds of its value. One with the best score is searched to its value,
-/// and each other so far that it is exact or worse. Where `known` tells as much of a board, it is not searched.
-pub fn settle_moves<C: Cells>(
+/// and each other so far that it is exact or worse. Where `known` tells as much of a board, it is not searched. The
+/// observer hears of each search of one of them; it hears nothing of a guess of the score, which comes first where many
+/// squares are empty, and settles nothing.
+pub fn settle_moves<C: Cells, O: Observer>(
     root: &Solved,
     known: &[Solved],
     cells: &mut C,
+    observer: &mut O,
 ) -> ArrayVec<Solved, 64>
     ensures fixed { C.fixed cells.new ≡ C.fixed cells.old }
 {
     let mut replies = replies_of(root, known);
-    let empties = root.board.empties();
-    settle(replies.as_mut_slice(), -root.interval.lower, empties, cells);
+    let limit = -root.interval.lower;
+    let start = start(replies.as_mut_slice(), limit, root.board.empties(), cells);
+    settle(replies.as_mut_slice(), start, limit, cells, observer);
     replies
 }
 
@@ -58,24 +63,53 @@ pub fn guessed_score<C: Cells>(root: &Board, cells: &mut C, scoring: Scoring) ->
     -guess(replies.as_mut_slice(), cells)
 }
 
-// Narrows what is known of the replies, one of which is known to have at most the value `limit`.
-fn settle<C: Cells>(replies: &mut [Solved], limit: i8, empties: u8, cells: &mut C)
+// Narrows what is known of the replies, one of which is known to have at most the value `limit`. They are first asked
+// for `start`.
+fn settle<C: Cells, O: Observer>(
+    replies: &mut [Solved],
+    start: i8,
+    limit: i8,
+    cells: &mut C,
+    observer: &mut O,
+)
     requires few { length replies.old ≤ 64 }
+    requires start { IsScore start }
     requires limit { IsScore limit }
     ensures fixed { C.fixed cells.new ≡ C.fixed cells.old }
 {
-    let start = start(replies, limit, empties, cells);
-    let mut leader = leader(replies, start, limit, cells);
+    let mut leader = leader(replies, start, limit, cells, observer);
     for _ in 0..replies.len() {
         let Some(place) = leader else {
             return;
         };
-        let best = replies[place];
-        let exact = best.exact(cells);
-        let value = exact.interval.upper;
-        replies[place] = exact;
-        leader = better(replies, value, cells);
+        let value = exact_at(replies, place, cells, observer);
+        leader = better(replies, value, cells, observer);
     }
+}
+
+// The value of the reply at this place.
+fn exact_at<C: Cells, O: Observer>(
+    replies: &mut [Solved],
+    place: usize,
+    cells: &mut C,
+    observer: &mut O,
+) -> i8
+    requires within { place < length replies.old }
+    ensures score { IsScore result }
+    ensures length { length replies.new ≡ length replies.old }
+    ensures fixed { C.fixed cells.new ≡ C.fixed cells.old }
+{
+    let known = replies[place];
+    let Interval { lower, upper } = known.interval;
+    if lower == upper {
+        return upper;
+    }
+    observer.before(&known.board);
+    let exact = known.exact(cells);
+    let value = exact.interval.upper;
+    replies[place] = exact;
+    observer.after(&known.board, &*replies);
+    value
 }
 
 // The value that a reply is first asked for: what is known to be reached, or else a guess.
@@ -99,7 +133,13 @@ fn start<C: Cells>(replies: &mut [Solved], limit: i8, empties: u8, cells: &mut C
 }
 
 // The place of a reply with at most the least value that is found to be reached, from `start` up to `limit`.
-fn leader<C: Cells>(replies: &mut [Solved], start: i8, limit: i8, cells: &mut C) -> Option<usize>
+fn leader<C: Cells, O: Observer>(
+    replies: &mut [Solved],
+    start: i8,
+    limit: i8,
+    cells: &mut C,
+    observer: &mut O,
+) -> Option<usize>
     requires start { IsScore start }
     requires limit { IsScore limit }
     ensures within { IfSome result (λ place. place < length replies.new) }
@@ -108,14 +148,14 @@ fn leader<C: Cells>(replies: &mut [Solved], start: i8, limit: i8, cells: &mut C)
     let mut most = start;
     let mut step = 1;
     for _ in 0..ROUNDS {
-        let found = reaching(replies, most, cells);
+        let found = reaching(replies, most, cells, observer);
         if found.is_some() {
             return found;
         }
         most = lowered(least_lower(replies), step - 1, limit);
         step = wider(step);
     }
-    reaching(replies, limit, cells)
+    reaching(replies, limit, cells, observer)
 }
 
 // A start so much above the least lower bound, and at most the limit.
@@ -142,7 +182,12 @@ fn least_lower(replies: &[Solved]) -> i8
 }
 
 // The place of a reply whose value is at most `most`: one that is known, or else the first that is found.
-fn reaching<C: Cells>(replies: &mut [Solved], most: i8, cells: &mut C) -> Option<usize>
+fn reaching<C: Cells, O: Observer>(
+    replies: &mut [Solved],
+    most: i8,
+    cells: &mut C,
+    observer: &mut O,
+) -> Option<usize>
     requires { IsScore most }
     ensures within { IfSome result (λ place. place < length replies.new) }
     ensures fixed { C.fixed cells.new ≡ C.fixed cells.old }
@@ -154,9 +199,14 @@ fn reaching<C: Cells>(replies: &mut [Solved], most: i8, cells: &mut C) -> Option
     }
     for place in 0..replies.len() {
         let known = replies[place];
+        if known.interval.lower > most {
+            continue;
+        }
+        observer.before(&known.board);
         let reply = known.decided_at(most, cells);
         let upper = reply.interval.upper;
         replies[place] = reply;
+        observer.after(&known.board, &*replies);
         if upper <= most {
             return Some(place);
         }
@@ -165,17 +215,24 @@ fn reaching<C: Cells>(replies: &mut [Solved], most: i8, cells: &mut C) -> Option
 }
 
 // The place of a reply whose value is below `most`. Where there is none, each is exact or above `most`.
-fn better<C: Cells>(replies: &mut [Solved], most: i8, cells: &mut C) -> Option<usize>
+fn better<C: Cells, O: Observer>(
+    replies: &mut [Solved],
+    most: i8,
+    cells: &mut C,
+    observer: &mut O,
+) -> Option<usize>
     requires { IsScore most }
     ensures within { IfSome result (λ place. place < length replies.new) }
     ensures fixed { C.fixed cells.new ≡ C.fixed cells.old }
 {
     for place in 0..replies.len() {
         let known = replies[place];
-        let reply = known.against(most, cells);
-        let upper = reply.interval.upper;
-        replies[place] = reply;
-        if upper < most {
+        if !known.interval.decides(most - 1, most + 1) {
+            observer.before(&known.board);
+            replies[place] = known.against(most, cells);
+            observer.after(&known.board, &*replies);
+        }
+        if replies[place].interval.upper < most {
             return Some(place);
         }
     }

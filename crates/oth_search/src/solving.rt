@@ -14,6 +14,7 @@ use crate::combining::known_of;
 use crate::interval::Interval;
 use crate::kind::Kind;
 use crate::memo::{StackCells, is_remembered};
+use crate::observer::{Observer, Unobserved};
 use crate::ordering::order;
 use crate::root::settle_moves;
 use crate::solved::Solved;
@@ -77,10 +78,21 @@ pub fn solve_with<C: Cells>(board: Board, cells: &mut C, scoring: Scoring) -> An
         return ended(board, scoring);
     }
     if board.moves() == 0 {
-        let passed = solve_moves(Solved::unknown(board.pass(), scoring), &[], cells);
+        let passed = solve_unobserved(board.pass(), cells, scoring);
         return before_pass(board, passed);
     }
-    solve_moves(Solved::unknown(board, scoring), &[], cells)
+    solve_unobserved(board, cells, scoring)
+}
+
+// The answer of a board whose mover has a move, by a search of which nobody hears.
+fn solve_unobserved<C: Cells>(board: Board, cells: &mut C, scoring: Scoring) -> Answer
+    requires { can_move board ≡ true }
+    ensures board { result.board ≡ board }
+    ensures scoring { result.scoring ≡ scoring }
+    ensures fixed { C.fixed cells.new ≡ C.fixed cells.old }
+{
+    let root = Solved::unknown(board, scoring);
+    solve_moves(root, &[], cells, &mut Unobserved)
 }
 
 /// The answer of a board that is over.
@@ -116,14 +128,20 @@ pub fn before_pass(board: Board, passed: Answer) -> Answer
 }
 
 /// The answer of a root whose mover has a move. `known` may tell of the boards after the root's moves: such a board is
-/// searched only where that leaves open whether its move is exact or worse than the score.
-pub fn solve_moves<C: Cells>(root: Solved, known: &[Solved], cells: &mut C) -> Answer
+/// searched only where that leaves open whether its move is exact or worse than the score. The observer hears of each
+/// search of such a board.
+pub fn solve_moves<C: Cells, O: Observer>(
+    root: Solved,
+    known: &[Solved],
+    cells: &mut C,
+    observer: &mut O,
+) -> Answer
     requires { can_move root.board ≡ true }
     ensures board { result.board ≡ root.board }
     ensures scoring { result.scoring ≡ root.scoring }
     ensures fixed { C.fixed cells.new ≡ C.fixed cells.old }
 {
-    let replies = settle_moves(&root, known, cells);
+    let replies = settle_moves(&root, known, cells, observer);
     let closer = raised(root, replies.as_slice());
     best_moves(closer, replies.as_slice(), cells)
 }

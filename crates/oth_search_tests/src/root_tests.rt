@@ -3,7 +3,7 @@ ghost use Rattle.std.specs.Prelude.{◌≡◌};
 
 use crate::tests::board_of;
 use oth_rules::{Board, Scoring};
-use oth_search::{Cells, Entry, NoCells, Solved, settle_moves, solve_alone};
+use oth_search::{Cells, Entry, NoCells, Solved, Unobserved, settle_moves, solve_alone};
 use std::test::Fail;
 
 /// Keeps nothing, and counts the calls.
@@ -29,10 +29,10 @@ impl Cells for Counted {
 fn searches_no_reply_that_is_settled(rt: HostRuntime) -> Result<(), Fail> {
     let board = board_of(&rt, [0xd470_0405_47e5_dd00, 0x0205_7a18_b81a_22fc]);
     let root = Solved::unknown(board, Scoring::Winner);
-    let replies = settle_moves(&root, &[], &mut NoCells);
+    let replies = settle_moves(&root, &[], &mut NoCells, &mut Unobserved);
     assert!(rt; replies.as_slice().len() == board.moves().count_ones() as usize);
     let mut cells = Counted { looks: 0 };
-    let again = settle_moves(&root, replies.as_slice(), &mut cells);
+    let again = settle_moves(&root, replies.as_slice(), &mut cells, &mut Unobserved);
     assert!(rt; cells.looks == 0);
     let mut least = 64;
     for reply in again.as_slice() {

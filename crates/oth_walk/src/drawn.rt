@@ -35,13 +35,27 @@ pub fn search_item<G: Gate, C: Cells>(
     ensures scoring { result.scoring ≡ scene.now.plan.scoring }
 {
     gate.before(number);
-    let found = search_drawn(scene, item, walk);
+    let found = search_drawn(scene, item, gate, walk);
+    tell(scene, gate, walk);
     gate.after(number);
     Solved::unknown(item.board, scene.plan.scoring).joined(&found)
 }
 
+// Tells the gate how far the search is, if it follows that.
+fn tell<G: Gate, C: Cells>(scene: &Scene, gate: &G, walk: &mut Walk<C>) {
+    if gate.follows() {
+        let root = walk.known_of_root(scene.squares);
+        gate.goes_on(&root, walk.settled());
+    }
+}
+
 // What a worker finds of a drawn item.
-fn search_drawn<C: Cells>(scene: &Scene, item: &Item, walk: &mut Walk<C>) -> Solved {
+fn search_drawn<G: Gate, C: Cells>(
+    scene: &Scene,
+    item: &Item,
+    gate: &G,
+    walk: &mut Walk<C>,
+) -> Solved {
     let Some(root_move) = RootMove::of(scene.root, item.square) else {
         return walk.look_up(&item.board);
     };
@@ -50,7 +64,9 @@ fn search_drawn<C: Cells>(scene: &Scene, item: &Item, walk: &mut Walk<C>) -> Sol
         return walk.look_up(&item.board);
     }
     lead(scene, walk);
+    tell(scene, gate, walk);
     settle_before(scene, item.square, walk);
+    tell(scene, gate, walk);
     if walk.is_settled(item.square) {
         return walk.look_up(&item.board);
     }
@@ -106,13 +122,14 @@ fn search_eldest<C: Cells>(root_move: &RootMove, board: &Board, walk: &mut Walk<
 }
 
 /// Searches what is open of the root's moves, when no item is left.
-pub fn settle_all<C: Cells>(scene: &Scene, walk: &mut Walk<C>) {
+pub fn settle_all<G: Gate, C: Cells>(scene: &Scene, gate: &G, walk: &mut Walk<C>) {
     let rounds = if walk.plan.shares { ROUNDS } else { 1 };
     let squares = moves_of(scene, walk);
     for round in 0..rounds {
         for square in squares.as_slice() {
             if let Some(root_move) = RootMove::of(scene.root, *square) {
                 settle_in_round(&root_move, round, walk);
+                tell(scene, gate, walk);
             }
         }
     }

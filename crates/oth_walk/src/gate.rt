@@ -1,13 +1,33 @@
-//! The gate: who hears of the items of a search.
+//! The gate: who hears of the items of a search, and of how far it is.
 
-/// Hears of the search of each item of the root's frontier, whoever searches it: `before` and `after`, each once. A
-/// search that opens an item again isn't announced.
+use oth_rules::Board;
+use oth_search::Solved;
+
+/// Hears of the search of each item of the root's frontier, whoever searches it: `before` and `after`, each once. The
+/// first search of the item lies between the two, or that of its whole move of the root; where true bounds tell enough
+/// of the move when the item is drawn, the item is only looked up. A search that opens an item again isn't announced,
+/// nor is a guess of the root's score, which settles nothing.
+///
+/// No answer depends on what a gate does. The other calls do nothing by default.
 pub trait Gate: Sync {
     /// The search of the item of this number is about to begin, in the calling thread.
     fn before(&self, task: u32);
 
     /// The search of the item of this number has ended, in the same thread.
     fn after(&self, task: u32);
+
+    /// The answer of this board is the next one that is wanted. A run says so, in its own thread, of each board of a
+    /// line before its answer is found or waited for; `solve` does not.
+    fn awaits(&self, _board: &Board) {}
+
+    /// Whether `goes_on` is to be called, which takes a little time.
+    fn follows(&self) -> bool {
+        false
+    }
+
+    /// So much is known of the root under search by now, and so many of its moves need no further search. Searches of
+    /// several boards may go on at once.
+    fn goes_on(&self, _root: &Solved, _settled: u64) {}
 }
 
 /// A gate that does nothing.

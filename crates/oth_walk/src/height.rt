@@ -1,32 +1,25 @@
 //! The floor as one worker sees it.
-ghost use Rattle.std.specs.Prelude.{pos, negsuc, ◌≤ℤ◌};
+ghost use Rattle.std.specs.Prelude.{◌≡◌, pos, negsuc, ◌≤ℤ◌};
 ghost use Rattle.oth_pieces.specs.Watch.{IsSeatOf};
 
 use oth_pieces::{Floor, FloorSeat};
 use oth_search::{Interval, Solved};
 
-/// A floor that workers share, with a seat of it.
+/// The greatest score that the root is known to reach, which workers read and raise: their floor, with one worker's
+/// seat of it.
 #[derive(Drop)]
-pub struct SharedHeight<'f> {
+pub struct Height<'f> {
     floor: &'f Floor,
     seat: FloorSeat,
     ghost sits: { IsSeatOf floor.now seat },
 }
 
-/// The greatest score that the root is known to reach, which a worker reads and raises: the floor that workers share,
-/// or bounds of its own where it is the only worker or there is no memory for a floor.
-#[derive(Drop)]
-pub enum Height<'f> {
-    Shared(SharedHeight<'f>),
-    Own(Solved),
-}
-
 impl<'f> Height<'f> {
-    /// The shared floor by this seat of it.
-    pub fn shared(floor: &'f Floor, seat: FloorSeat) -> Height<'f>
+    /// The floor by this seat of it.
+    pub fn of(floor: &'f Floor, seat: FloorSeat) -> Height<'f>
         requires { IsSeatOf floor.now seat }
     {
-        Height::Shared(SharedHeight { floor, seat })
+        Height { floor, seat }
     }
 
     /// What the root reaches by all that is known.
@@ -34,28 +27,17 @@ impl<'f> Height<'f> {
         ensures low { negsuc 63 ≤ℤ result }
         ensures high { result ≤ℤ pos 64 }
     {
-        match self {
-            Height::Shared(shared) => shared.floor.read(&mut shared.seat),
-            Height::Own(root) => root.interval.lower,
-        }
+        self.floor.read(&mut self.seat)
     }
 
-    /// What is known of the root.
+    /// What the floor tells of the root.
     pub(crate) fn root(&mut self) -> Solved {
-        match self {
-            Height::Shared(shared) => above(shared.floor, &mut shared.seat),
-            Height::Own(root) => *root,
-        }
+        above(self.floor, &mut self.seat)
     }
 
     /// Tells bounds of the root.
     pub(crate) fn raise(&mut self, bound: &Solved) {
-        match self {
-            Height::Shared(shared) => {
-                let _ = shared.floor.raise(&mut shared.seat, bound);
-            }
-            Height::Own(root) => *root = root.joined(bound),
-        }
+        let _ = self.floor.raise(&mut self.seat, bound);
     }
 }
 

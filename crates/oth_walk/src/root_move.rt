@@ -38,10 +38,6 @@ impl RootMove {
         if walk.is_settled(self.square) {
             return;
         }
-        if walk.plan.alone {
-            walk.settle_root();
-            return;
-        }
         walk.begin(&self.child);
         let found = self.pursue(walk);
         walk.end(&self.child);

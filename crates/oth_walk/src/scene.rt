@@ -31,8 +31,6 @@ pub struct Plan {
     pub dealt: u8,
     /// Whether several workers learn from a table what the others found.
     pub shares: bool,
-    /// Whether one worker settles all moves of the root at once.
-    pub alone: bool,
     /// Whether they make a guess together of where the search for the root's value starts.
     pub guesses: bool,
     /// Whether each worker remembers boards with few empty squares.
@@ -40,34 +38,8 @@ pub struct Plan {
 }
 
 impl Plan {
-    /// The plan of so many workers below a root with so many empty squares, with a table or without one.
-    pub fn of(scoring: Scoring, empties: u8, workers: u8, has_table: bool) -> Plan
-        ensures { result.scoring ≡ scoring }
-    {
-        if workers == 1 {
-            Plan::alone(scoring, empties)
-        } else {
-            Plan::together(scoring, empties, has_table)
-        }
-    }
-
-    /// The plan of one worker.
-    pub fn alone(scoring: Scoring, empties: u8) -> Plan
-        ensures { result.scoring ≡ scoring }
-    {
-        Plan {
-            scoring,
-            fewest: 64,
-            dealt: 64,
-            shares: false,
-            alone: true,
-            guesses: false,
-            remembers: empties >= FEWEST_EMPTIES_REMEMBERED,
-        }
-    }
-
-    // The plan of several workers.
-    fn together(scoring: Scoring, empties: u8, shares: bool) -> Plan
+    /// The plan of workers below a root with so many empty squares, with a table or without one.
+    pub fn of(scoring: Scoring, empties: u8, has_table: bool) -> Plan
         ensures { result.scoring ≡ scoring }
     {
         let (fewest, dealt) = match empties {
@@ -78,9 +50,8 @@ impl Plan {
             scoring,
             fewest,
             dealt,
-            shares,
-            alone: false,
-            guesses: shares && empties >= FEWEST_EMPTIES_GUESSED,
+            shares: has_table,
+            guesses: has_table && empties >= FEWEST_EMPTIES_GUESSED,
             remembers: empties >= FEWEST_EMPTIES_REMEMBERED,
         }
     }

@@ -9,7 +9,7 @@ use crate::scene::Plan;
 use crate::window::{Window, is_settled};
 use arrayvec::ArrayVec;
 use oth_rules::{Board, Square};
-use oth_search::{Cells, Entry, Solved, guessed_score, known_of, order, settle_moves};
+use oth_search::{Cells, Entry, Solved, guessed_score, known_below, known_of, order};
 use std::alloc::Global;
 
 /// No search that workers share is deeper.
@@ -89,19 +89,23 @@ impl<'w, C: Cells> Walk<'w, C> {
         }
     }
 
-    /// Settles all moves of the root, by a search of this worker alone.
-    pub(crate) fn settle_root(&mut self) {
+    /// What is known of the root: the floor, and what the cells and this worker's own searches tell of the boards after
+    /// these moves.
+    pub(crate) fn known_of_root(&mut self, squares: &[Square]) -> Solved {
         let root = self.height.root();
-        let replies = settle_moves(&root, self.found.as_slice(), &mut self.cells);
-        for number in 0..64 {
-            let square = Square::numbered(number);
-            if let Some(child) = root.board.play(square) {
-                let reply = known_of(child, replies.as_slice(), root.scoring);
-                self.raise_by(&root.board, square, &reply);
-                let _ = self.found.push(reply);
-                self.settled |= square.word();
+        let mut children = Vec::new(self.alloc);
+        for square in squares {
+            if let Some(child) = root.board.play(*square) {
+                let known = known_of(child, self.found.as_slice(), root.scoring);
+                let _ = children.push(self.look_up(&child).joined(&known));
             }
         }
+        root.joined(&known_below(root.board, 1, children.as_slice(), root.scoring))
+    }
+
+    /// What the floor tells of the root.
+    pub fn root(&mut self) -> Solved {
+        self.height.root()
     }
 
     /// A score that the root seems to have, and its move.

@@ -1,10 +1,10 @@
 //! Moves of a root that one worker settles, and the hints that workers give each other.
 
-use oth_pieces::Frontier;
+use oth_pieces::{Floor, Frontier};
 use oth_rules::samples::board;
 use oth_rules::{Board, Scoring, Square};
-use oth_search::{Answer, NoCells, Solved, order, solve_alone};
-use oth_walk::{Height, HintSeat, Hints, MoveOrder, Plan, Scene, Walk, settle_all};
+use oth_search::{Answer, NoCells, order, solve_alone};
+use oth_walk::{Height, HintSeat, Hints, MoveOrder, Open, Plan, Scene, Walk, settle_all};
 use std::process::Abort;
 use std::test::Fail;
 
@@ -28,30 +28,24 @@ fn answered_alone(words: [u64; 2], scoring: Scoring) -> Option<Answer> {
     solve_alone(&board, scoring).ok()
 }
 
-// One worker that keeps nothing settles each move, by a search of its own and as one of several, and comes to the
-// value.
+// One worker that keeps nothing settles each move, and comes to the value.
 fn check_settled<R: AllocGlobal + Abort>(rt: &R, words: [u64; 2]) {
-    check_settled_by(rt, words, true);
-    check_settled_by(rt, words, false);
-}
-
-fn check_settled_by<R: AllocGlobal + Abort>(rt: &R, words: [u64; 2], alone: bool) {
     let Some(answer) = answered_alone(words, Scoring::Winner) else {
         panic!(rt; "no answer")
     };
     let Some(root) = board(words) else {
         panic!(rt; "no board")
     };
+    let Ok((floor, seat)) = Floor::new(rt.alloc(), &root, Scoring::Winner) else {
+        panic!(rt; "no floor")
+    };
     let frontier = Frontier::of(&root, 1);
     let squares = order(&root);
     let plan = Plan {
-        scoring: Scoring::Winner,
         fewest: 12,
         dealt: 64,
-        shares: false,
-        guesses: false,
-        alone,
         remembers: false,
+        ..Plan::of(Scoring::Winner, root.empties(), false)
     };
     let scene = Scene {
         frontier: &frontier,
@@ -59,11 +53,11 @@ fn check_settled_by<R: AllocGlobal + Abort>(rt: &R, words: [u64; 2], alone: bool
         squares: squares.as_slice(),
         plan,
     };
-    let height = Height::Own(Solved::unknown(root, Scoring::Winner));
-    let mut walk = Walk::of(rt.alloc(), plan, NoCells, height, None);
-    settle_all(&scene, &mut walk);
+    let mut walk = Walk::of(rt.alloc(), plan, NoCells, Height::of(&floor, seat), None);
+    settle_all(&scene, &Open, &mut walk);
     assert!(rt; walk.settled() == squares.len() as u64);
     assert!(rt; walk.floor() == answer.score);
+    assert!(rt; walk.root().interval.lower == answer.score);
 }
 
 #[test]

@@ -7,7 +7,7 @@ use oth_book::{Book, BookFault};
 use oth_main::{
     BookRefusal, Errors, MOST_BOOK_BYTES, REFUSED, Reason, RunFault, Scene, Settings, Words,
     book_add, book_verify, check_settings, open_book, print_refusal, print_run_fault, read_words,
-    run, tell_scoring,
+    run, run_showing, tell_scoring,
 };
 use oth_pool::Open;
 use oth_text::{FromRead, Sink, Source, ToWrite};
@@ -18,6 +18,7 @@ use std::process::ExitCode;
 use std::rt::Files;
 use std::sync::Wait;
 use std::thread::Threads;
+use std::time::Clock;
 use std::{env, io};
 
 // Status 0: all was done.
@@ -42,7 +43,12 @@ fn main(rt: HostRuntime) -> ExitCode {
 }
 
 // Does what the words ask for, and tells why it ended, where the error output is a terminal.
-fn obey_and_explain<T: Wait + Threads + Sync + Files + AllocGlobal, R: Read, W: Write, E: Sink>(
+fn obey_and_explain<
+    T: Wait + Threads + Clock + Sync + Files + AllocGlobal,
+    R: Read + Send,
+    W: Write + Send,
+    E: Sink + Send,
+>(
     rt: &T,
     words: &Words,
     reader: &mut FromRead<R>,
@@ -73,7 +79,12 @@ fn file_name(words: &Words) -> &str {
 }
 
 // Does what the words ask for.
-fn obey<T: Wait + Threads + Sync + Files + AllocGlobal, R: Source, W: Sink, E: Sink>(
+fn obey<
+    T: Wait + Threads + Clock + Sync + Files + AllocGlobal,
+    R: Source + Send,
+    W: Sink + Send,
+    E: Sink + Send,
+>(
     rt: &T,
     words: &Words,
     reader: &mut R,
@@ -112,8 +123,13 @@ fn obey<T: Wait + Threads + Sync + Files + AllocGlobal, R: Source, W: Sink, E: S
     }
 }
 
-// Reports the lines of the input.
-fn report<T: Wait + Threads + Sync + AllocGlobal, R: Source, W: Sink, E: Sink>(
+// Reports the lines of the input, and shows how far that is where the error output is a terminal.
+fn report<
+    T: Wait + Threads + Clock + Sync + AllocGlobal,
+    R: Source + Send,
+    W: Sink + Send,
+    E: Sink + Send,
+>(
     rt: &T,
     settings: &Settings,
     book: Option<&Book>,
@@ -124,7 +140,13 @@ fn report<T: Wait + Threads + Sync + AllocGlobal, R: Source, W: Sink, E: Sink>(
     requires reader { R.failed reader.old ≡ false }
     requires writer { W.failed writer.old ≡ false }
 {
-    match run(rt, rt.alloc(), reader, writer, settings, &Open, book) {
+    let ended = if errors.is_terminal {
+        let terminal = &mut errors.sink;
+        run_showing(rt, rt.alloc(), reader, writer, settings, book, terminal)
+    } else {
+        run(rt, rt.alloc(), reader, writer, settings, &Open, book)
+    };
+    match ended {
         Ok(()) => DONE,
         Err(fault) => print_run_fault(fault, errors),
     }

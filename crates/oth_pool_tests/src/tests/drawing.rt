@@ -151,7 +151,7 @@ fn nothing_is_searched_before_the_first_item_is_announced(rt: HostRuntime) -> Re
     let gate = Watching {
         cells: Mutex::new(WorkerCells::of(
             rt.alloc(),
-            Plan::alone(Scoring::Winner, 0),
+            Plan::of(Scoring::Winner, 0, false),
             &mut access,
         )),
         root,

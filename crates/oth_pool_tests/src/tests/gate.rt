@@ -1,9 +1,12 @@
 //! What a gate hears, and that two workers work at once.
 
+use super::crews::BOARDS;
 use super::{C, CORNERS};
 use oth_pool::{Gate, solve};
 use oth_rules::{Board, Scoring};
+use oth_search::{Solved, solve_alone};
 use std::alloc::Global;
+use std::process::Abort;
 use std::sync::atomic::{AtomicU64, Ordering};
 use std::thread;
 use std::thread::Threads;
@@ -146,6 +149,162 @@ fn two_workers_work_at_once(rt: HostRuntime) {
         let found = by_two(&rt, rt.alloc(), C, cells, &gate);
         assert!(rt; found == Some((64, 0x81)), "{cells} cells");
         assert!(rt; gate.hearing.heard_once(2), "{cells} cells");
+        assert!(rt; gate.given_up.load(Ordering::SeqCst) == 0, "{cells} cells");
+    }
+}
+
+// Hears how far a search is, and when its items are announced.
+#[derive(Drop)]
+struct Following {
+    // How often it was told what is known, and how often when the first item and the last one were announced.
+    told: AtomicU64,
+    at_first: AtomicU64,
+    at_last: AtomicU64,
+    // How many items ended since which nothing was told.
+    idle: AtomicU64,
+    // The most moves that were told to be settled, and the last bounds, each plus 64.
+    settled: AtomicU64,
+    lower: AtomicU64,
+    upper: AtomicU64,
+}
+
+impl Following {
+    fn new() -> Self {
+        Following {
+            told: AtomicU64::new(0),
+            at_first: AtomicU64::new(u64::MAX),
+            at_last: AtomicU64::new(0),
+            idle: AtomicU64::new(0),
+            settled: AtomicU64::new(0),
+            lower: AtomicU64::new(0),
+            upper: AtomicU64::new(0),
+        }
+    }
+}
+
+impl Gate for Following {
+    fn before(&self, _task: u32) {
+        let told = self.told.load(Ordering::SeqCst);
+        self.at_first.fetch_min(told, Ordering::SeqCst);
+        self.at_last.fetch_max(told, Ordering::SeqCst);
+    }
+
+    fn after(&self, _task: u32) {
+        if self.told.load(Ordering::SeqCst) <= self.at_last.load(Ordering::SeqCst) {
+            self.idle.fetch_add(1, Ordering::SeqCst);
+        }
+    }
+
+    fn follows(&self) -> bool {
+        true
+    }
+
+    fn goes_on(&self, root: &Solved, settled: u64) {
+        self.told.fetch_add(1, Ordering::SeqCst);
+        self.settled.fetch_max(settled, Ordering::SeqCst);
+        let lower = (root.interval.lower as i16 + 64) as u64;
+        let upper = (root.interval.upper as i16 + 64) as u64;
+        self.lower.fetch_max(lower, Ordering::SeqCst);
+        self.upper.store(upper, Ordering::SeqCst);
+    }
+}
+
+// The answer's score plus 64, where so many workers come to what one alone does.
+fn followed<R: Threads + Sync + AllocGlobal + Abort>(
+    rt: &R,
+    board: &Board,
+    workers: u8,
+    cells: u32,
+    gate: &Following,
+) -> u64 {
+    let Ok(alone) = solve_alone(board, Scoring::Winner) else {
+        panic!(rt; "no answer")
+    };
+    let score = alone.score;
+    let alloc = rt.alloc();
+    let found = solve(
+        rt,
+        alloc,
+        board,
+        workers,
+        cells,
+        gate,
+        None,
+        Scoring::Winner,
+    );
+    assert!(rt; found == Ok(alone));
+    (score.max(-64) as i16 + 64) as u64
+}
+
+#[test]
+fn one_worker_announces_each_move_and_then_searches_it(rt: HostRuntime) {
+    let Ok(board) = Board::of(BOARDS[1][0], BOARDS[1][1]) else {
+        panic!(rt; "no board")
+    };
+    let moves = u64::from(board.moves().count_ones());
+    for cells in [0, 4096] {
+        let gate = Following::new();
+        let score = followed(&rt, &board, 1, cells, &gate);
+        assert!(rt; gate.at_first.load(Ordering::SeqCst) == 0);
+        assert!(rt; gate.at_last.load(Ordering::SeqCst).saturating_add(1) >= moves);
+        assert!(rt; gate.idle.load(Ordering::SeqCst) == 0);
+        assert!(rt; gate.settled.load(Ordering::SeqCst) == moves);
+        assert!(rt; gate.lower.load(Ordering::SeqCst) == score);
+        assert!(rt; gate.upper.load(Ordering::SeqCst) == score);
+    }
+}
+
+#[test]
+fn workers_tell_how_far_they_are(rt: HostRuntime) {
+    let Ok(board) = Board::of(BOARDS[1][0], BOARDS[1][1]) else {
+        panic!(rt; "no board")
+    };
+    let moves = u64::from(board.moves().count_ones());
+    for cells in [0, 4096] {
+        let gate = Following::new();
+        let score = followed(&rt, &board, 4, cells, &gate);
+        assert!(rt; gate.at_first.load(Ordering::SeqCst) == 0);
+        assert!(rt; gate.settled.load(Ordering::SeqCst) <= moves);
+        assert!(rt; gate.lower.load(Ordering::SeqCst) == score);
+        assert!(rt; gate.upper.load(Ordering::SeqCst) >= score);
+    }
+}
+
+// Each item waits a while until three searches have begun.
+#[derive(Drop)]
+struct MeetingOfThree {
+    begun: AtomicU64,
+    given_up: AtomicU64,
+}
+
+impl Gate for MeetingOfThree {
+    fn before(&self, _task: u32) {
+        self.begun.fetch_add(1, Ordering::SeqCst);
+        for _ in 0..10_000_000 {
+            if self.begun.load(Ordering::SeqCst) >= 3 {
+                return;
+            }
+            thread::yield_now();
+        }
+        self.given_up.store(1, Ordering::SeqCst);
+    }
+
+    fn after(&self, _task: u32) {}
+}
+
+#[test]
+fn three_workers_work_at_once(rt: HostRuntime) {
+    let Ok(board) = Board::of(BOARDS[1][0], BOARDS[1][1]) else {
+        panic!(rt; "no board")
+    };
+    for cells in [0, 4096] {
+        let gate = MeetingOfThree {
+            begun: AtomicU64::new(0),
+            given_up: AtomicU64::new(0),
+        };
+        let alloc = rt.alloc();
+        let found = solve(&rt, alloc, &board, 4, cells, &gate, None, Scoring::Winner);
+        assert!(rt; found.is_ok());
         assert!(rt; gate.given_up.load(Ordering::SeqCst) == 0, "{cells} cells");
     }
 }

@@ -1,13 +1,11 @@
-use Rattle.std.proofs.Common.{ap, refl, sym, ◌∙◌}
-use Rattle.oth_rules.specs.Move.{can_move}
+use Rattle.std.proofs.Common.{refl, sym, ◌∙◌}
 use Rattle.oth_rules.proofs.SearchLaws.{is_over-false}
 use Rattle.oth_search.proofs.Replies.{can_move-from_moves, can_move-from_none, can_move-after_pass}
 use Rattle.oth_search.proofs.solving.solve_with.Goals as goal
 
-pub solve_moves-passed-requires : goal.solve_moves-passed-requires
-solve_moves-passed-requires g c =
-    ap can_move c.unknown.ensures.board
-    ∙ can_move-after_pass c.args.board _ c.pass.ensures
+pub solve_unobserved-passed-requires : goal.solve_unobserved-passed-requires
+solve_unobserved-passed-requires g c =
+    can_move-after_pass c.args.board _ c.pass.ensures
     (can_move-from_none c.args.board _ c.moves.ensures c.if-moves-eq0.true)
     (is_over-false c.args.board (sym c.is_over.ensures ∙ c.if-is_over.false))
 
@@ -20,5 +18,5 @@ before_pass-requires-clause-some g c =
     (can_move-from_none c.args.board _ c.moves.ensures c.if-moves-eq0.true)
     (is_over-false c.args.board (sym c.is_over.ensures ∙ c.if-is_over.false))
 
-pub solve_moves-requires : goal.solve_moves-requires
-solve_moves-requires g c = ap can_move c.unknown-2.ensures.board ∙ can_move-from_moves c.args.board _ c.moves.ensures c.if-moves-eq0.false
+pub solve_unobserved-requires : goal.solve_unobserved-requires
+solve_unobserved-requires g c = can_move-from_moves c.args.board _ c.moves.ensures c.if-moves-eq0.false

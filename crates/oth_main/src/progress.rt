@@ -1,0 +1,252 @@
+//! A line that shows how far a long search is, for who sits at a terminal.
+
+use oth_pool::Gate;
+use oth_rules::Board;
+use oth_search::{Interval, Solved};
+use std::fmt;
+use std::sync::{Condvar, Mutex, MutexGuard, Wait};
+use std::time::{Clock, Duration, Instant};
+
+// So many milliseconds lie between two looks at how far the search is.
+const TICK: u64 = 250;
+
+// So many seconds a board has to take before the line comes.
+const PATIENCE: u64 = 1;
+
+// How often a gate's call tries to write down what it hears before it lets it go.
+const TRIES: u32 = 1_000;
+
+// Of so many boards under search is remembered how far they are: more than are ever searched at once.
+const MOST_SEARCHES: usize = 32;
+
+// How far the search of a root is.
+#[derive(Clone, Copy)]
+struct Search {
+    root: Solved,
+    settled: u64,
+}
+
+impl Search {
+    // What is known of the board, by the search of it or of the board after a forced pass.
+    fn bounds_of(&self, board: &Board) -> Option<Interval> {
+        if self.root.board == *board {
+            return Some(self.root.interval);
+        }
+        if self.root.board == board.pass() {
+            return Some(self.root.interval.turned());
+        }
+        None
+    }
+}
+
+// What a run is at.
+#[derive(Drop)]
+struct State {
+    is_over: bool,
+    // So many lines of the report were written.
+    lines: u64,
+    // The board whose answer is the next one, and the number of boards that were awaited so far.
+    awaited: Option<Board>,
+    count: u64,
+    // The searches that were heard of, and the place of the next one.
+    searches: [Search; MOST_SEARCHES],
+    place: usize,
+}
+
+impl State {
+    // Nothing was heard yet.
+    fn new() -> State {
+        let nothing = Search {
+            root: Solved::default(),
+            settled: 0,
+        };
+        State {
+            is_over: false,
+            lines: 0,
+            awaited: None,
+            count: 0,
+            searches: [nothing; MOST_SEARCHES],
+            place: 0,
+        }
+    }
+
+    // Writes down how far a search is.
+    fn keep(&mut self, search: Search) {
+        for place in 0..MOST_SEARCHES {
+            if self.searches[place].root.board == search.root.board {
+                self.searches[place] = search;
+                return;
+            }
+        }
+        let place = self.place % MOST_SEARCHES;
+        self.searches[place] = search;
+        self.place = place + 1;
+    }
+
+    // How far the search of the board is, if anything was heard of it.
+    fn search_of(&self, board: &Board) -> Option<Search> {
+        for place in 0..MOST_SEARCHES {
+            if self.searches[place].bounds_of(board).is_some() {
+                return Some(self.searches[place]);
+            }
+        }
+        None
+    }
+}
+
+/// Hears what a run is at: a gate of it, for the line that shows it. Its calls wait for nobody.
+#[derive(Drop)]
+pub struct Progress {
+    state: Mutex<State>,
+    bell: Condvar,
+}
+
+impl Progress {
+    /// Nothing was heard yet.
+    pub fn new() -> Progress {
+        Progress {
+            state: Mutex::new(State::new()),
+            bell: Condvar::new(),
+        }
+    }
+
+    // What was heard, where nobody else keeps it for long.
+    fn heard(&self) -> Option<MutexGuard<'_, State>> {
+        for _ in 0..TRIES {
+            let state = self.state.try_lock();
+            if state.is_some() {
+                return state;
+            }
+        }
+        None
+    }
+}
+
+impl Gate for Progress {
+    fn before(&self, _task: u32) {}
+
+    fn after(&self, _task: u32) {}
+
+    fn awaits(&self, board: &Board) {
+        if let Some(mut state) = self.heard() {
+            state.awaited = Some(*board);
+            state.count = state.count.wrapping_add(1);
+        }
+    }
+
+    fn follows(&self) -> bool {
+        true
+    }
+
+    fn goes_on(&self, root: &Solved, settled: u64) {
+        let search = Search {
+            root: *root,
+            settled,
+        };
+        if let Some(mut state) = self.heard() {
+            state.keep(search);
+        }
+    }
+}
+
+/// What is shown of a search.
+#[derive(Clone, Copy, Drop)]
+pub(crate) struct Look {
+    line: u64,
+    board: Board,
+    count: u64,
+    search: Option<Search>,
+}
+
+impl Progress {
+    /// So many bytes of the report were written, of which so many end a line.
+    pub(crate) fn pass_lines<R: Wait>(&self, rt: &R, lines: u64) {
+        let mut state = self.state.lock(rt);
+        state.lines = state.lines.saturating_add(lines);
+        state.awaited = None;
+    }
+
+    /// The run is over.
+    pub(crate) fn end<R: Wait>(&self, rt: &R) {
+        let mut state = self.state.lock(rt);
+        state.is_over = true;
+        MutexGuard::unlock(state);
+        self.bell.notify_all();
+    }
+
+    /// Waits for a fraction of a second, or until the run is over. Whether it goes on.
+    pub(crate) fn goes_on_after_a_tick<R: Wait + Clock>(&self, rt: &R) -> bool {
+        let state = self.state.lock(rt);
+        if state.is_over {
+            return false;
+        }
+        let (state, _) = self.bell.wait_timeout(rt, state, Duration::from_millis(TICK));
+        !state.is_over
+    }
+
+    /// What is to be shown, if a board is awaited.
+    pub(crate) fn look<R: Wait>(&self, rt: &R) -> Option<Look> {
+        let state = self.state.lock(rt);
+        let board = state.awaited?;
+        Some(Look {
+            line: state.lines.saturating_add(1),
+            board,
+            count: state.count,
+            search: state.search_of(&board),
+        })
+    }
+}
+
+/// Since when which board is awaited, as far as was seen.
+#[derive(Clone, Copy, Drop)]
+pub(crate) struct Since {
+    count: u64,
+    start: Option<Instant>,
+}
+
+impl Since {
+    /// No board was seen.
+    pub fn new() -> Since {
+        Since {
+            count: 0,
+            start: None,
+        }
+    }
+
+    /// For how many whole seconds the board has been awaited, if that is long enough for the line.
+    pub fn seconds<C: Clock>(&mut self, clock: &C, look: &Look) -> Option<u64> {
+        if self.start.is_none() || self.count != look.count {
+            self.count = look.count;
+            self.start = Instant::now(clock).ok();
+        }
+        let seconds = self.start?.elapsed(clock).ok()?.as_secs();
+        if seconds < PATIENCE {
+            return None;
+        }
+        Some(seconds)
+    }
+}
+
+/// The line: the number of the line whose board is searched, the board's empty squares, how many of its moves need no
+/// further search, what its score lies between by now, and for how many seconds it has been awaited.
+#[derive(Drop)]
+pub(crate) struct Shown {
+    pub look: Look,
+    pub seconds: u64,
+}
+
+impl fmt::Display for Shown {
+    fn fmt<W: fmt::Write>(&self, f: &mut fmt::Formatter<W>) -> fmt::Result {
+        let board = &self.look.board;
+        let empties = board.empties();
+        write!(f, "line {}: {empties} empty squares", self.look.line)?;
+        if let Some(search) = &self.look.search {
+            let moves = search.root.board.moves().count_ones();
+            write!(f, ", {} of {moves} moves settled", search.settled)?;
+            if let Some(bounds) = search.bounds_of(board) {
+                write!(f, ", {:+} to {:+}", bounds.lower, bounds.upper)?;
+            }
+        }
+        write!(f, ", {} s", self.seconds)
+    }
+}

@@ -1,0 +1,122 @@
+//! What a gate hears of a search by one worker.
+
+use oth_pieces::Frontier;
+use oth_rules::{Board, Scoring, Square};
+use oth_search::{Observer, Solved, known_below};
+use oth_walk::{Gate, Scene, is_settled};
+
+// The items of a frontier by the root's moves, of which some were announced.
+#[derive(Drop)]
+struct Items<'s> {
+    root: Board,
+    scoring: Scoring,
+    frontier: &'s Frontier,
+    squares: &'s [Square],
+    // The moves whose items were announced.
+    announced: u64,
+}
+
+impl<'s> Items<'s> {
+    // None was announced.
+    fn of(scene: &Scene<'s>) -> Items<'s> {
+        Items {
+            root: scene.root,
+            scoring: scene.plan.scoring,
+            frontier: scene.frontier,
+            squares: scene.squares,
+            announced: 0,
+        }
+    }
+
+    // Whether the item of this number is below the move.
+    fn is_below(&self, number: u32, square: Square) -> bool {
+        match self.frontier.entry(number) {
+            Some(item) => item.square == square,
+            None => false,
+        }
+    }
+
+    // The move of the root that leads to the board, if its items were not announced. From now on they are.
+    fn announce(&mut self, child: &Board) -> Option<Square> {
+        for square in self.squares {
+            if self.announced & square.word() == 0 && self.root.play(*square) == Some(*child) {
+                self.announced |= square.word();
+                return Some(*square);
+            }
+        }
+        None
+    }
+
+    // What is known of the root by what is known of the boards after its moves, and how many of them need no further
+    // search.
+    fn known(&self, replies: &[Solved]) -> (Solved, u64) {
+        let root = known_below(self.root, 1, replies, self.scoring);
+        let mut settled = 0u64;
+        for reply in replies {
+            if is_settled(reply, root.interval.lower) {
+                settled = settled.saturating_add(1);
+            }
+        }
+        (root, settled)
+    }
+}
+
+/// Tells a gate of the items of a frontier, those below a move round the first search of the board after it, and how
+/// far the search is.
+#[derive(Drop)]
+pub(crate) struct Announcer<'s, G> {
+    items: Items<'s>,
+    gate: &'s G,
+    // The move whose items are being searched for the first time.
+    open: Option<Square>,
+}
+
+impl<'s, G: Gate> Announcer<'s, G> {
+    /// No item was announced yet.
+    pub fn of(scene: &Scene<'s>, gate: &'s G) -> Announcer<'s, G> {
+        Announcer {
+            items: Items::of(scene),
+            gate,
+            open: None,
+        }
+    }
+
+    /// Announces the items of the moves that needed no search.
+    pub fn finish(&self) {
+        for number in 0..self.items.frontier.len() {
+            if let Some(item) = self.items.frontier.entry(number) {
+                if self.items.announced & item.square.word() == 0 {
+                    self.gate.before(number);
+                    self.gate.after(number);
+                }
+            }
+        }
+    }
+}
+
+impl<'s, G: Gate> Observer for Announcer<'s, G> {
+    fn before(&mut self, child: &Board) {
+        if let Some(square) = self.items.announce(child) {
+            self.open = Some(square);
+            for number in 0..self.items.frontier.len() {
+                if self.items.is_below(number, square) {
+                    self.gate.before(number);
+                }
+            }
+        }
+    }
+
+    fn after(&mut self, _child: &Board, replies: &[Solved]) {
+        if self.gate.follows() {
+            let (root, settled) = self.items.known(replies);
+            self.gate.goes_on(&root, settled);
+        }
+        if let Some(square) = self.open.take() {
+            for number in 0..self.items.frontier.len() {
+                if self.items.is_below(number, square) {
+                    self.gate.after(number);
+                }
+            }
+        }
+    }
+}

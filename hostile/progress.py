@@ -1,0 +1,113 @@
+"""Runs the built program on boards of which one takes seconds. On a terminal a line has to come that shows how far the search is, be renewed
+in place and be gone when the answer is written; where standard error is no terminal not a byte of it may come."""
+import os
+import pty
+import re
+import select
+import subprocess
+import time
+
+import running
+from running import ran
+
+PATIENCE = 600
+# The most that a terminal is asked for at once.
+MOST = 65_536
+# Boards that take no time, and between them one that takes some seconds by one worker and by four: its mover wins by SCORE.
+QUICK = "-OXXXXO-XXXXXXXXXXXXXXXXXXXXXXXXXXXXXXXXXXXXXXXXXXXXXXXXXXXXXXXX X"
+QUICK_ANSWER = "+64 a1 h1"
+LONG = "@LONG@"
+LONG_EMPTIES = LONG.count("-")
+BOARDS = f"{QUICK}\n{LONG}\n{QUICK}\n".encode()
+SHOWN = re.compile(rf"line 2: {LONG_EMPTIES} empty squares(?:, (\d+) of (\d+) moves settled, ([+-]\d+) to ([+-]\d+))?, (\d+) s")
+
+
+class Said:
+    """What a run wrote to a terminal, and what stood there each time that it had written."""
+
+    def __init__(self, said):
+        self.rows, self.moments, self.column = [""], [], 0
+        for part in re.split(r"(\r|\n)", said.decode("ascii")):
+            self.take(part)
+
+    def take(self, part):
+        if part == "\r":
+            self.column = 0
+        elif part == "\n":
+            self.rows.append("")
+        elif part:
+            row = self.rows[-1].ljust(self.column)
+            self.column += len(part)
+            self.rows[-1] = row[: self.column - len(part)] + part + row[self.column :]
+            self.moments.append(self.rows[-1].rstrip())
+
+    def left(self):
+        """What stands there at the end."""
+        return [row.rstrip() for row in self.rows]
+
+
+def read_all(terminal, started):
+    """What is written to the terminal until the run has ended."""
+    said, end = b"", time.monotonic() + PATIENCE
+    while time.monotonic() < end:
+        ready, _, _ = select.select([terminal], [], [], 0.1)
+        if ready:
+            try:
+                said += os.read(terminal, MOST)
+            except OSError:
+                break
+        elif started.poll() is not None:
+            break
+    return said
+
+
+def on_terminal(words, output_too):
+    """The status of a run whose standard error is a terminal, what it wrote to standard output where that is a pipe, and what it said."""
+    terminal, end = pty.openpty()
+    output = end if output_too else subprocess.PIPE
+    with subprocess.Popen(words, stdin=subprocess.PIPE, stdout=output, stderr=end) as started:
+        started.stdin.write(BOARDS)
+        started.stdin.close()
+        os.close(end)
+        said = read_all(terminal, started)
+        if started.poll() is None:
+            started.kill()
+        wrote = b"" if output_too else started.stdout.read()
+    os.close(terminal)
+    return started.returncode, wrote, Said(said)
+
+
+def wrong_line(said, score):
+    """What is wrong with the line, if anything: it has to come at least twice, be of the long board, and enclose its score."""
+    lines = [moment for moment in said.moments if moment.startswith("line ")]
+    if len(set(lines)) < 2:
+        return f"the line was not renewed: {lines!r}"
+    for line in lines:
+        found = SHOWN.fullmatch(line)
+        if not found:
+            return f"showed {line!r}"
+        settled, moves, lower, upper, _ = found.groups()
+        if settled and (int(settled) > int(moves) or not int(lower) <= score <= int(upper)):
+            return f"showed {line!r} of a board whose score is {score:+}"
+    if not any(SHOWN.fullmatch(line).group(1) for line in lines):
+        return f"never told how far the search is: {lines!r}"
+    return None
+
+
+def steps(program):
+    """A step for each way to run it: its name, and what is wrong with it, if anything."""
+    words = [program, "solve", "--workers", "4", "--cells", "262144"]
+    plain = ran(words, BOARDS, PATIENCE)
+    answers = plain.wrote.decode("ascii").splitlines()
+    is_right = plain.status == 0 and plain.said == b"" and len(answers) == 3 and answers[0] == answers[2] == QUICK_ANSWER
+    yield "the line of progress: not a byte of it on a pipe", None if is_right else f"{plain!r}"
+    if not is_right:
+        return
+    score = int(answers[1].split()[0])
+    status, wrote, said = on_terminal(words, False)
+    wrong = None if (status, wrote) == (0, plain.wrote) else f"status {status}, wrote {wrote!r}"
+    yield "the line of progress comes by 4 workers, and leaves standard output as it is", wrong or wrong_line(said, score)
+    yield "the line of progress is gone at the end", None if said.left() == [""] else f"left {said.left()!r}"
+    status, _, said = on_terminal([program, "solve", "--cells", "262144"], True)
+    wrong = None if (status, said.left()) == (0, [*answers, ""]) else f"status {status}, left {said.left()!r}"
+    yield "the line of progress comes by one worker, and leaves only the answers on their terminal", wrong or wrong_line(said, score)
