@@ -7,6 +7,7 @@ mod message;
 mod progress;
 mod reasons;
 mod showing;
+mod under_search;
 
 pub use book_commands::{book_add, book_verify, print_run_fault};
 pub use book_file::{BookRefusal, MOST_BOOK_BYTES, REFUSED, open_book, print_refusal};
@@ -14,4 +15,4 @@ pub use oth_run::{RunFault, check_settings, run};
 pub use oth_words::{Command, Settings, Words, read_words};
 pub use progress::Progress;
 pub use reasons::{Errors, Reason, Scene, tell_scoring};
-pub use showing::run_showing;
+pub use showing::{Report, Watch};

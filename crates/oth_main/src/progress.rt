@@ -1,8 +1,9 @@
 //! A line that shows how far a long search is, for who sits at a terminal.
 
+use crate::under_search::UnderSearch;
 use oth_pool::Gate;
 use oth_rules::Board;
-use oth_search::{Interval, Solved};
+use oth_search::Solved;
 use std::fmt;
 use std::sync::{Condvar, Mutex, MutexGuard, Wait};
 use std::time::{Clock, Duration, Instant};
@@ -19,51 +20,29 @@ const TRIES: u32 = 1_000;
 // Of so many boards under search is remembered how far they are: more than are ever searched at once.
 const MOST_SEARCHES: usize = 32;
 
-// How far the search of a root is.
-#[derive(Clone, Copy)]
-struct Search {
-    root: Solved,
-    settled: u64,
-}
-
-impl Search {
-    // What is known of the board, by the search of it or of the board after a forced pass.
-    fn bounds_of(&self, board: &Board) -> Option<Interval> {
-        if self.root.board == *board {
-            return Some(self.root.interval);
-        }
-        if self.root.board == board.pass() {
-            return Some(self.root.interval.turned());
-        }
-        None
-    }
-}
-
 // What a run is at.
 #[derive(Drop)]
 struct State {
     is_over: bool,
     // So many lines of the report were written.
     lines: u64,
-    // The board whose answer is the next one, and the number of boards that were awaited so far.
-    awaited: Option<Board>,
+    // Whether a board is awaited, which one was last, and how many were so far.
+    is_awaited: bool,
+    board: Board,
     count: u64,
     // The searches that were heard of, and the place of the next one.
-    searches: [Search; MOST_SEARCHES],
+    searches: [UnderSearch; MOST_SEARCHES],
     place: usize,
 }
 
 impl State {
-    // Nothing was heard yet.
-    fn new() -> State {
-        let nothing = Search {
-            root: Solved::default(),
-            settled: 0,
-        };
+    // Nothing was heard but this of each search.
+    fn of(nothing: UnderSearch) -> State {
         State {
             is_over: false,
             lines: 0,
-            awaited: None,
+            is_awaited: false,
+            board: Board::default(),
             count: 0,
             searches: [nothing; MOST_SEARCHES],
             place: 0,
@@ -71,7 +50,7 @@ impl State {
     }
 
     // Writes down how far a search is.
-    fn keep(&mut self, search: Search) {
+    fn keep(&mut self, search: UnderSearch) {
         for place in 0..MOST_SEARCHES {
             if self.searches[place].root.board == search.root.board {
                 self.searches[place] = search;
@@ -84,7 +63,7 @@ impl State {
     }
 
     // How far the search of the board is, if anything was heard of it.
-    fn search_of(&self, board: &Board) -> Option<Search> {
+    fn search_of(&self, board: &Board) -> Option<UnderSearch> {
         for place in 0..MOST_SEARCHES {
             if self.searches[place].bounds_of(board).is_some() {
                 return Some(self.searches[place]);
@@ -104,8 +83,16 @@ pub struct Progress {
 impl Progress {
     /// Nothing was heard yet.
     pub fn new() -> Progress {
+        Progress::of(UnderSearch {
+            root: Solved::default(),
+            settled: 0,
+        })
+    }
+
+    // Nothing was heard but this of each search.
+    fn of(nothing: UnderSearch) -> Progress {
         Progress {
-            state: Mutex::new(State::new()),
+            state: Mutex::new(State::of(nothing)),
             bell: Condvar::new(),
         }
     }
@@ -129,7 +116,8 @@ impl Gate for Progress {
 
     fn awaits(&self, board: &Board) {
         if let Some(mut state) = self.heard() {
-            state.awaited = Some(*board);
+            state.is_awaited = true;
+            state.board = *board;
             state.count = state.count.wrapping_add(1);
         }
     }
@@ -139,7 +127,7 @@ impl Gate for Progress {
     }
 
     fn goes_on(&self, root: &Solved, settled: u64) {
-        let search = Search {
+        let search = UnderSearch {
             root: *root,
             settled,
         };
@@ -155,7 +143,7 @@ pub(crate) struct Look {
     line: u64,
     board: Board,
     count: u64,
-    search: Option<Search>,
+    search: Option<UnderSearch>,
 }
 
 impl Progress {
@@ -163,7 +151,7 @@ impl Progress {
     pub(crate) fn pass_lines<R: Wait>(&self, rt: &R, lines: u64) {
         let mut state = self.state.lock(rt);
         state.lines = state.lines.saturating_add(lines);
-        state.awaited = None;
+        state.is_awaited = false;
     }
 
     /// The run is over.
@@ -180,14 +168,19 @@ impl Progress {
         if state.is_over {
             return false;
         }
-        let (state, _) = self.bell.wait_timeout(rt, state, Duration::from_millis(TICK));
+        let (state, _) = self
+            .bell
+            .wait_timeout(rt, state, Duration::from_millis(TICK));
         !state.is_over
     }
 
     /// What is to be shown, if a board is awaited.
     pub(crate) fn look<R: Wait>(&self, rt: &R) -> Option<Look> {
         let state = self.state.lock(rt);
-        let board = state.awaited?;
+        if !state.is_awaited {
+            return None;
+        }
+        let board = state.board;
         Some(Look {
             line: state.lines.saturating_add(1),
             board,

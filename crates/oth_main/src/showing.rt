@@ -1,12 +1,10 @@
-//! A run with a line on a terminal that shows how far a long search is.
+//! A line on a terminal that shows how far a long search is.
 
-ghost use Rattle.std.specs.Prelude.{◌≡◌, false};
+ghost use Rattle.std.specs.Prelude.{◌≡◌};
+ghost use denote.Param.Send.{IsSend, IsSync};
 
 use crate::progress::{Progress, Shown, Since};
-use oth_book::Book;
-use oth_run::{RunFault, run};
-use oth_text::{Failed, Sink, Source, write_all};
-use oth_words::Settings;
+use oth_text::{Failed, Sink, write_all};
 use std::alloc::Global;
 use std::sync::{Mutex, Wait};
 use std::thread::{Threads, join_mut};
@@ -17,12 +15,12 @@ const WIDEST: usize = 120;
 
 // A terminal, and how many bytes of its last line are taken.
 #[derive(Drop)]
-struct Screen<'e, E> {
-    sink: &'e mut E,
+struct Screen<E> {
+    sink: E,
     width: usize,
 }
 
-impl<'e, E: Sink> Screen<'e, E> {
+impl<E: Sink> Screen<E> {
     // Puts the text in place of what stands in the line.
     fn draw(&mut self, text: &[u8]) {
         let taken = self.width;
@@ -54,33 +52,138 @@ impl<'e, E: Sink> Screen<'e, E> {
     // Writes the bytes. A terminal that fails is passed over.
     fn write(&mut self, bytes: &[u8]) {
         if !self.sink.failed() {
-            let _ = write_all(self.sink, bytes);
+            let _ = write_all(&mut self.sink, bytes);
         }
     }
 }
 
-// The output of a run, before each write to which the line is taken away.
+/// A terminal, and what a run tells of how far it is: where a board takes longer than a second, a line shows it.
 #[derive(Drop)]
-struct Report<'r, 'e, R, W, E> {
-    rt: &'r R,
-    progress: &'r Progress,
-    screen: &'r Mutex<Screen<'e, E>>,
-    writer: &'r mut W,
+pub struct Watch<E> {
+    progress: Progress,
+    screen: Mutex<Screen<E>>,
 }
 
-impl<'r, 'e, R: Wait, W: Sink, E: Sink> Sink for Report<'r, 'e, R, W, E> {
-    ghost contents = { λ s. W.contents s.writer.now };
+impl<E: Sink + Send> Watch<E> {
+    /// Nothing is shown yet on this terminal.
+    pub fn on(terminal: E) -> Watch<E> {
+        Watch {
+            progress: Progress::new(),
+            screen: Mutex::new(Screen {
+                sink: terminal,
+                width: 0,
+            }),
+        }
+    }
 
-    ghost failed = { λ s. W.failed s.writer.now };
+    /// The gate by which it hears of the run.
+    pub fn gate(&self) -> &Progress {
+        &self.progress
+    }
 
-    ghost flushed = { λ s. W.flushed s.writer.now };
+    /// Calls `work`, which is one run, in this thread. Beside it a thread shows the line, which is renewed in place and
+    /// is gone when `work` has returned. Where there is no thread or no memory for it, it does not come. A terminal
+    /// that fails is passed over.
+    pub fn beside<R: Threads + Wait + Clock + Sync, W: FnMut() -> X, X>(
+        &self,
+        rt: &R,
+        alloc: Global,
+        work: &mut W,
+    ) -> X
+        requires { W.pre work.old }
+        ensures { W.step work.old result work.new }
+    {
+        let mut showing = || self.show(rt, alloc);
+        let mut working = || -> X
+            requires { W.pre work.now }
+            ensures { W.step work.entry.now result work.exit.now }
+        {
+            let done = work();
+            self.progress.end(rt);
+            done
+        };
+        let done = join_mut(rt, &mut showing, &mut working).1;
+        self.clear(rt);
+        done
+    }
+
+    // Shows the line until the run is over.
+    fn show<R: Wait + Clock>(&self, rt: &R, alloc: Global) {
+        let mut since = Since::new();
+        for _ in rt.forever() {
+            if !self.progress.goes_on_after_a_tick(rt) {
+                return;
+            }
+            self.show_once(rt, alloc, &mut since);
+        }
+    }
+
+    // Shows how far the search is now, or nothing where no board takes long.
+    fn show_once<R: Wait + Clock>(&self, rt: &R, alloc: Global, since: &mut Since) {
+        let mut screen = self.screen.lock(rt);
+        let Some(look) = self.progress.look(rt) else {
+            screen.clear();
+            return;
+        };
+        let Some(seconds) = since.seconds(rt, &look) else {
+            screen.clear();
+            return;
+        };
+        if let Ok(text) = format!(in alloc; "{}", Shown { look, seconds }) {
+            screen.draw(text.as_bytes());
+        }
+    }
+
+    // Takes the line away.
+    fn clear<R: Wait>(&self, rt: &R) {
+        self.screen.lock(rt).clear();
+    }
+}
+
+/// The output of a run that is watched: before each write the line is taken away.
+#[derive(Drop)]
+pub struct Report<'w, R, W, E> {
+    rt: &'w R,
+    watch: &'w Watch<E>,
+    writer: W,
+}
+
+impl<'w, R: Wait, W: Sink, E: Sink> Report<'w, R, W, E> {
+    /// A sink that hands all on to the writer.
+    pub fn of(rt: &'w R, watch: &'w Watch<E>, writer: W) -> Self
+        ensures contents { ⟦<Report<'w, R, W, E> as Sink>⟧.contents result ≡ W.contents writer }
+        ensures failed { ⟦<Report<'w, R, W, E> as Sink>⟧.failed result ≡ W.failed writer }
+    {
+        Report { rt, watch, writer }
+    }
+
+    /// The runtime.
+    pub fn runtime(&self) -> &'w R {
+        self.rt
+    }
+
+    /// The writer.
+    pub fn writer(&self) -> &W
+        ensures { result.now ≡ self.now.writer }
+    {
+        &self.writer
+    }
+}
+
+impl<'w, R: Wait, W: Sink, E: Sink> Sink for Report<'w, R, W, E> {
+    ghost contents = { λ s. W.contents s.writer };
+
+    ghost failed = { λ s. W.failed s.writer };
+
+    ghost flushed = { λ s. W.flushed s.writer };
 
     fn write(&mut self, buffer: &[u8]) -> Result<usize, Failed> {
-        let mut screen = self.screen.lock(self.rt);
+        let mut screen = self.watch.screen.lock(self.rt);
         screen.clear();
         let written = self.writer.write(buffer);
         if let Ok(count) = written {
-            self.progress.pass_lines(self.rt, lines_in(buffer, count));
+            let lines = lines_in(buffer, count);
+            self.watch.progress.pass_lines(self.rt, lines);
         }
         written
     }
@@ -103,86 +206,4 @@ fn lines_in(buffer: &[u8], count: usize) -> u64 {
         }
     }
     lines
-}
-
-// Shows the line while the run goes on, if there is memory for its text.
-fn show<R: Wait + Clock, E: Sink>(
-    rt: &R,
-    alloc: Global,
-    progress: &Progress,
-    screen: &Mutex<Screen<'_, E>>,
-) {
-    let mut since = Since::new();
-    for _ in rt.forever() {
-        if !progress.goes_on_after_a_tick(rt) {
-            return;
-        }
-        show_once(rt, alloc, progress, &mut since, screen);
-    }
-}
-
-// Shows how far the search is now, or nothing where no board takes long.
-fn show_once<R: Wait + Clock, E: Sink>(
-    rt: &R,
-    alloc: Global,
-    progress: &Progress,
-    since: &mut Since,
-    screen: &Mutex<Screen<'_, E>>,
-) {
-    let mut screen = screen.lock(rt);
-    let Some(look) = progress.look(rt) else {
-        screen.clear();
-        return;
-    };
-    let Some(seconds) = since.seconds(rt, &look) else {
-        screen.clear();
-        return;
-    };
-    if let Ok(text) = format!(in alloc; "{}", Shown { look, seconds }) {
-        screen.draw(text.as_bytes());
-    }
-}
-
-/// Does what [`run`] does without a gate. Beside it a line on the terminal shows how far the search of a board is that
-/// takes longer than a second: it is renewed in place, and taken away before a line of the report is written. Where
-/// there is no thread or no memory for it, it does not come. A terminal that fails is passed over.
-pub fn run_showing<
-    T: Wait + Threads + Clock + Sync,
-    R: Source + Send,
-    W: Sink + Send,
-    E: Sink + Send,
->(
-    rt: &T,
-    alloc: Global,
-    reader: &mut R,
-    writer: &mut W,
-    settings: &Settings,
-    book: Option<&Book>,
-    terminal: &mut E,
-) -> Result<(), RunFault>
-    requires reader { R.failed reader.old ≡ false }
-    requires writer { W.failed writer.old ≡ false }
-{
-    let progress = Progress::new();
-    let screen = Mutex::new(Screen {
-        sink: terminal,
-        width: 0,
-    });
-    let mut showing = || show(rt, alloc, &progress, &screen);
-    let mut running = || -> Result<(), RunFault>
-        requires { R.failed reader.now ≡ false × W.failed writer.now ≡ false }
-    {
-        let mut report = Report {
-            rt,
-            progress: &progress,
-            screen: &screen,
-            writer,
-        };
-        let ended = run(rt, alloc, reader, &mut report, settings, &progress, book);
-        progress.end(rt);
-        ended
-    };
-    let (_, ended) = join_mut(rt, &mut showing, &mut running);
-    screen.lock(rt).clear();
-    ended
 }

@@ -5,12 +5,13 @@ ghost use Rattle.std.specs.Prelude.{◌≡◌, false};
 
 use oth_book::{Book, BookFault};
 use oth_main::{
-    BookRefusal, Errors, MOST_BOOK_BYTES, REFUSED, Reason, RunFault, Scene, Settings, Words,
-    book_add, book_verify, check_settings, open_book, print_refusal, print_run_fault, read_words,
-    run, run_showing, tell_scoring,
+    BookRefusal, Errors, MOST_BOOK_BYTES, REFUSED, Reason, Report, RunFault, Scene, Settings,
+    Watch, Words, book_add, book_verify, check_settings, open_book, print_refusal, print_run_fault,
+    read_words, run, tell_scoring,
 };
-use oth_pool::Open;
+use oth_pool::{Gate, Open};
 use oth_text::{FromRead, Sink, Source, ToWrite};
+use std::alloc::Global;
 use std::env::Env;
 use std::fs::File;
 use std::io::{ErrorKind, IsTerminal, Read, Write};
@@ -30,25 +31,43 @@ const DEVICE_FAULT: u8 = 1;
 // Status 2: the words of the command line can't be obeyed.
 const COMMAND_LINE_FAULT: u8 = 2;
 
+// What the words are obeyed with.
+#[derive(Clone, Copy)]
+struct Means<'m, T, G> {
+    rt: &'m T,
+    // Hears of each part of a search.
+    gate: &'m G,
+}
+
+// A run on a terminal that shows how far it is.
+#[derive(Clone, Copy)]
+struct Watched<'m, T, S> {
+    rt: &'m T,
+    watch: &'m Watch<S>,
+}
+
 // Obeys the words of the command line.
 fn main(rt: HostRuntime) -> ExitCode {
     let mut reader = FromRead::new(rt.stdin());
-    let mut writer = ToWrite::new(rt.stdout());
     let mut errors = Errors::new(ToWrite::new(rt.stderr()), rt.stderr().is_terminal());
     let status = match words(&rt) {
-        Ok(words) => obey_and_explain(&rt, &words, &mut reader, &mut writer, &mut errors),
+        Ok(words) => {
+            if errors.is_terminal {
+                let watch = Watch::on(ToWrite::new(rt.stderr()));
+                let mut report = Report::of(&rt, &watch, ToWrite::new(rt.stdout()));
+                obey_watched(&watch, &words, &mut reader, &mut report, &mut errors)
+            } else {
+                let mut writer = ToWrite::new(rt.stdout());
+                obey_unwatched(&rt, &words, &mut reader, &mut writer, &mut errors)
+            }
+        }
         Err(status) => status,
     };
     ExitCode::from(status)
 }
 
-// Does what the words ask for, and tells why it ended, where the error output is a terminal.
-fn obey_and_explain<
-    T: Wait + Threads + Clock + Sync + Files + AllocGlobal,
-    R: Read + Send,
-    W: Write + Send,
-    E: Sink + Send,
->(
+// Does what the words ask for, where nobody watches.
+fn obey_unwatched<T: Wait + Threads + Sync + Files + AllocGlobal, R: Read, W: Write, E: Sink>(
     rt: &T,
     words: &Words,
     reader: &mut FromRead<R>,
@@ -58,14 +77,80 @@ fn obey_and_explain<
     requires reader { ⟦<FromRead<R> as Source>⟧.failed reader.old ≡ false }
     requires writer { ⟦<ToWrite<W> as Sink>⟧.failed writer.old ≡ false }
 {
-    let status = obey(rt, words, reader, writer, errors);
+    let means = Means { rt, gate: &Open };
+    let status = obey(&means, words, reader, writer, errors);
+    explain(rt.alloc(), words, reader, writer, errors);
+    status
+}
+
+// Does what the words ask for, and shows how far it is on a terminal.
+fn obey_watched<
+    'w,
+    T: Wait + Threads + Clock + Sync + Files + AllocGlobal,
+    R: Read,
+    W: Write,
+    S: Sink + Send,
+    E: Sink,
+>(
+    watch: &Watch<S>,
+    words: &Words,
+    reader: &mut FromRead<R>,
+    report: &mut Report<'w, T, ToWrite<W>, S>,
+    errors: &mut Errors<E>,
+) -> u8
+    requires reader { ⟦<FromRead<R> as Source>⟧.failed reader.old ≡ false }
+    requires writer { ⟦<Report<'w, T, ToWrite<W>, S> as Sink>⟧.failed report.old ≡ false }
+{
+    let rt = report.runtime();
+    let watched = Watched { rt, watch };
+    let status = obey_beside(&watched, words, reader, report, errors);
+    explain(rt.alloc(), words, reader, report.writer(), errors);
+    status
+}
+
+// Does what the words ask for, while the terminal shows how far it is.
+fn obey_beside<
+    T: Wait + Threads + Clock + Sync + Files + AllocGlobal,
+    R: Source,
+    W: Sink,
+    S: Sink + Send,
+    E: Sink,
+>(
+    watched: &Watched<'_, T, S>,
+    words: &Words,
+    reader: &mut R,
+    writer: &mut W,
+    errors: &mut Errors<E>,
+) -> u8
+    requires reader { R.failed reader.old ≡ false }
+    requires writer { W.failed writer.old ≡ false }
+{
+    let rt = watched.rt;
+    let watch = watched.watch;
+    let means = Means {
+        rt,
+        gate: watch.gate(),
+    };
+    let mut obeying = || -> u8
+        requires { (R.failed reader.now ≡ false) × (W.failed writer.now ≡ false) }
+    { obey(&means, words, reader, writer, errors) };
+    watch.beside(rt, rt.alloc(), &mut obeying)
+}
+
+// Tells why the words' work ended, where the error output is a terminal.
+fn explain<R: Read, W: Write, E: Sink>(
+    alloc: Global,
+    words: &Words,
+    reader: &FromRead<R>,
+    writer: &ToWrite<W>,
+    errors: &mut Errors<E>,
+) {
     let scene = Scene {
         file: file_name(words),
         input: reader.failure(),
         output: writer.failure(),
     };
-    errors.explain(rt.alloc(), &scene);
-    status
+    errors.explain(alloc, &scene);
 }
 
 // The name of the file that the words name.
@@ -79,13 +164,8 @@ fn file_name(words: &Words) -> &str {
 }
 
 // Does what the words ask for.
-fn obey<
-    T: Wait + Threads + Clock + Sync + Files + AllocGlobal,
-    R: Source + Send,
-    W: Sink + Send,
-    E: Sink + Send,
->(
-    rt: &T,
+fn obey<T: Wait + Threads + Sync + Files + AllocGlobal, G: Gate, R: Source, W: Sink, E: Sink>(
+    means: &Means<'_, T, G>,
     words: &Words,
     reader: &mut R,
     writer: &mut W,
@@ -94,14 +174,13 @@ fn obey<
     requires reader { R.failed reader.old ≡ false }
     requires writer { W.failed writer.old ≡ false }
 {
+    let rt = means.rt;
     match words {
-        Words::Run(settings, None) => report(rt, settings, None, reader, writer, errors),
-        Words::Run(settings, Some(name)) => {
-            match book_of(rt, settings, name.as_str(), errors) {
-                Ok(book) => report(rt, settings, Some(&book), reader, writer, errors),
-                Err(status) => status,
-            }
-        }
+        Words::Run(settings, None) => report(means, settings, None, reader, writer, errors),
+        Words::Run(settings, Some(name)) => match book_of(rt, settings, name.as_str(), errors) {
+            Ok(book) => report(means, settings, Some(&book), reader, writer, errors),
+            Err(status) => status,
+        },
         Words::Verify(name) => match file_of(rt, name.as_str(), errors) {
             Ok(file) => book_verify(rt, rt.alloc(), file.as_slice(), writer, errors),
             Err(status) => status,
@@ -123,14 +202,9 @@ fn obey<
     }
 }
 
-// Reports the lines of the input, and shows how far that is where the error output is a terminal.
-fn report<
-    T: Wait + Threads + Clock + Sync + AllocGlobal,
-    R: Source + Send,
-    W: Sink + Send,
-    E: Sink + Send,
->(
-    rt: &T,
+// Reports the lines of the input.
+fn report<T: Wait + Threads + Sync + AllocGlobal, G: Gate, R: Source, W: Sink, E: Sink>(
+    means: &Means<'_, T, G>,
     settings: &Settings,
     book: Option<&Book>,
     reader: &mut R,
@@ -140,13 +214,8 @@ fn report<
     requires reader { R.failed reader.old ≡ false }
     requires writer { W.failed writer.old ≡ false }
 {
-    let ended = if errors.is_terminal {
-        let terminal = &mut errors.sink;
-        run_showing(rt, rt.alloc(), reader, writer, settings, book, terminal)
-    } else {
-        run(rt, rt.alloc(), reader, writer, settings, &Open, book)
-    };
-    match ended {
+    let rt = means.rt;
+    match run(rt, rt.alloc(), reader, writer, settings, means.gate, book) {
         Ok(()) => DONE,
         Err(fault) => print_run_fault(fault, errors),
     }
