@@ -24,7 +24,7 @@ It tests, in each document and, where it says so, in the code:
 - of each file of code: that its first line is a head (`//!`), and that no line is longer than 120 characters;
 - that the tables and the plot of the measured figures are those of bench/figures.txt (`bench/plot.py --check`), and that a plain Rust
   copy of the search can be made (`bench/plain.py --check`);
-- that the version is the same in the code, docs/FORMATS.md, the man page and hostile/statuses.py;
+- that the version is the same in the code, docs/FORMATS.md, the man page, the C header and hostile/statuses.py;
 - that groff, where there is one, shows the man page without a warning.
 """
 import os
@@ -443,7 +443,13 @@ def test_headline():
 def test_version():
     code = (ROOT / "crates/oth_words/src/command_line.rt").read_text(encoding="utf-8")
     version = re.search(r'const VERSION: &str = "(.*)";', code).group(1)
-    for name, text in (("docs/FORMATS.md", "`othsolve {}`"), ("docs/othsolve.1", '"Pahkrin {}"'), ("hostile/statuses.py", 'b"othsolve {}\\n"')):
+    places = {
+        "docs/FORMATS.md": "`othsolve {}`",
+        "docs/othsolve.1": '"Pahkrin {}"',
+        "include/othsolve.h": '#define OTHSOLVE_VERSION "{}"\n',
+        "hostile/statuses.py": 'b"othsolve {}\\n"',
+    }
+    for name, text in places.items():
         test(text.format(version) in (ROOT / name).read_text(encoding="utf-8"), f"{name}: the version isn't {version}")
 
 

@@ -5,7 +5,7 @@
 
 CRATES is the folder of the crates, `crates` if not given. Each step is a line, `ok` or `FAILED` and its name, and after a failure what is
 wrong. With words only the steps are run whose part is one of them: `statuses`, `flow`, `limits`, `seen`, `terminal`, `progress`,
-`differential`, `recipes`, `refusals`, `c_library`. The last line is `N passed, M failed`; the exit status is 1 where a step failed.
+`differential`, `recipes`, `refusals`, `c_library`, `installed`. The last line is `N passed, M failed`; the exit status is 1 where a step failed.
 """
 import os
 import subprocess
@@ -14,6 +14,7 @@ import sys
 import c_library
 import differential
 import flow
+import installed
 import limits
 import progress
 import recipes
@@ -37,6 +38,7 @@ def steps(crates, parts):
         "recipes": lambda: recipes.steps(program),
         "refusals": lambda: refusals.steps(crates),
         "c_library": lambda: c_library.steps(crates),
+        "installed": lambda: installed.steps(crates),
     }
     for part in parts or every:
         try:

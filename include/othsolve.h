@@ -17,7 +17,8 @@
  * 1. A pointer leads to memory of the named type, which lives until the call returns. It is never null, also where the
  *    length beside it is 0. A text is a pointer and the number of its bytes, which the call reads; a buffer is a pointer
  *    and the number of its bytes, which the call may write, and which hold some value before. No text ends with a NUL.
- * 2. What a call may write, no other pointer of that call leads to, and no other thread reads or writes meanwhile.
+ * 2. What a call may write, no other pointer of that call leads to, and no other thread reads or writes meanwhile. Boards
+ *    and positions go by value: oth_play(x, square, &x) is allowed, and writes the board after the move over x.
  * 3. The program's malloc, realloc and free are of one allocator, which aligns as C asks. Only oth_solve_alone uses them.
  * 4. No call is made from a signal handler, or from the forked child of a process with threads.
  * 5. A thread that calls oth_solve_alone has 1 MB of stack. The other calls need a few kilobytes.
@@ -25,6 +26,10 @@
  * Threads   No call starts a thread, waits, takes a lock, prints, or keeps anything for a later call. A program may call
  *           from as many threads of its own as it likes, at the same time, each call with memory of its own.
  * Build     cc -O2 -I. worked.c libothsolve.a -o worked             (x86-64-v2: with SSE4.2 and POPCNT; no other library)
+ *           Where `./install PREFIX` put it: cc -O2 worked.c $(pkg-config --cflags --libs othsolve) -o worked, with
+ *           PREFIX/lib/pkgconfig in PKG_CONFIG_PATH, or else -I PREFIX/include -L PREFIX/lib -lothsolve. That takes the
+ *           shared object, which the program has to find when it runs (ldconfig, LD_LIBRARY_PATH or -Wl,-rpath). For the
+ *           archive name the file: PREFIX/lib/libothsolve.a in place of -lothsolve.
  */
 #ifndef OTHSOLVE_H
 #define OTHSOLVE_H
@@ -35,6 +40,9 @@
 #ifdef __cplusplus
 extern "C" {
 #endif
+
+/* The version of this header and its library, as `othsolve --version` prints it. */
+#define OTHSOLVE_VERSION "0.1.0"
 
 /* What a call returns. */
 enum {

@@ -1,0 +1,34 @@
+#compdef othsolve
+# Completion of othsolve for zsh. ./install puts it into PREFIX/share/zsh/site-functions as _othsolve.
+
+# The commands, and what each is for. One with options or a FILE has a case below too.
+local -a commands=(
+    'solve:write the score and all best moves of each board line of standard input'
+    'moves:write all legal moves of each board line of standard input'
+    'transcript:write the board line that each transcript of standard input leads to'
+    'book-verify:verify every entry of a book'
+    'book-add:write a book with the answers to the board lines of standard input added'
+)
+
+local -a search=(
+    '--workers[threads that search one board together]:workers:({1..16})'
+    '--cells[cells of 32 bytes of the table that they share]:cells:(0 1 2 4 8 16 32 64 128 256 512 1024 2048 4096 8192 16384 32768 65536 131072 262144)'
+)
+local -a scoring=('--scoring[what a finished game is worth]:scoring:((winner\:"empty squares go to the winner" discs\:"the difference of the discs alone"))')
+local -a book=('--book[a book that is asked first]:book:_files')
+local -a help=('(- *)'{-h,--help}'[print help]')
+
+local curcontext=$curcontext state line
+_arguments -C $help '(- *)'{-V,--version}'[print the version]' '1:command:->command' '*::argument:->argument'
+case $state in
+    command) _describe command commands -- '(help:print\ help)' ;;
+    argument)
+        case $words[1] in
+            solve) _arguments $help $search $scoring $book ;;
+            book-verify) _arguments $help '1:book:_files' ;;
+            book-add) _arguments $help $search '1:book:_files' ;;
+            help) _describe command commands ;;
+            *) _arguments $help ;;
+        esac
+        ;;
+esac

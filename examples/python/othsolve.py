@@ -1,0 +1,289 @@
+"""Othello's rules, its solver and its texts for Python, by `ctypes` over the shared object that `./install` makes. Nothing else is needed.
+
+    from othsolve import Board, solve_all
+
+    board = Board.of_line("--OXOOO-OOOOOOOOOOOOOOOOOOOOOOOOOOOOOOOOOOOOOOOOOOOOOOOOOOOOOOOO X")
+    answer = board.solve()
+    print(answer.score, answer.best)            # -50 ('h1',)
+    print(Board.of_transcript("f5d6").moves())  # ('c3', 'c4', 'c5', 'c6', 'c7')
+    for answer in solve_all([board.play(move) for move in board.moves()]):
+        print(-answer.score)
+
+The library is the file that the variable OTHSOLVE_LIBRARY names, or else the `libothsolve.so.0` that the system finds (in /usr/local/lib once
+`ldconfig` has run, or in a folder of LD_LIBRARY_PATH). Squares are names, "a1" to "h8". What is refused is a `Refused`, which is a `ValueError`.
+"""
+from __future__ import annotations
+
+import ctypes
+import enum
+import os
+from collections import deque
+from collections.abc import Iterable, Iterator
+from concurrent.futures import Future, ThreadPoolExecutor
+from dataclasses import dataclass
+
+__all__ = ["Answer", "Board", "Kind", "MOST_EMPTIES", "Refused", "Scoring", "Side", "solve_all"]
+
+MOST_EMPTIES = 30
+"""A board with more empty squares is not solved."""
+
+_BOARD_LINE, _MOVES_LINE = 66, 191
+_WAITING_PER_THREAD = 4
+
+# The number of each refusal, and what it says, as in othsolve.h.
+_WORDS = {
+    1: "a square has discs of both sides",
+    2: "the number of the square is 64 or more",
+    3: "the move is illegal",
+    4: "the scoring is neither 0 nor 1",
+    5: "more than 30 squares are empty",
+    6: "the cells are neither 0 nor one of 1, 2, 4 .. 262144",
+    7: "the buffer is too short",
+    8: "the mover is neither 0 nor 1",
+    11: "a board line has 66 bytes",
+    12: "byte `place`, 1 to 64, is none of 'X', 'O' and '-'; it is the leftmost such byte",
+    13: "byte 65 is no space",
+    14: "byte 66 is neither 'X' nor 'O'",
+    21: "the number of bytes is odd",
+    22: "pair `place`, counted from 1, is no letter from a to h and a digit from 1 to 8",
+    23: "the move of pair `place` is illegal",
+    24: "the game is over before pair `place`",
+}
+_SQUARE, _CELLS = 2, 6
+
+
+class Refused(ValueError):
+    """A call was refused: `code` is the number of the refusal in othsolve.h, `place` the byte or the pair that is at fault, or None."""
+
+    def __init__(self, code: int, place: int | None = None) -> None:
+        self.code = code
+        self.place = place or None
+        super().__init__(_WORDS.get(code, f"refusal {code}").replace("`place`", str(self.place)))
+
+
+class Scoring(enum.IntEnum):
+    """What a finished game is worth: by WINNER the squares that stay empty go to the winner, by DISCS to nobody."""
+
+    WINNER = 0
+    DISCS = 1
+
+
+class Kind(enum.IntEnum):
+    """What the side to move does: it moves, it passes, or the game is over."""
+
+    MOVE = 0
+    PASS = 1
+    END = 2
+
+
+class Side(enum.IntEnum):
+    """Black is X in a board line, White is O."""
+
+    BLACK = 0
+    WHITE = 1
+
+    @property
+    def other(self) -> Side:
+        return Side(1 - self)
+
+
+class _Board(ctypes.Structure):
+    _fields_ = [("own", ctypes.c_uint64), ("opp", ctypes.c_uint64)]
+
+
+class _Position(ctypes.Structure):
+    _fields_ = [("board", _Board), ("mover", ctypes.c_uint8)]
+
+
+class _Answer(ctypes.Structure):
+    _fields_ = [("best", ctypes.c_uint64), ("score", ctypes.c_int8), ("kind", ctypes.c_uint8)]
+
+
+def _library() -> ctypes.CDLL:
+    """The library, with the types of its calls. `ctypes.CDLL` lets other threads of Python run while a call lasts."""
+    library = ctypes.CDLL(os.environ.get("OTHSOLVE_LIBRARY", "libothsolve.so.0"))
+    words, place = ctypes.POINTER(ctypes.c_uint64), ctypes.POINTER(ctypes.c_uint8)
+    calls = {
+        "oth_moves": [_Board, words],
+        "oth_flips": [_Board, ctypes.c_uint8, words],
+        "oth_play": [_Board, ctypes.c_uint8, ctypes.POINTER(_Board)],
+        "oth_solve_alone": [_Board, ctypes.c_uint8, ctypes.c_uint32, ctypes.POINTER(_Answer)],
+        "oth_read_board": [ctypes.c_char_p, ctypes.c_size_t, ctypes.POINTER(_Position), place],
+        "oth_read_transcript": [ctypes.c_char_p, ctypes.c_size_t, ctypes.POINTER(_Position), place],
+        "oth_print_board": [_Position, ctypes.c_char_p, ctypes.c_size_t],
+        "oth_print_moves": [_Board, ctypes.c_char_p, ctypes.c_size_t, ctypes.POINTER(ctypes.c_size_t)],
+    }
+    for name, types in calls.items():
+        call = getattr(library, name)
+        call.argtypes, call.restype = types, ctypes.c_uint32
+    return library
+
+
+_LIB = _library()
+
+
+def _done(code: int, place: int | None = None) -> None:
+    if code:
+        raise Refused(code, place)
+
+
+def _names(squares: int) -> tuple[str, ...]:
+    """The names of the squares of a word, rising from a1 along the rows."""
+    return tuple(f"{'abcdefgh'[square % 8]}{square // 8 + 1}" for square in range(64) if squares >> square & 1)
+
+
+def _number(square: str) -> int:
+    """The number of a square, which is told by its name."""
+    if len(square) != 2 or square[0] not in "abcdefgh" or square[1] not in "12345678":
+        raise ValueError(f"{square!r} is no square: it is a letter from a to h and a digit from 1 to 8")
+    return 8 * (ord(square[1]) - ord("1")) + ord(square[0]) - ord("a")
+
+
+@dataclass(frozen=True)
+class Answer:
+    """What a board is worth to its side to move, -64 to 64, where both sides play best; all best moves; and what that side does."""
+
+    score: int
+    best: tuple[str, ...]
+    kind: Kind
+
+    def __str__(self) -> str:
+        """The report line, as `othsolve solve` writes it."""
+        return f"{self.score:+d} {' '.join(self.best) or self.kind.name.lower()}"
+
+
+@dataclass(frozen=True)
+class Board:
+    """A board as its side to move sees it: `own` has that side's discs and `opp` the other's, bit n for square n (a1 is 0, h1 is 7, h8 is 63).
+
+    Any two words of 64 bits that share none are a board, whether or not a game reaches it.
+    """
+
+    own: int
+    opp: int
+    mover: Side = Side.BLACK
+
+    def __post_init__(self) -> None:
+        if not (0 <= self.own < 1 << 64 and 0 <= self.opp < 1 << 64):
+            raise ValueError("discs are a word of 64 bits")
+        if self.own & self.opp:
+            raise Refused(1)
+        object.__setattr__(self, "mover", Side(self.mover))
+
+    @classmethod
+    def start(cls) -> Board:
+        """The start of a game."""
+        return cls.of_transcript("")
+
+    @classmethod
+    def of_line(cls, text: str) -> Board:
+        """The board of a board line: 64 cells row by row from a1 (X, O or -), a space, and who moves. A newline behind it is left out."""
+        return cls._read(_LIB.oth_read_board, text.removesuffix("\n"))
+
+    @classmethod
+    def of_transcript(cls, text: str) -> Board:
+        """The board that moves lead to from the start of a game, as "f5d6c3". Forced passes are not written, and are put in."""
+        return cls._read(_LIB.oth_read_transcript, text.removesuffix("\n"))
+
+    @classmethod
+    def _read(cls, call, text: str) -> Board:
+        line = text.encode("utf-8", "replace")
+        position, place = _Position(), ctypes.c_uint8()
+        code = call(line, len(line), ctypes.byref(position), ctypes.byref(place))
+        _done(code, place.value)
+        return cls(position.board.own, position.board.opp, Side(position.mover))
+
+    @property
+    def _words(self) -> _Board:
+        return _Board(self.own, self.opp)
+
+    @property
+    def empties(self) -> int:
+        """How many squares are empty."""
+        return 64 - (self.own | self.opp).bit_count()
+
+    def moves(self) -> tuple[str, ...]:
+        """The legal moves, rising. There are none where the side passes or the game is over."""
+        moves = ctypes.c_uint64()
+        _done(_LIB.oth_moves(self._words, ctypes.byref(moves)))
+        return _names(moves.value)
+
+    def kind(self) -> Kind:
+        """What the side to move does."""
+        if self.moves():
+            return Kind.MOVE
+        return Kind.PASS if self._passed().moves() else Kind.END
+
+    def flips(self, square: str) -> tuple[str, ...]:
+        """The discs that a move to the square flips: none exactly where it is illegal."""
+        flips = ctypes.c_uint64()
+        _done(_LIB.oth_flips(self._words, _number(square), ctypes.byref(flips)))
+        return _names(flips.value)
+
+    def play(self, square: str) -> Board:
+        """The board after a move to the square, as the other side sees it. An illegal move is refused."""
+        after = _Board()
+        _done(_LIB.oth_play(self._words, _number(square), ctypes.byref(after)))
+        return Board(after.own, after.opp, self.mover.other)
+
+    def pass_turn(self) -> Board:
+        """The board after a pass. It is a ValueError where the side has a move, or the game is over."""
+        kind = self.kind()
+        if kind is not Kind.PASS:
+            raise ValueError("the side to move has a move" if kind is Kind.MOVE else "the game is over")
+        return self._passed()
+
+    def _passed(self) -> Board:
+        return Board(self.opp, self.own, self.mover.other)
+
+    def solve(self, scoring: Scoring = Scoring.WINNER, cells: int = 65_536) -> Answer:
+        """The score, all best moves and the kind of a board of at most MOST_EMPTIES empty squares.
+
+        The search makes a table of so many cells of 32 bytes, and frees it: 0 for none, or 1, 2, 4 .. 262144. It changes the time alone.
+        Nothing ends a search early: one of 20 empty squares takes seconds, one of 26 minutes, and Ctrl-C is heard when it is done.
+        """
+        if not 0 <= cells < 1 << 32:
+            raise Refused(_CELLS)
+        answer = _Answer()
+        _done(_LIB.oth_solve_alone(self._words, Scoring(scoring), cells, ctypes.byref(answer)))
+        return Answer(answer.score, _names(answer.best), Kind(answer.kind))
+
+    def line(self) -> str:
+        """The board line."""
+        line = ctypes.create_string_buffer(_BOARD_LINE)
+        _done(_LIB.oth_print_board(_Position(self._words, self.mover), line, _BOARD_LINE))
+        return line.raw.decode()
+
+    def moves_line(self) -> str:
+        """The names of the legal moves with a space between them, or "pass", or "end"."""
+        line, written = ctypes.create_string_buffer(_MOVES_LINE), ctypes.c_size_t()
+        _done(_LIB.oth_print_moves(self._words, line, _MOVES_LINE, ctypes.byref(written)))
+        return line.raw[: written.value].decode()
+
+    def __str__(self) -> str:
+        """Eight rows, X black and O white, below the letters of the columns."""
+        cells = self.line()
+        rows = (f"{row + 1} {' '.join(cells[8 * row : 8 * row + 8])}" for row in range(8))
+        return "\n".join(["  a b c d e f g h", *rows])
+
+
+def solve_all(
+    boards: Iterable[Board], threads: int | None = None, scoring: Scoring = Scoring.WINNER, cells: int = 65_536
+) -> Iterator[Answer]:
+    """The answers of many boards, in their order, each solved by one of so many threads: as many as there are processors if none are named.
+
+    Boards are taken a few ahead of the answers, so an endless iterable is no harm. A board that is refused raises its Refused in its turn.
+    """
+    threads = threads or os.cpu_count() or 1
+    waiting: deque[Future[Answer]] = deque()
+    with ThreadPoolExecutor(threads) as pool:
+        try:
+            for board in boards:
+                waiting.append(pool.submit(board.solve, scoring, cells))
+                if len(waiting) >= _WAITING_PER_THREAD * threads:
+                    yield waiting.popleft().result()
+            while waiting:
+                yield waiting.popleft().result()
+        finally:
+            for future in waiting:
+                future.cancel()
