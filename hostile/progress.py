@@ -16,7 +16,7 @@ MOST = 65_536
 # Boards that take no time, and between them one that takes some seconds by one worker and by four: its mover wins by SCORE.
 QUICK = "-OXXXXO-XXXXXXXXXXXXXXXXXXXXXXXXXXXXXXXXXXXXXXXXXXXXXXXXXXXXXXXX X"
 QUICK_ANSWER = "+64 a1 h1"
-LONG = "@LONG@"
+LONG = "--O--------O-X--OOOOOO-OOOXXO-OX-XOXOOXOXXOOOXO--XXOXO-O--XXX--- X"
 LONG_EMPTIES = LONG.count("-")
 BOARDS = f"{QUICK}\n{LONG}\n{QUICK}\n".encode()
 SHOWN = re.compile(rf"line 2: {LONG_EMPTIES} empty squares(?:, (\d+) of (\d+) moves settled, ([+-]\d+) to ([+-]\d+))?, (\d+) s")

@@ -270,12 +270,7 @@ fn answer_together<'t, R: Threads + Sync, G: Gate>(
     let children = children_of(scene, replies.as_slice(), &mut walk);
     let root = by_book.joined(&walk.root());
     let mut cells = walk.into_cells();
-    Some(solve_moves(
-        root,
-        children.as_slice(),
-        &mut cells,
-        &mut Unobserved,
-    ))
+    Some(solve_moves(root, children.as_slice(), &mut cells, &mut Unobserved))
 }
 
 // A floor of the board that is as high as what the book tells of it, and its first seat; none where there is no memory.
