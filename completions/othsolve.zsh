@@ -11,11 +11,11 @@ local -a commands=(
 )
 
 local -a search=(
-    '--workers[threads that search one board together]:workers:({1..16})'
-    '--cells[cells of 32 bytes of the table that they share]:cells:(0 1 2 4 8 16 32 64 128 256 512 1024 2048 4096 8192 16384 32768 65536 131072 262144)'
+    '--workers=[threads that search one board together]:workers:({1..16})'
+    '--cells=[cells of 32 bytes of the table that they share]:cells:(0 1 2 4 8 16 32 64 128 256 512 1024 2048 4096 8192 16384 32768 65536 131072 262144)'
 )
-local -a scoring=('--scoring[what a finished game is worth]:scoring:((winner\:"empty squares go to the winner" discs\:"the difference of the discs alone"))')
-local -a book=('--book[a book that is asked first]:book:_files')
+local -a scoring=('--scoring=[what a finished game is worth]:scoring:((winner\:"empty squares go to the winner" discs\:"the difference of the discs alone"))')
+local -a book=('--book=[a book that is asked first]:book:_files')
 local -a help=('(- *)'{-h,--help}'[print help]')
 
 local curcontext=$curcontext state line

@@ -8,6 +8,7 @@ import re
 import shutil
 import sys
 import tempfile
+import textwrap
 
 import c_library
 import minimax
@@ -301,6 +302,7 @@ def python(prefix):
     given, wanted = (c_library.text_of(column) for column in zip(*rows))
     yield f"{len(rows)} expressions in Python", c_library.ran_wrong([sys.executable, "-c", EVALUATES], given, wanted, env=told)
     yield "each refusal says in Python what the header says", refusals_differ(told)
+    yield from python_shown(told)
     boards = list(minimax.boards(THREADS_SEED, THREADS_BOARDS, THREADS_EMPTIES))
     lines = c_library.text_of(minimax.board_line(*board) for board in boards)
     reports = list(zip(*(minimax.reports(*board) for board in boards)))
@@ -321,6 +323,24 @@ def python(prefix):
     unfound = ran(analyse, b"", env={**told, "OTHSOLVE_LIBRARY": f"{prefix}/nowhere.so"})
     right = unfound.status == 1 and f"{prefix}/nowhere.so".encode() in unfound.said.splitlines()[-1]
     yield "a library that isn't there is named", None if right else f"{unfound}"
+
+
+def python_shown(told):
+    """What the head of the module and docs/LIBRARY.md show of Python, run as it stands there."""
+    head, page = read(f"{PYTHON}/othsolve.py"), read(f"{TOP}/docs/LIBRARY.md").split("## From Python\n")[1]
+    code, wanted = block_behind("Nothing else is needed.", head), block_behind("This prints", head)
+    yield "what the Python module's head shows", c_library.ran_wrong([sys.executable, "-c", code], "", wanted, env=told)
+    shown = page.split("```python\n")[1].split("```")[0], block_behind("It prints", page)
+    yield "docs/LIBRARY.md shows the same", differs(shown, (code, wanted))
+    analyse, game = [sys.executable, f"{PYTHON}/analyse.py", "--empties", "5"], read(f"{TOP}/examples/games.txt").splitlines(True)[0]
+    wanted = block_behind("analyse.py --empties 5", page)
+    yield "the analysis that docs/LIBRARY.md shows", c_library.ran_wrong(analyse, game, wanted, env=told)
+
+
+def block_behind(mark, text):
+    """The indented lines behind a line that ends so."""
+    block = re.search(rf"{re.escape(mark)}\n\n((?:    .*\n|\n(?=    ))+)", text)[1]
+    return textwrap.dedent(block)
 
 
 def refusals_differ(told):

@@ -4,13 +4,20 @@
 
     board = Board.of_line("--OXOOO-OOOOOOOOOOOOOOOOOOOOOOOOOOOOOOOOOOOOOOOOOOOOOOOOOOOOOOOO X")
     answer = board.solve()
-    print(answer.score, answer.best)            # -50 ('h1',)
-    print(Board.of_transcript("f5d6").moves())  # ('c3', 'c4', 'c5', 'c6', 'c7')
-    for answer in solve_all([board.play(move) for move in board.moves()]):
-        print(-answer.score)
+    print(answer.score, answer.best)
+    for move, reply in zip(board.moves(), solve_all(board.play(move) for move in board.moves())):
+        print(move, -reply.score)
 
-The library is the file that the variable OTHSOLVE_LIBRARY names, or else the `libothsolve.so.0` that the system finds (in /usr/local/lib once
-`ldconfig` has run, or in a folder of LD_LIBRARY_PATH). Squares are names, "a1" to "h8". What is refused is a `Refused`, which is a `ValueError`.
+This prints
+
+    -50 ('h1',)
+    b1 -64
+    h1 -50
+
+Squares are names, "a1" to "h8". What is refused is a `Refused`, which is a `ValueError`. The library is the file that the variable OTHSOLVE_LIBRARY
+names, or else the `libothsolve.so.0` that the system finds (in /usr/local/lib once `ldconfig` has run, or in a folder of LD_LIBRARY_PATH). While a call
+lasts, other threads of Python run. A thread that solves needs 1 MB of stack, which it has unless `threading.stack_size` asked for less. A process with
+threads that is forked makes no call in its child: of `multiprocessing` use the start method "spawn". It needs Python 3.10 or later.
 """
 from __future__ import annotations
 
@@ -240,7 +247,8 @@ class Board:
         """The score, all best moves and the kind of a board of at most MOST_EMPTIES empty squares.
 
         The search makes a table of so many cells of 32 bytes, and frees it: 0 for none, or 1, 2, 4 .. 262144. It changes the time alone.
-        Nothing ends a search early: one of 20 empty squares takes seconds, one of 26 minutes, and Ctrl-C is heard when it is done.
+        Nothing ends a search early, and Ctrl-C is heard when it is done. Some tenths of a second at 18 empty squares become five to six times as much
+        with every two more.
         """
         if not 0 <= cells < 1 << 32:
             raise Refused(_CELLS)
