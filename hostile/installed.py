@@ -5,6 +5,7 @@ isn't, the files are compared and no program is asked.
 """
 import os
 import re
+import shlex
 import shutil
 import sys
 import tempfile
@@ -112,13 +113,13 @@ Board.start().play("a1") | Refused: the move is illegal
 Board.start().play("i1") | ValueError: 'i1' is no square: it is a letter from a to h and a digit from 1 to 8
 Board(1, 1) | Refused: a square has discs of both sides
 Board(1 << 64, 0) | ValueError: discs are a word of 64 bits
-Board.of_line("x" + A[1:]) | Refused: byte 1, 1 to 64, is none of 'X', 'O' and '-'; it is the leftmost such byte
+Board.of_line("x" + A[1:]) | Refused: byte 1 is none of 'X', 'O' and '-'; it is the leftmost such byte
 Board.of_line(A[1:]) | Refused: a board line has 66 bytes
 Board.of_line(A[:64] + "-X") | Refused: byte 65 is no space
 Board.of_line(A[:65] + "x") | Refused: byte 66 is neither 'X' nor 'O'
 Board.of_transcript("f5d") | Refused: the number of bytes is odd
 Board.of_transcript("f5d6a1") | Refused: the move of pair 3 is illegal
-Board.of_transcript("f5i9") | Refused: pair 2, counted from 1, is no letter from a to h and a digit from 1 to 8
+Board.of_transcript("f5i9") | Refused: pair 2 is no letter from a to h and a digit from 1 to 8
 Board.of_transcript("e6f4e3f6g5d6e7f5c5a1") | Refused: the game is over before pair 10
 """
 EVALUATES = """
@@ -258,7 +259,7 @@ def flags_by_hand(prefix):
         pair = re.fullmatch(r"(\w+)(=|: )(.*)", line)
         if pair:
             names[pair[1]] = re.sub(r"\$\{(\w+)\}", lambda name: names[name[1]], pair[3])
-    return [*names["Cflags"].split(), *names["Libs"].split()], names["libdir"], names["Version"]
+    return [*shlex.split(names["Cflags"]), *shlex.split(names["Libs"])], names["libdir"], names["Version"]
 
 
 def flags(prefix):
@@ -268,7 +269,7 @@ def flags(prefix):
     told = {**os.environ, "PKG_CONFIG_PATH": f"{prefix}/lib/pkgconfig"}
     asked = (["--cflags", "--libs"], ["--variable=libdir"], ["--modversion"])
     words, folder, version = (ran(["pkg-config", *ask, "othsolve"], env=told).wrote.decode().strip() for ask in asked)
-    return words.split(), folder, version
+    return shlex.split(words), folder, version
 
 
 def c_programs(folder, prefix):
@@ -435,6 +436,7 @@ def again_and_away(folder, prefix, crates):
     os.makedirs(f"{mine}/lib")
     found = ran([INSTALL, mine, crates])
     yield "an installation below a name with a space", differs((found.status, files(mine)), (0, FILES))
+    yield "othsolve.pc names it as one word", differs(flags(mine)[0], [f"-I{mine}/include", f"-L{mine}/lib", "-lothsolve"])
     found = ran([INSTALL, "--uninstall", mine])
     yield "nothing is left but the folder that was there", differs((found.status, os.listdir(mine), files(mine)), (0, ["lib"], []))
 

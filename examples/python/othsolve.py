@@ -24,6 +24,7 @@ from __future__ import annotations
 import ctypes
 import enum
 import os
+import re
 from collections import deque
 from collections.abc import Iterable, Iterator
 from concurrent.futures import Future, ThreadPoolExecutor
@@ -56,7 +57,9 @@ _WORDS = {
     23: "the move of pair `place` is illegal",
     24: "the game is over before pair `place`",
 }
-_SQUARE, _CELLS = 2, 6
+_CELLS = 6
+# What stands for the place in these words, with what is said of it.
+_PLACE = "`place`(, (1 to 64|counted from 1),)?"
 
 
 class Refused(ValueError):
@@ -65,7 +68,7 @@ class Refused(ValueError):
     def __init__(self, code: int, place: int | None = None) -> None:
         self.code = code
         self.place = place or None
-        super().__init__(_WORDS.get(code, f"refusal {code}").replace("`place`", str(self.place)))
+        super().__init__(re.sub(_PLACE, str(self.place), _WORDS.get(code, f"refusal {code}")))
 
 
 class Scoring(enum.IntEnum):
@@ -108,7 +111,10 @@ class _Answer(ctypes.Structure):
 
 def _library() -> ctypes.CDLL:
     """The library, with the types of its calls. `ctypes.CDLL` lets other threads of Python run while a call lasts."""
-    library = ctypes.CDLL(os.environ.get("OTHSOLVE_LIBRARY", "libothsolve.so.0"))
+    try:
+        library = ctypes.CDLL(os.environ.get("OTHSOLVE_LIBRARY", "libothsolve.so.0"))
+    except OSError as error:
+        raise ImportError(f"{error} (./install makes the library; OTHSOLVE_LIBRARY names it where the system doesn't find it)") from error
     words, place = ctypes.POINTER(ctypes.c_uint64), ctypes.POINTER(ctypes.c_uint8)
     calls = {
         "oth_moves": [_Board, words],
@@ -282,7 +288,7 @@ def solve_all(
 
     Boards are taken a few ahead of the answers, so an endless iterable is no harm. A board that is refused raises its Refused in its turn.
     """
-    threads = threads or os.cpu_count() or 1
+    threads = os.cpu_count() or 1 if threads is None else threads
     waiting: deque[Future[Answer]] = deque()
     with ThreadPoolExecutor(threads) as pool:
         try:
