@@ -24,7 +24,7 @@ It tests, in each document and, where it says so, in the code:
 - of each file of code: that its first line is a head (`//!`), and that no line is longer than 120 characters;
 - that the tables and the plot of the measured figures are those of bench/figures.txt (`bench/plot.py --check`), and that a plain Rust
   copy of the search can be made (`bench/plain.py --check`);
-- that the version is the same in the code, docs/FORMATS.md, the man page, the C header and hostile/statuses.py;
+- that the version is the same in the code, docs/FORMATS.md, the man page, the C header and two parts of hostile;
 - that groff, where there is one, shows the man page without a warning.
 """
 import os
@@ -36,7 +36,7 @@ import sys
 
 ROOT = pathlib.Path(__file__).resolve().parent.parent
 WIDTH = 120
-FOLDERS = r"crates|docs|bench|examples|hostile|\.ci"
+FOLDERS = r"crates|docs|bench|examples|hostile|completions|include|\.ci"
 ROW = re.compile(r"^\| `([^`]+)` \| \[?`([^`:]+):(\d+)`(?:\]\(([^)]*)\))? \|")
 VALUE = re.compile(r"^\| `([A-Z_]+)` \| `([^`]+)` \| `([^`]+)` \|")
 HEADING = re.compile(r"^(#+) (.*)$")
@@ -447,6 +447,7 @@ def test_version():
         "docs/FORMATS.md": "`othsolve {}`",
         "docs/othsolve.1": '"Pahkrin {}"',
         "include/othsolve.h": '#define OTHSOLVE_VERSION "{}"\n',
+        "hostile/installed.py": 'VERSION = "{}"\n',
         "hostile/statuses.py": 'b"othsolve {}\\n"',
     }
     for name, text in places.items():

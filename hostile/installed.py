@@ -18,15 +18,16 @@ from running import ran
 TOP = c_library.TOP
 INSTALL = f"{TOP}/install"
 PYTHON = f"{TOP}/examples/python"
-SONAME = "libothsolve.so.0"
+VERSION = "0.1.0"
+SONAME = f"libothsolve.so.{VERSION.split('.')[0]}"
 THREADS_SEED, THREADS_BOARDS, THREADS_EMPTIES = 20261125, 200, 6
 ANALYSED_EMPTIES = 7
-FILES = """bin/othsolve
+FILES = f"""bin/othsolve
 include/othsolve.h
 lib/libothsolve.a
 lib/libothsolve.so
-lib/libothsolve.so.0
-lib/libothsolve.so.0.1.0
+lib/{SONAME}
+lib/libothsolve.so.{VERSION}
 lib/pkgconfig/othsolve.pc
 share/bash-completion/completions/othsolve
 share/man/man1/othsolve.1
@@ -58,7 +59,7 @@ int main(void) {
     return 0;
 }
 """
-FRESH_WRITES = f"""othsolve 0.1.0
+FRESH_WRITES = f"""othsolve {VERSION}
 -50 {1 << 7} 0
 ------------------XO------XXX------OXX-----O-------------------- O
 """
