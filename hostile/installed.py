@@ -215,6 +215,8 @@ def refused(folder, crates):
         found = ran([INSTALL, *words])
         right = found.status == status and found.wrote == b"" and said in found.said.decode() and not os.listdir(f"{folder}/empty")
         yield f"install is refused: {name}", None if right else f"{found}"
+    helped = ran([INSTALL, "--help"])
+    yield "install tells its usage", None if helped.status == 0 and helped.wrote.startswith(b"usage: ./install PREFIX") else f"{helped}"
     said = ran([INSTALL, f"{folder}/empty", f"{folder}/no_crates"]).said.decode()
     for crate, command in (("othsolve", "rt run -- --version"), ("oth_c", "rt lib")):
         told = f"(cd {os.path.realpath(folder)}/no_crates/{crate} && {command})"
