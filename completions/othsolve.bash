@@ -40,15 +40,15 @@ _othsolve_line() {
 
 # Reads the words in front of the cursor: sets `command`, and `given`, how many arguments follow it that are neither options nor their values.
 _othsolve_read() {
-    local word skip=
-    command= given=0
+    local word skip=''
+    command='' given=0
     for word in "${COMP_WORDS[@]:1:COMP_CWORD-1}"; do
         case $word in
             -h | --help | -V | --version | = | --*=*) ;;
             -* | *[\<\>]) skip=yes ;;
             *)
                 if [ -n "$skip" ]; then
-                    skip=
+                    skip=''
                 elif [ -z "$command" ]; then
                     command=$word
                 else
