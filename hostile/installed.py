@@ -159,6 +159,16 @@ _othsolve
 [ ${#COMPREPLY[@]} = 0 ] || printf '%s\\n' "${COMPREPLY[@]}"
 """
 
+# Copies as `cp` does, but fails once at the file AT.
+FAILING_CP = """#!/bin/sh
+for last; do :; done
+if [ "$last" = "$AT" ] && [ ! -e "$FAILED" ]; then
+    : > "$FAILED"
+    exit 1
+fi
+exec "$CP" "$@"
+"""
+
 
 def steps(crates):
     """A step for each thing that is asked: its name, and what is wrong, if anything."""
@@ -182,6 +192,7 @@ def steps(crates):
         yield from zsh_completion(prefix)
         yield from again_and_away(folder, prefix, crates)
         yield from below_destdir(folder, crates)
+        yield from without_room(folder, crates)
 
 
 def differs(found, wanted):
@@ -453,3 +464,39 @@ def below_destdir(folder, crates):
     yield "othsolve.pc names PREFIX and not DESTDIR", None if pc.startswith("prefix=/opt/othsolve\n") and "package" not in pc else pc
     found = ran([INSTALL, "--uninstall", "/opt/othsolve"], env=told)
     yield "nothing is left below DESTDIR", differs((found.status, files(f"{folder}/package"), os.listdir(root)), (0, [], []))
+
+
+def without_room(folder, crates):
+    """Where a file can't be written nothing is left, and an earlier installation stays as it was."""
+    prefix, shims, failed = f"{folder}/full", f"{folder}/shims", f"{folder}/failed"
+    os.mkdir(shims)
+    with open(f"{shims}/cp", "w", encoding="utf-8") as file:
+        file.write(FAILING_CP)
+    os.chmod(f"{shims}/cp", 0o755)
+    path = f"{shims}:{os.environ['PATH']}"
+    told = {**os.environ, "PATH": path, "CP": shutil.which("cp"), "FAILED": failed, "AT": f"{prefix}/share/man/man1/othsolve.1"}
+    found = ran([INSTALL, prefix, crates], env=told)
+    right = found.status == 1 and b"nothing was left behind" in found.said and os.path.exists(failed) and not os.listdir(prefix)
+    yield "an installation that can't write a file leaves nothing", None if right else f"{found}, {files(prefix)}"
+    if os.path.exists(failed):
+        os.remove(failed)
+    ran([INSTALL, prefix, crates])
+    with open(f"{prefix}/bin/othsolve", "ab") as file:
+        file.write(b"an earlier one")
+    before = contents(prefix)
+    found = ran([INSTALL, prefix, crates], env=told)
+    right = found.status == 1 and b"the earlier installation is back" in found.said and os.path.exists(failed)
+    yield "one over an earlier one says that it is back", None if right else f"{found}"
+    yield "the earlier one is as it was", None if before and contents(prefix) == before else f"{files(prefix)}"
+    found = ran([INSTALL, "--uninstall", prefix])
+    yield "it can be taken away", differs((found.status, os.listdir(prefix)), (0, []))
+
+
+def contents(folder):
+    """What each file and each link below a folder is, and its mode."""
+    found = {}
+    for name in files(folder):
+        path = f"{folder}/{name}"
+        with open(path, "rb") as file:
+            found[name] = os.readlink(path) if os.path.islink(path) else file.read(), os.lstat(path).st_mode
+    return found
