@@ -1,5 +1,8 @@
 //! Boards whose scores, moves and canonical images are known from outside, and the counts of legal transcripts from
 //! the start.
+
+mod forms;
+
 use oth_rules::{Board, Overlap, Scoring, Square, Sym};
 use std::collections::VecDeque;
 use std::process::Abort;
