@@ -63,7 +63,7 @@ int pthread_create(pthread_t *thread, const pthread_attr_t *attributes, void *(*
 """
 
 
-CRATES = ("oth_book_tests", "oth_pieces_tests", "oth_pool_tests", "oth_batch_tests", "oth_main_tests")
+CRATES = ("oth_table_tests", "oth_book_tests", "oth_pieces_tests", "oth_pool_tests", "oth_batch_tests", "oth_main_tests")
 
 
 class Walk:

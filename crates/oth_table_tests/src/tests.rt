@@ -1,5 +1,8 @@
 //! The worked boards at a table, alone and in threads. By `Winner` A's value is -50, C's and D's are 64.
 //! By `Discs` A's value is -49.
+
+mod refused;
+
 ghost use Rattle.std.specs.Prelude.{◌≡◌, ◌+◌, ◌<◌, IfSome};
 ghost use Rattle.std.specs.Thread.{IsSync};
 ghost use Rattle.oth_table.specs.Calls.{IsSeatOf};
@@ -237,25 +240,6 @@ fn gives_each_board_two_cells(rt: HostRuntime) -> Result<(), Fail> {
     check_found(&rt, &mut cells, &d, Scoring::Winner, Some(32896));
     check_found(&rt, &mut cells, &a, Scoring::Winner, Some(3598));
     check_found(&rt, &mut cells, &c, Scoring::Winner, None);
-    Ok(())
-}
-
-// Where memory is refused, the seat that was there still finds what it stored.
-#[test]
-fn answers_want_of_memory(rt: HostRuntime) -> Result<(), Fail> {
-    let Some(three) = stored_entries() else {
-        panic!(rt; "no entries")
-    };
-    match SharedTable::new(rt.alloc(), 64, Scoring::Winner) {
-        Err(refusal) => assert!(rt; refusal == TableError::Memory),
-        Ok((table, mut seat)) => {
-            assert!(rt; table.put(&mut seat, 5, &three.low) == Put::Stored);
-            if let Err(refusal) = table.seat(rt.alloc(), &mut seat) {
-                assert!(rt; refusal == TableError::Memory);
-            }
-            assert!(rt; bounds(&table.look(&mut seat, 5), A) == Some(3584));
-        }
-    }
     Ok(())
 }
 
