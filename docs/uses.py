@@ -4,8 +4,9 @@
     docs/uses.py [--write]
 
 In front of each block stands a line with the file's name alone, as `crates/oth_uses/src/game.rt`, in backquotes and with a colon. A block has to be
-that file word for word, and each caller of crates/oth_uses, the C example and the header's build line have to be shown. Each problem is a line; the last
-line is `N passed, M failed`, and the exit status is 1 where something failed. With `--write` the blocks are first filled from the files.
+that file word for word, and each caller of crates/oth_uses, the C example and the header's build line have to be shown. The line of `crates.txt` above a
+caller has to name the crates that it uses. Each problem is a line; the last line is `N passed, M failed`, and the exit status is 1 where something failed.
+With `--write` the blocks are first filled from the files.
 """
 import glob
 import os
@@ -15,6 +16,7 @@ import sys
 TOP = os.path.dirname(os.path.dirname(os.path.abspath(__file__)))
 PAGE = "docs/LIBRARY.md"
 BLOCK = re.compile(r"^`([^`\n]+)`:\n\n```(\w+)\n(.*?)^```$", re.MULTILINE | re.DOTALL)
+LINE = re.compile(r"^Its line is `mine: ([^`\n]+)`\.\n\n`([^`\n]+)`:$", re.MULTILINE)
 NOT_SHOWN = ("lib.rt", "tests.rt")
 BUILD = re.compile(r"cc -O2 -I\. worked\.c libothsolve\.a -o worked")
 
@@ -47,6 +49,10 @@ def problems():
             yield f"{PAGE}: there is no {name}"
         else:
             yield None if text == read(name) else f"{PAGE}: the block of {name} is not that file"
+    listed = {line[2]: set(line[1].split()) for line in LINE.finditer(page)}
+    for name in wanted()[:-1]:
+        used = set(re.findall(r"^(?:ghost )?use (?:Rattle\.)?(\w+)", read(name), re.MULTILINE)) - {"std", "crate"}
+        yield None if used <= listed.get(name, set()) else f"{PAGE}: the line of {name} doesn't name each of {', '.join(sorted(used))}"
     for name in ("include/othsolve.h", "examples/c/worked.c", "examples/c/library.sh", PAGE):
         yield None if BUILD.search(read(name)) else f"{name}: another build line"
 
