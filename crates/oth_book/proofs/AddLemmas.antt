@@ -195,9 +195,6 @@ pub put_true : (g : Scoring) (old new : List Claim) (i : ℕ) (e : Claim) (r : R
 put_true g old new i e (Ok done) book entry gap put = rw put.inserted.1 (book_insert g old i e book put.room entry gap)
 put_true g old new i e (Err why) book entry gap put = rw put.unchanged book
 
-not_new : (d : Added) → d ≡ added.New → d ≢ added.New → ⊥
-not_new d h k = k h
-
 pub answer_new : (g : Scoring) (old new : List Claim) (i : ℕ) (e : Claim) (a : Answer) (r : Result Added AddError) → e ≡ answer_entry a → IsGap old i e.board → IsPut old new i e r
     → IfOk r (λ done. IsAdded (book_of g old) (book_of g new) a done)
 answer_new g old new i e a (Ok added.New) is gap put =
@@ -245,14 +242,6 @@ bounds_refused g old new i e s (Err refused.Empties) asked is inexact gap put = 
 
 kept_entry : (g : Scoring) (old : List Claim) (i : ℕ) (kept e : Claim) (s : Solved) → e ≡ bounds_entry s → IsEntryOf old i e.board → kept ≡ get_or old i kept → IsKept (book_of g old) s.board kept
 kept_entry g old i kept e s is at there = record { there = (i, at.within, sym there); board = ap (λ c. c.board) there ∙ at.same kept ∙ ap (λ c. c.board) is }
-
-pub bounds_present : (g : Scoring) (old : List Claim) (i : ℕ) (kept e d : Claim) (s : Solved) → e ≡ bounds_entry s → IsEntryOf old i e.board → kept ≡ get_or old i kept → d ≡ closer kept s → SameBounds d kept
-    → AreAdded (book_of g old) (book_of g old) s added.Present
-bounds_present g old i kept e d s is at there closer_is same = (kept, kept_entry g old i kept e s is at there, rw closer_is at same, refl)
-
-pub bounds_one_kept : (g : Scoring) (old : List Claim) (i : ℕ) (kept e d : Claim) (s : Solved) → IsAskable (book_of g old) s → e ≡ bounds_entry s → IsEntryOf old i e.board → kept ≡ get_or old i kept → d ≡ closer kept s
-    → (SameBounds d kept → ⊥) → IsExact d → AreRefused (book_of g old) s refused.OneNumber
-bounds_one_kept g old i kept e d s asked is at there closer_is other exact = (asked, inl (kept, kept_entry g old i kept e s is at there, rw closer_is at other, rw closer_is at exact))
 
 pub bounds_one_new : (g : Scoring) (old : List Claim) (i : ℕ) (e : Claim) (s : Solved) → IsAskable (book_of g old) s → e ≡ bounds_entry s → IsGap old i e.board → IsExact e
     → AreRefused (book_of g old) s refused.OneNumber

@@ -1,16 +1,15 @@
 -- The bounds of an entry, as they are read.
-use Rattle.std.proofs.Common.{◌≡◌, ◌≢◌, ℕ, ◌+◌, ◌<◌, ◌↔◌, ℤ, unsigned_abs, true, false, List, ◌∷◌, ◌++◌, get_or, arith, sym, ap, ◌∙◌, refl, append-nil, lit<, eqb-true, zero-add, IsSome, IfSome, IfNone}
+use Rattle.std.proofs.Common.{◌≡◌, ◌≢◌, ℕ, ◌+◌, ◌<◌, ◌↔◌, ℤ, unsigned_abs, true, false, List, ◌∷◌, ◌++◌, arith, sym, ap, ◌∙◌, refl, append-nil, lit<, eqb-true, IsSome, IfSome, IfNone}
 use Rattle.std.specs.Prelude.{Option, Some, None}
 use Rattle.std.proofs.lemmas.List.{drop_all}
-use Rattle.std.proofs.lemmas.Bool.Decides.{nat_tests}
 use Rattle.oth_search.specs.Bound.{IsInterval}
 use Rattle.oth_search.specs.declared.interval.Interval.{Interval}
 use Rattle.oth_rules.specs.declared.scoring.Scoring.{Scoring}
 use Rattle.oth_book.specs.declared.version.Version.{Version}
 use Rattle.oth_book.specs.declared.version.Version.TheVariants.{One, Two}
-use Rattle.oth_book.specs.Shape.{allows_in_bounds, AreBoundsBytes, IsBoundBytes}
+use Rattle.oth_book.specs.Shape.{AreBoundsBytes}
 use Rattle.oth_book.specs.Text.{signed, bounds_text, AreBounds}
-use Rattle.oth_book.proofs.LineLemmas.{part, length-part, get_or-part, drop-byte, drop-part}
+use Rattle.oth_book.proofs.LineLemmas.{part, length-part, drop-byte, drop-part}
 use Rattle.oth_book.proofs.EntryLemmas.{append_same, length-signed, IsSmall, are_small, bounds_text-injective}
 
 -- what an interval of the two numbers, or none, says of the text
@@ -25,24 +24,6 @@ bounds_read v text l u None small is both values = (
       let no : false ≡ true = both.1 (rw (← same.0, ← same.1) h.interval) in
       absurd (let clash : false ≡ true = no in cc),
 )
-
-pub one_bytes : (text : List ℕ) → AreBoundsBytes One text → IsBoundBytes text
-one_bytes text h = record { len = h.len; places = h.places }
-
-again : (i b : ℕ) → i < 3 → allows_in_bounds (4 + i) b ≡ allows_in_bounds i b
-again i b h = grind (arith, nat_tests)
-
-pub first_bytes : (g : Scoring) (text : List ℕ) → AreBoundsBytes (Two g) text → IsBoundBytes (part 0 3 text)
-first_bytes g text h = let len = h.len in record {
-  len = length-part 0 3 text (omega arith);
-  places = λ i k. ap (allows_in_bounds i) (get_or-part 0 3 text i k ∙ ap (λ j. get_or text j 0) (zero-add i)) ∙ h.places i (omega arith);
-}
-
-pub second_bytes : (g : Scoring) (text : List ℕ) → AreBoundsBytes (Two g) text → IsBoundBytes (part 4 3 text)
-second_bytes g text h = let len = h.len in record {
-  len = length-part 4 3 text (omega arith);
-  places = λ i k. ap (allows_in_bounds i) (get_or-part 4 3 text i k) ∙ sym (again i (get_or text (4 + i) 0) k) ∙ h.places (4 + i) (omega arith);
-}
 
 two_parts : (g : Scoring) (text : List ℕ) → AreBoundsBytes (Two g) text → text ≡ part 0 3 text ++ 32 ∷ part 4 3 text
 two_parts g text h =

@@ -146,11 +146,6 @@ bound_read text b n h is digits some =
     bound_parts text h ∙ ap (λ xs. get_or text 0 0 ∷ xs) digits
     ∙ ap (λ x. x ∷ numeral 10 2 n) (sign_cases (get_or text 0 0) (h.places 0 (lit< tt)) ∙ ap (λ x. cond x 45 43) (sym is)) ∙ sym (signed_of b n some)
 
-pub bound_small : (b : Bool) (n : ℕ) → n < 100 → unsigned_abs (bound_of b n) < 100
-bound_small false n h = h
-bound_small true zero h = h
-bound_small true (suc n) h = h
-
 -- `-00` is no bound
 pub bound_none : (text : List ℕ) → IsBoundBytes text → get_or text 0 0 ≡ 45 → part 1 2 text ≡ numeral 10 2 0 → (z : ℤ) → unsigned_abs z < 100 → text ≡ signed z → ⊥
 unfolding signed

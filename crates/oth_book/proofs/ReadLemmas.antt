@@ -73,13 +73,6 @@ length-entry_line v c =
     sums : (x y a b w n : ℕ) → x ≡ y → y ≡ a + b + w + 0 + 3 → a ≡ 64 → b ≡ n → w ≡ 16 → x ≡ 83 + n
     sums x y a b w n e f g h k = omega arith
 
-pub length-end_line : (n : ℕ) → length (end_line n) ≡ 11
-length-end_line n =
-    let e : length (end_line n) ≡ length (69 ∷ 78 ∷ 68 ∷ 32 ∷ (numeral 10 6 n ++ (10 ∷ []))) = ap length (sym (append-nil (end_line n)) ∙ end_line-append n []) in
-    let f = length-append (numeral 10 6 n) (10 ∷ []) in
-    let g = length-numeral 10 6 n in
-    omega (arith, e, f, g)
-
 -- an entry's line begins with a cell
 pub mark_is_cell : (x : Cell) → is_cell (mark x) ≡ true
 mark_is_cell Mine = refl

@@ -23,14 +23,6 @@ pub record AreCells (bytes : List ℕ) (own opp n : ℕ) : Type 0 where
 abbrev pub with_square : ℕ → ℕ → ℕ
 with_square word n = bit_or word (1 * 2 ^ n % 2 ^ 64)
 
-pub none_yet : (bytes : List ℕ) → AreCells bytes 0 0 0
-none_yet bytes = record {
-  cells = λ k h. absurd (omega arith);
-  own_above = λ k h. bit_at-zero k;
-  opp_above = λ k h. bit_at-zero k;
-  apart = λ k. omega (arith, bit_at-zero k);
-}
-
 pub own_more : (bytes : List ℕ) (own opp n : ℕ) → AreCells bytes own opp n → n < 64 → get_or bytes n 0 ≡ 88 → AreCells bytes (with_square own n) opp (n + 1)
 own_more bytes own opp n so_far within is =
     let same = bit_at_set_same w64 own n within in

@@ -6,12 +6,9 @@ use Rattle.std.proofs.lemmas.Option.{slice_get-get_or}
 use Rattle.std.proofs.lemmas.Int.{ints}
 use Rattle.oth_rules.specs.declared.scoring.Scoring.{Scoring}
 use Rattle.oth_search.specs.Bound.{Encloses, Decides}
-use Rattle.oth_book.specs.declared.version.Version.{Version}
 use Rattle.oth_book.specs.declared.claim.Claim.{Claim}
 use Rattle.oth_book.specs.declared.wrong.Cause.{Cause}
-use Rattle.oth_book.specs.Text.{AreClaims}
 use Rattle.oth_book.specs.True.{IsTrueClaim, IsFirstUntrue, IsCause}
-use Rattle.oth_book.proofs.BookLemmas.{TrueBook}
 
 pub untrue_at : (g : Scoring) (entries claims : List Claim) (i : ℕ) (c : Claim) (why : Cause) → entries ≡ take i claims → All (IsTrueClaim g) entries → i < length claims → c ≡ get_or claims i c → IsCause g c why
     → IsFirstUntrue (record { scoring = g; entries = claims }) i why
@@ -25,13 +22,6 @@ same_push entries claims i c same h is = ap (λ xs. xs ++ c ∷ []) same ∙ ap 
 
 pub true_push : (g : Scoring) (entries : List Claim) (c : Claim) → All (IsTrueClaim g) entries → IsTrueClaim g c → All (IsTrueClaim g) (entries ++ c ∷ [])
 true_push g entries c each one = All-push (IsTrueClaim g) entries c each one
-
-pub book_of_claims : (v : Version) (g : Scoring) (claims : List Claim) → AreClaims v claims → All (IsTrueClaim g) claims → TrueBook g claims
-book_of_claims v g claims are each = record {
-  count = are.count;
-  each = λ k d h. let claim = are.each k d h in record { holds = each k d h; board = claim.board; canonical = claim.canonical; interval = claim.bounds.interval; undecided = claim.undecided };
-  rising = are.rising;
-}
 
 -- a search with the window just round the bounds tells whether they enclose the value
 pub inside : (l u a b v : ℤ) → Encloses a b v → l ≤ℤ a → b ≤ℤ u → Encloses l u v

@@ -101,10 +101,6 @@ module _ {E : Type 0} (makes : E → Option Name) where
   seat_past [] h s k = k
   seat_past (e ∷ es) h s k = inr (seat_past es h s k)
 
-  pub first_seat : (h : List E) → IsSeat makes h 0
-  first_seat [] = refl
-  first_seat (e ∷ h) = inr (first_seat h)
-
   -- a number that is no seat's
   abbrev pub above : Option Name → ℕ → ℕ
   above None n = n

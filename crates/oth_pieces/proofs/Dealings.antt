@@ -7,7 +7,7 @@ use Rattle.std.proofs.lemmas.List.Sums.{sum_by-cons, sum_by-append, sum_by_push}
 use Rattle.crossbeam_deque.specs.Tasks.{Pushes, Takes, Pops, Merges, Learns, Forks}
 use Rattle.crossbeam_deque.proofs.Lists.{at_set, at_snoc}
 use Rattle.oth_pieces.specs.declared.tasks.share.Share.{Share}
-use Rattle.oth_pieces.specs.Dealing.{times, Dealt, owner, stranger, puts, takes, owner_of, thief_of, both, IsFair}
+use Rattle.oth_pieces.specs.Dealing.{times, Dealt, stranger, puts, takes, owner_of, thief_of, both, IsFair}
 
 pub times-append : (x : ℕ) (xs ys : List ℕ) → times x (xs ++ ys) ≡ times x xs + times x ys
 times-append x xs ys = sum_by-append (λ y. cond (y == x) 1 0) xs ys
@@ -24,8 +24,6 @@ sum_has f (u ∷ us) zero v e = let is : f u ≡ f v = ap f (some-injective u v 
 sum_has f (u ∷ us) (suc port) v e = let rest = sum_has f us port v e in omega (arith, sum_by-cons f u us)
 
 module _ (put : List ℕ) (views : List Share) where
-  abbrev Knows : Type 0
-  Knows = (port : ℕ) (v : Share) → get_elem? views port ≡ some v → v.knows ≡ true → v.put ≡ put
 
   abbrev Alone : Type 0
   Alone = (port : ℕ) (v : Share) → get_elem? views port ≡ some v → v.pushes ≡ true → (j : ℕ) (u : Share) → get_elem? views j ≡ some u → u.knows ≡ true → j ≡ port
@@ -48,18 +46,6 @@ module _ (put : List ℕ) (views : List Share) where
       → (p : ℕ) (x : Share) → get_elem? (set views port w) p ≡ some x → x.pushes ≡ true → (j : ℕ) (u : Share) → get_elem? (set views port w) j ≡ some u → u.knows ≡ true → j ≡ p
   alone_set alone port v w at less_push less_know p x e pushes' j u f knows' =
       let a = was port v w at less_push less_know p x e in let b = was port v w at less_push less_know j u f in alone p a.0 a.1 (a.2 pushes') j b.0 b.1 (b.3 knows')
-
-first_knows : Knows [] (owner ∷ [])
-first_knows zero v e knows' = ap (λ (u : Share). u.put) (sym (some-injective owner v e))
-first_knows (suc j) v e knows' = absurd (some-ne-none v (sym e))
-
-first_alone : Alone [] (owner ∷ [])
-first_alone zero v e pushes' zero u f knows' = refl
-first_alone zero v e pushes' (suc j) u f knows' = absurd (some-ne-none u (sym f))
-first_alone (suc p) v e pushes' j u f knows' = absurd (some-ne-none v (sym e))
-
-pub begins : Dealt [] (owner ∷ [])
-begins = ([], (λ x. refl), first_knows, first_alone)
 
 pub pushes : (port : ℕ) (v : Share) (xs : List ℕ) → v.pushes ≡ true → v.knows ≡ true → Pushes Dealt port v xs (puts v xs)
 pushes port v xs may knows' items views h at = let w : Share = record v { put = v.put ++ xs } in (

@@ -1,5 +1,5 @@
 -- What a hand keeps when it takes a number.
-use Rattle.std.proofs.Common.{◌≡◌, ℕ, zero, suc, ◌+◌, ◌<◌, ◌≤◌, Bool, List, [], ◌∷◌, ◌++◌, length, get_or, set, sym, refl, ap, ◌∙◌, subst, arith, slice_index_or, vec_len, Vec, ◌%◌, ◌==◌, if◌then◌else◌, Option, Some, None, get_or-set_same, get_or-set_other, append-nil}
+use Rattle.std.proofs.Common.{◌≡◌, ℕ, zero, suc, ◌+◌, ◌<◌, ◌≤◌, Bool, List, [], ◌∷◌, ◌++◌, length, get_or, set, sym, refl, ap, ◌∙◌, subst, arith, slice_index_or, vec_len, Vec, Option, Some, None, get_or-set_same, get_or-set_other, append-nil}
 use mathlib.Core.Logic.{dite}
 use native.Mathlib.Decide.{ℕ_discrete}
 use Rattle.std.specs.List.{sum_by}
@@ -109,25 +109,11 @@ pops tasks h owner found fits same took = record {
   below = found_below tasks h.number (worker_view h.owner) (worker_view owner) found took fits.owner_knows;
 }
 
-none_some : (x : ℕ) → None ≡ Some x → ⊥
-none_some x is = cc
-
 -- what a pop tells is what the hand took
 pub popped : (E : Type 0) (tasks : Tasks) (h : Hand) (owner : Owner) (found : Option ℕ) → Fits tasks h → worker_deque owner ≡ worker_deque h.owner
     → MatchOption found ((worker_view owner ≡ worker_view h.owner) × E) (λ x. takes (worker_view h.owner) (x ∷ []) (worker_view owner)) → Draws tasks h (record h { owner = owner }) found
 popped E tasks h owner None fits same rule = pops tasks h owner None fits same (rule.0 ∙ ap (λ (l : List ℕ). record (worker_view h.owner) { taken = l }) (sym (append-nil (worker_view h.owner).taken)), tt)
 popped E tasks h owner (Some x) fits same rule = pops tasks h owner (Some x) fits same (rule.0, rule.1)
-
-pub draws_none : (tasks : Tasks) (h : Hand) → Fits tasks h → Draws tasks h h None
-draws_none tasks h fits = record { fits = fits; same = (refl, refl, refl); taken = λ x. omega arith; below = λ x is. absurd (none_some x is) }
-
-pub draws_then : (tasks : Tasks) (a b c : Hand) (found : Option ℕ) → Draws tasks a b None → Draws tasks b c found → Draws tasks a c found
-draws_then tasks a b c found one two = record {
-  fits = two.fits;
-  same = (two.same.0 ∙ one.same.0, two.same.1 ∙ one.same.1, two.same.2 ∙ one.same.2);
-  taken = λ x. let p = one.taken x in let q = two.taken x in omega arith;
-  below = two.below;
-}
 
 apart_times : (number x : ℕ) → number < x → times x (number ∷ []) ≡ 0
 apart_times number x less = grind (arith, nat_tests)
@@ -180,9 +166,3 @@ module _ (tasks : Tasks) (old new : Hand) (is : IsHandOf tasks old) where
             omega (arith, ap (λ (l : Vec ℕ Global). times x l.items) kept);
         within = λ x above. let no = is.within x above in ap (λ (l : Vec ℕ Global). times x l.items) kept ∙ no;
       }
-
-dealt_more : (n k d x : ℕ) → dealt_of n k d x ≤ dealt_of n (k + 1) d x
-dealt_more n k d x = grind (arith, nat_tests)
-
-dealt_here : (n k d x : ℕ) → k % n ≡ d → (if k == x then 1 else 0) + dealt_of n k d x ≤ dealt_of n (k + 1) d x
-dealt_here n k d x is = grind (arith, nat_tests)

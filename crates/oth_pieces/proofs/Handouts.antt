@@ -1,5 +1,5 @@
 -- How the hands are made.
-use Rattle.std.proofs.Common.{◌≡◌, ◌⊎◌, ⊎_elim, inl, inr, ℕ, zero, suc, ◌+◌, ◌<◌, ◌≤◌, List, [], ◌∷◌, ◌++◌, length, get_or, set, take, sym, refl, ap, ◌∙◌, subst, arith, slice_index_or, vec_len, Vec, false, Result, Ok, Err, IfOk, length-append, length-set, get_or-set_same, get_or-set_other}
+use Rattle.std.proofs.Common.{◌≡◌, ◌⊎◌, ⊎_elim, inr, ℕ, zero, suc, ◌+◌, ◌<◌, ◌≤◌, List, [], ◌∷◌, ◌++◌, length, get_or, set, take, sym, refl, ap, ◌∙◌, subst, arith, slice_index_or, vec_len, Vec, false, Result, Ok, Err, IfOk, length-append, length-set, get_or-set_same, get_or-set_other}
 use Rattle.std.specs.Prelude.{vec_capacity}
 use mathlib.Core.Logic.{dite}
 use native.Mathlib.Decide.{ℕ_discrete}
@@ -41,15 +41,6 @@ pub record Handing (owners owners' : List Owner) (passes : List Token) (i : ℕ)
   pub stay : StayOwners owners owners'
   pub rest : (j : ℕ) (w u : Owner) → i ≤ j → j < length owners → slice_index_or owners' j u ≡ slice_index_or owners j w
   pub tokens : Zipped IsTokenOf owners passes
-
-pub handing_starts : (owners : List Owner) (passes : List Token) → length passes ≡ 0 → Handing owners owners passes 0
-handing_starts owners passes none = record {
-  long = refl;
-  many = none;
-  stay = (refl, λ d w u below. inl (any_default owners d u w below));
-  rest = λ j w u _ below. any_default owners j u w below;
-  tokens = record { each = λ d x y below. absurd (omega arith) };
-}
 
 pub handing_steps : (owners owners' : List Owner) (passes passes' : List Token) (i : ℕ) (w w' : Owner) (p : Token) → Handing owners owners' passes i → i < length owners → w ≡ slice_index_or owners' i w
     → StaysOwner w w' → IsTokenOf w p → passes' ≡ passes ++ p ∷ [] → Handing owners (set owners' i w') passes' (i + 1)
@@ -155,17 +146,6 @@ all_front tasks piles pile all = (
   (λ d p below. let P : Pile → Type 0 = PileFits tasks in subst P (get_or_front piles pile d p below) (all d p (omega (arith, length-append piles (pile ∷ []))))),
   (let P : Pile → Type 0 = PileFits tasks in subst P (get_or_last piles pile (length piles) pile refl) (all (length piles) pile (omega (arith, length-append piles (pile ∷ []))))),
 )
-
-pub next_fits : (tasks : Tasks) (owners owners' : List Owner) (piles piles' : List Pile) (hands : List Hand) (owner : Owner) (pile : Pile) → Making tasks owners piles hands → owners ≡ owners' ++ owner ∷ [] → piles ≡ piles' ++ pile ∷ []
-    → (length owners' < vec_len tasks.thieves) × OwnerFits tasks (length owners') owner × PileFits tasks pile
-next_fits tasks owners owners' piles piles' hands owner pile m is are =
-    let M : List Owner × List Pile → Type 0 = λ q. Making tasks q.0 q.1 hands in
-    let n : Making tasks (owners' ++ owner ∷ []) (piles' ++ pile ∷ []) hands = subst M (λ j. (is j, are j)) m in
-    let long = length-append owners' (owner ∷ []) in (
-      (let c = n.count in omega arith),
-      (let P : Owner → Type 0 = OwnerFits tasks (length owners') in subst P (get_or_last owners' owner (length owners') owner refl) (n.owners_fit (length owners') owner (omega arith))),
-      (all_front tasks piles' pile n.piles_fit).1,
-    )
 
 made_next : (tasks : Tasks) (owners : List Owner) (owner : Owner) (hands : List Hand) (hand : Hand)
     → ((i : ℕ) (h : Hand) → i < length hands → IsNewHand tasks (length (owners ++ owner ∷ []) + i) (slice_index_or hands i h)) → IsNewHand tasks (length owners) hand

@@ -1,15 +1,12 @@
 -- The passes of all hands, given back deque by deque.
-use Rattle.std.proofs.Common.{◌≡◌, ℕ, zero, suc, ◌+◌, ◌-◌, ◌<◌, ◌≤◌, Bool, true, false, List, [], ◌∷◌, ◌++◌, length, get_or, set, take, sym, refl, ap, ◌∙◌, subst, arith, slice_index_or, vec_len, nat_le, if◌then◌else◌, ◌%◌, ◌==◌, length-append, length-take, length-set, get_or-set_same, get_or-set_other}
-use mathlib.Core.Logic.{dite}
-use native.Mathlib.Decide.{ℕ_discrete}
+use Rattle.std.proofs.Common.{◌≡◌, ℕ, zero, suc, ◌+◌, ◌-◌, ◌<◌, ◌≤◌, Bool, true, false, List, [], ◌∷◌, ◌++◌, length, get_or, take, sym, refl, ap, ◌∙◌, subst, arith, slice_index_or, vec_len, nat_le, if◌then◌else◌, ◌%◌, ◌==◌, length-append, length-take}
 use Rattle.std.specs.List.{sum_by}
 use Rattle.std.proofs.lemmas.List.Sums.{sum_by-cons, sum_by_push}
 use Rattle.std.proofs.lemmas.Bool.Decides.{nat_tests}
 use Rattle.crossbeam_deque.specs.Handles.{IsPassOf, worker_deque, worker_view}
 use Rattle.oth_pieces.specs.Dealing.{times, IsFair}
 use Rattle.oth_pieces.specs.Hands.{taken_with}
-use Rattle.oth_pieces.specs.Settling.{Token, Owner, Pile, pile_sum, owner_taken, owner_sum, LastIsOf, LastAreOf, SameOwner, Shortens, KnowsItsOwn, IsUnsettled, CanSettle}
-use Rattle.oth_pieces.proofs.Handings.{sum_set_or, any_default}
+use Rattle.oth_pieces.specs.Settling.{Token, Owner, Pile, pile_sum, owner_taken, owner_sum, LastAreOf, SameOwner, Shortens, KnowsItsOwn, IsUnsettled}
 
 -- the first i piles gave their last pass to the owner
 pub record Gathering (owner : Owner) (piles : List Pile) (owner' : Owner) (piles' : List Pile) (i : ℕ) : Type 0 where
@@ -18,42 +15,6 @@ pub record Gathering (owner : Owner) (piles : List Pile) (owner' : Owner) (piles
   pub sum : (x : ℕ) → owner_taken x owner' + pile_sum x piles' ≡ owner_taken x owner + pile_sum x piles
   pub front : (j : ℕ) (d e : Pile) → j < i → (slice_index_or piles' j d).items ≡ take (vec_len (slice_index_or piles j e) - 1) (slice_index_or piles j e).items
   pub back : (j : ℕ) (d e : Pile) → i ≤ j → j < length piles → slice_index_or piles' j d ≡ slice_index_or piles j e
-
-pub gathering_starts : (owner : Owner) (piles : List Pile) → Gathering owner piles owner piles 0
-gathering_starts owner piles = record {
-  same = (refl, refl, refl);
-  long = refl;
-  sum = λ x. refl;
-  front = λ j d e below. absurd (omega arith);
-  back = λ j d e _ below. any_default piles j d e below;
-}
-
-pub gathering_steps : (o : Owner) (ps : List Pile) (o' : Owner) (ps' : List Pile) (i : ℕ) (o'' : Owner) (pile pile' : Pile) → Gathering o ps o' ps' i → i < length ps → pile ≡ slice_index_or ps' i pile
-    → SameOwner o' o'' → ((x : ℕ) → owner_taken x o'' + sum_by (taken_with x) pile'.items ≡ owner_taken x o' + sum_by (taken_with x) pile.items)
-    → pile'.items ≡ take (vec_len pile - 1) pile.items → Gathering o ps o'' (set ps' i pile') (i + 1)
-gathering_steps o ps o' ps' i o'' pile pile' g below is same sum shorter =
-    let inside : i < length ps' = let l = g.long in omega arith in record {
-      same = (same.0 ∙ g.same.0, same.1 ∙ g.same.1, same.2 ∙ g.same.2);
-      long = length-set ps' i pile' ∙ g.long;
-      sum = λ x. let before = g.sum x in let now = sum x in let s = sum_set_or (λ (p : Pile). sum_by (taken_with x) p.items) ps' i pile pile' inside is in omega arith;
-      front = λ j d e under. dite (ℕ_discrete j i)
-          (λ at. let here : slice_index_or (set ps' i pile') j d ≡ pile' = ap (λ k. get_or (set ps' i pile') k d) at ∙ get_or-set_same ps' i pile' d inside in
-          let old : pile ≡ slice_index_or ps j e = is ∙ (g.back i pile e (omega arith) below ∙ ap (λ k. slice_index_or ps k e) (sym at)) in
-          ap (λ (p : Pile). p.items) here ∙ (shorter ∙ ap (λ (p : Pile). take (vec_len p - 1) p.items) old))
-          (λ other. ap (λ (p : Pile). p.items) (get_or-set_other ps' i j pile' d other) ∙ g.front j d e (omega arith));
-      back = λ j d e from under. get_or-set_other ps' i j pile' d (λ at. omega arith) ∙ g.back j d e (omega arith) under;
-    }
-
--- the pile that comes next still ends with a pass of the owner
-pub gathering_last : (o : Owner) (ps : List Pile) (o' : Owner) (ps' : List Pile) (i : ℕ) (pile : Pile) → Gathering o ps o' ps' i → LastAreOf o ps → i < length ps → pile ≡ slice_index_or ps' i pile → LastIsOf o' pile
-gathering_last o ps o' ps' i pile g last below is =
-    let old : slice_index_or ps i pile ≡ pile = sym (is ∙ g.back i pile pile (omega arith) below) in
-    let P : Pile → Type 0 = LastIsOf o in
-    let here : LastIsOf o pile = subst P old (last i pile below) in
-    (here.0, λ p. let q = here.1 p in let e = g.same.0 in (q.0 ∙ sym (ap (λ d. d.0) e), q.1 ∙ sym (ap (λ d. d.1) e), q.2, q.3))
-
-pub gathering_ends : (o : Owner) (ps : List Pile) (o' : Owner) (ps' : List Pile) (i : ℕ) → Gathering o ps o' ps' i → length ps ≤ i → Shortens ps ps'
-gathering_ends o ps o' ps' i g whole = (g.long, λ j d e below. g.front j d e (omega arith))
 
 pub get_or_front : {X : Type 0} (xs : List X) (y : X) (k : ℕ) (d : X) → k < length xs → get_or (xs ++ y ∷ []) k d ≡ get_or xs k d
 get_or_front [] y k d below = absurd (omega arith)
@@ -82,9 +43,6 @@ pub record Settling (n : ℕ) (o : List Owner) (p : List Pile) (owners : List Ow
   pub unsettled : IsUnsettled n owners piles
   pub within : length owners ≤ n
   pub sum : (x : ℕ) → owner_sum x o + pile_sum x p ≤ owner_sum x owners + pile_sum x piles + later (length owners) (x % n)
-
-pub settling_starts : (owners : List Owner) (piles : List Pile) → CanSettle owners piles → Settling (length owners) owners piles owners piles
-settling_starts owners piles can = record { unsettled = can.1; within = omega arith; sum = λ x. omega arith }
 
 longer_by_one : (front : List Owner) (owner : Owner) → length (front ++ owner ∷ []) ≡ length front + 1
 longer_by_one front owner = length-append front (owner ∷ [])

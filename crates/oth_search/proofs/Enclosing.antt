@@ -1,6 +1,6 @@
 -- Lemmas on bounds that enclose a value.
 use Rattle.std.proofs.Common.{true, false, ◌≡◌, ℕ, refl, subst, sym, arith, ◌⊎◌, inl, inr}
-use Rattle.std.specs.Prelude.{unsigned_abs, ◌-ℤ◌, ◌+ℤ◌, ◌<◌, ℤ, pos, negsuc, neg_ℤ, ◌≤ℤ◌, ◌<ℤ◌}
+use Rattle.std.specs.Prelude.{◌+ℤ◌, ◌<◌, ℤ, pos, negsuc, neg_ℤ, ◌≤ℤ◌, ◌<ℤ◌}
 use Rattle.std.proofs.lemmas.Int.{ints, by_lt_z}
 use Rattle.oth_rules.specs.declared.scoring.Scoring.{Scoring}
 use Rattle.oth_rules.specs.Position.{Position, pass}
@@ -30,9 +30,6 @@ Encloses-all g p lower upper e f =
     let v = IsScore-value g p in
     record { below = rw e (v.low); above = rw f (v.high) }
 
-pub BoundsAt-canonical : (g : Scoring) (p q : Position) (alpha r : ℤ) → q ≡ canonical p → BoundsAt (value (score_of g) p) alpha r → BoundsAt (value (score_of g) q) alpha r
-BoundsAt-canonical g p q alpha r e h = rw (e, value-canonical g p) h
-
 -- a bound that stands in an interval serves as the answer of a probe
 pub BoundsAt-lower : (v alpha lower upper r : ℤ) → Encloses lower upper v → IsInterval lower upper → r ≡ lower → alpha <ℤ lower → BoundsAt v alpha r
 BoundsAt-lower v alpha lower upper r h i e above = record {
@@ -59,13 +56,6 @@ Encloses-known g f p q r lower upper e k l h =
 
 pub value-known : (g f : Scoring) (p q r : Position) → q ≡ canonical p → r ≡ q → f ≡ g → value (score_of f) r ≡ value (score_of g) p
 value-known g f p q r e k l = rw (k, l, e) (value-canonical g p)
-
--- bounds that a probe between them moved are closer
-pub narrower : (lower upper low high at found : ℤ) → IsInterval low high → lower ≤ℤ at → at <ℤ upper → (at <ℤ found → (low ≡ found) × (high ≡ upper)) → (found ≤ℤ at → (low ≡ lower) × (high ≡ found)) → unsigned_abs (high -ℤ low) < unsigned_abs (upper -ℤ lower)
-narrower lower upper low high at found i from to above below =
-    by_lt_z at found
-    (λ h. let m = above h in omega (arith, ints, m.0, m.1, i.ordered))
-    (λ h. let m = below h in omega (arith, ints, m.0, m.1, i.ordered))
 
 -- a probe decides the window that has nothing between its ends
 pub Decides-probed : (alpha at found lower upper low high : ℤ) → at ≡ alpha → (at <ℤ found → (low ≡ found) × (high ≡ upper)) → (found ≤ℤ at → (low ≡ lower) × (high ≡ found)) → Decides low high alpha (alpha +ℤ pos 1)
@@ -103,9 +93,6 @@ BoundsAt-child g p q s alpha lower upper r legal is i h e above =
 -- the value of an answer
 pub IsScore-answer : (g : Scoring) (p : Position) (r : ℤ) → r ≡ value (score_of g) p → IsScore r
 IsScore-answer g p r e = rw e (IsScore-value g p)
-
-pub Encloses-answer : (g : Scoring) (p : Position) (r lower upper : ℤ) → r ≡ value (score_of g) p → lower ≡ r → upper ≡ r → Encloses lower upper (value (score_of g) p)
-Encloses-answer g p r lower upper e low high = record { below = rw (low, e) (omega (arith, ints)); above = rw (high, e) (omega (arith, ints)) }
 
 -- before a forced pass the bounds have the other sign
 pub Encloses-pass : (g : Scoring) (p q : Position) (lower upper low high : ℤ) → q ≡ pass p → can_move p ≡ false → can_move (pass p) ≡ true → Encloses lower upper (value (score_of g) q) → low ≡ neg_ℤ upper → high ≡ neg_ℤ lower → Encloses low high (value (score_of g) p)

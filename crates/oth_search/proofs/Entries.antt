@@ -69,22 +69,6 @@ pub same_board_words : (p q : Position) → p.own ≡ q.own → p.opp ≡ q.opp 
 same_board_words p q e f =
     ap (λ w. let r : Position = record { own = w; opp = p.opp } in r) e ∙ ap (λ w. let r : Position = record { own = q.own; opp = w } in r) f
 
-low_bound : (l u : ℤ) → IsInterval l u → l ≡ pos (packed l u % 256) -ℤ pos 64
-low_bound l u i = omega (arith, ints, i.low, i.ordered, i.high)
-
-high_bound : (l u : ℤ) → IsInterval l u → u ≡ pos (packed l u / 256) -ℤ pos 64
-high_bound l u i = omega (arith, ints, i.low, i.ordered, i.high)
-
--- true entries of one scoring with the same words are one
-pub words_tell : (x y : Bounded) → IsTrueEntry x → IsTrueEntry y → x.scoring ≡ y.scoring → words_of x ≡ words_of y → x ≡ y
-words_tell x y t u s e =
-    let own = ap (λ (w : List ℕ). slice_index_or w 0 0) e in
-    let opp = ap (λ (w : List ℕ). slice_index_or w 1 0) e in
-    let bounds = ap (λ (w : List ℕ). slice_index_or w 2 0) e in
-    same_entry x y (same_board_words x.board y.board own opp) s
-    (low_bound x.lower x.upper t.bounds ∙ ap (λ b. pos (b % 256) -ℤ pos 64) bounds ∙ sym (low_bound y.lower y.upper u.bounds))
-    (high_bound x.lower x.upper t.bounds ∙ ap (λ b. pos (b / 256) -ℤ pos 64) bounds ∙ sym (high_bound y.lower y.upper u.bounds))
-
 -- ---- two entries of one board
 
 int_min-keeps : (P : ℤ → Type 0) (x y : ℤ) → P x → P y → P (int_min x y)

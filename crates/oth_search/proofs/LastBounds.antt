@@ -9,7 +9,6 @@ use Rattle.oth_rules.specs.Position.{Position, Cell, Mine, Theirs, Empty, cell, 
 use Rattle.oth_rules.specs.Move.{after, is_flipped, can_move}
 use Rattle.oth_rules.specs.Score.{disc_difference, winner_score, score_of}
 use Rattle.oth_rules.specs.Square.{squares}
-use Rattle.oth_rules.specs.LastMove.{IsLast}
 use Rattle.oth_rules.specs.Value.{value}
 use Rattle.oth_rules.specs.Laws.{IsLegal, IsScore}
 use Rattle.oth_rules.proofs.Positions.{cell-position_of, after-is}
@@ -119,13 +118,6 @@ BoundsAt-left g p q a alpha r l none is e low = record {
         subst (IsLegal q) (⊎_elim (λ h. h) (λ h. absurd h) ((Leaves-pass p q (a ∷ []) l is).only m.0 m.1.on_board (legal-empty q m.0 m.1))) m.1
 
 -- ---- what a move to the only empty square comes to
-
-pub only_empty : (p : Position) (a : ℕ) → Leaves p (a ∷ []) → IsLast p a
-only_empty p a l = record {
-  on_board = l.each.0;
-  empty = l.each.1;
-  only = λ t within e. ⊎_elim (λ h. h) (λ h. absurd h) (l.only t within e);
-}
 
 pub discs_fit : (p : Position) (a n : ℕ) → Leaves p (a ∷ []) → n ≡ count_by (is_flipped p a) squares → mine_count p + n ≤ 63
 discs_fit p a n l e = omega (arith, e, discs_after p a l.each.0 l.each.1, counts (after p a))

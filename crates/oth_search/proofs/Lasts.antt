@@ -18,7 +18,7 @@ use Rattle.oth_search.specs.Squares.{In, Without}
 use Rattle.oth_rules.proofs.SearchLaws.{legal-empty, empty_before, empty_before_pass, empty-word}
 use Rattle.oth_search.specs.Lasts.{OneOf, AreEmpty, Leaves, no_move, GivesAt, MovesAt}
 use Rattle.oth_search.proofs.SquareSets.{Takes-without, In-none}
-use Rattle.oth_search.proofs.Replies.{BoundsAt-reply, BoundsAt-pass, BoundsAt-over, BoundsAt-cut, BoundsAt-exact}
+use Rattle.oth_search.proofs.Replies.{BoundsAt-reply, BoundsAt-pass, BoundsAt-over, BoundsAt-cut}
 
 cases_lt_z : (a b : ℤ) → (a <ℤ b) ⊎ (b ≤ℤ a)
 cases_lt_z a b = by_lt_z a b inl inr
@@ -344,14 +344,3 @@ MovesAt-at g p alpha beta r e h = rw (← e) h
 
 pub IsScore-score : (g : Scoring) (p : Position) → IsScore (score_of g p)
 IsScore-score g p = IsScore-score_of g p
-
--- a move whose value after it is known
-pub GivesAt-exact : (g : Scoring) (p q : Position) (s : ℕ) (alpha r t : ℤ) → q ≡ after p s → IsLegal p s → t ≡ value (score_of g) q → r ≡ neg_ℤ t → GivesAt (score_of g) p s alpha r
-GivesAt-exact g p q s alpha r t is legal e f =
-    let v = IsScore-value g q in
-    let same : r ≡ neg_ℤ (value (score_of g) (after p s)) = f ∙ ap neg_ℤ (e ∙ ap (value (score_of g)) is) in
-    record {
-      low = omega (arith, ints, e, f, v.high);
-      none = λ h. absurd (omega (arith, ints, e, f, h, v.high));
-      some = λ h. record { legal = legal; bound = BoundsAt-exact (neg_ℤ (value (score_of g) (after p s))) alpha r same (record { low = omega (arith, ints, e, f, v.high); high = omega (arith, ints, e, f, v.low) }) };
-    }

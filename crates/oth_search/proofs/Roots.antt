@@ -208,16 +208,6 @@ none_best g p w h e =
     each s within = ap (λ x. has x s) e ∙ has-zero s ∙ left_false (is_legal p s) (int_eq (gives g p s) (value (score_of g) p))
         (λ legal. false≢true (sym h ∙ can_move-legal p s (record { on_board = within; legal = legal })))
 
--- a search with the whole window is exact, and a pass turns the sign
-pub passed_value : (g : Scoring) (p q : Position) (lower upper alpha beta r : ℤ) → q ≡ pass p → can_move p ≡ false → can_move (pass p) ≡ true → Encloses lower upper (value (score_of g) q) → IsInterval lower upper → Decides lower upper alpha beta → alpha ≡ negsuc 64 → beta ≡ pos 65 → r ≡ neg_ℤ lower → r ≡ value (score_of g) p
-passed_value g p q lower upper alpha beta r e none some h i d low high is =
-    let v = subst (λ x. Encloses lower upper (value (score_of g) x)) e h in
-    let turn = value-pass (score_of g) p none some in
-    ⊎_elim
-    (λ one. omega (arith, ints, v.below, v.above, one, turn))
-    (λ out. ⊎_elim (λ k. absurd (omega (arith, ints, k, i.high, i.ordered))) (λ k. absurd (omega (arith, ints, k, i.low, i.ordered))) out)
-    d
-
 -- a forced pass turns the sign of the value
 pub negated_value : (g : Scoring) (p q : Position) (s r : ℤ) → q ≡ pass p → can_move p ≡ false → can_move (pass p) ≡ true → s ≡ value (score_of g) q → r ≡ neg_ℤ s → r ≡ value (score_of g) p
 negated_value g p q s r is none some e f =

@@ -212,20 +212,8 @@ below_limit v lower upper limit beta e d is low =
 pub Encloses-exactly : (v limit lower upper least : ℤ) → lower ≡ limit → upper ≡ limit → limit ≤ℤ least → least ≤ℤ v → v ≤ℤ limit → Encloses lower upper v
 Encloses-exactly v limit lower upper least e f at below above = record { below = omega (arith, ints, e, at, below); above = omega (arith, ints, f, above) }
 
-pub Decides-wider : (v lower upper limit alpha beta wide low : ℤ) → Encloses lower upper v → Decides lower upper alpha beta → beta ≡ limit → alpha ≡ low → v <ℤ limit → Decides lower upper low wide
-Decides-wider v lower upper limit alpha beta wide low e d is same less =
-    ⊎_elim inl (λ out. ⊎_elim (λ h. absurd (omega (arith, ints, h, is, e.below, less))) (λ h. inr (inr (omega (arith, ints, h, same)))) out) d
-
 pub Decides-same : (lower upper alpha beta low high : ℤ) → low ≡ alpha → high ≡ beta → Decides lower upper low high → Decides lower upper alpha beta
 Decides-same lower upper alpha beta low high e f d = rw (← e, ← f) d
-
--- a value that a probe found below its upper end
-pub less_limit : (v lower upper limit alpha beta : ℤ) → Encloses lower upper v → Decides lower upper alpha beta → alpha ≡ limit -ℤ pos 1 → beta ≡ limit → lower <ℤ limit → v <ℤ limit
-less_limit v lower upper limit alpha beta e d is same low =
-    ⊎_elim
-    (λ one. omega (arith, ints, one, e.above, low))
-    (λ out. ⊎_elim (λ h. absurd (omega (arith, ints, h, low, same))) (λ h. omega (arith, ints, h, e.above, is)) out)
-    d
 
 -- a search above a bound that a probe found inside the window
 pub WithinAt-above : (v alpha beta found low r m : ℤ) → BoundsAt v alpha found → alpha <ℤ found → low ≡ found → WithinAt v low beta r → IsGreater found r m → WithinAt v alpha beta m

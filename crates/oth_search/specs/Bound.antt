@@ -41,11 +41,6 @@ pub record IsOpen (lower upper alpha beta : ℤ) : Type 0 where
   pub below : lower <ℤ beta
   pub above : alpha <ℤ upper
 
--- scores of the range lie on both sides of the threshold
-pub record Splits (low high threshold : ℤ) : Type 0 where
-  pub from : low ≤ℤ threshold
-  pub to : threshold <ℤ high
-
 -- bounds of scores that contain other bounds
 pub record IsWider (lower upper wide_lower wide_upper : ℤ) : Type 0 where
   pub low : negsuc 63 ≤ℤ wide_lower

@@ -3,7 +3,7 @@ use Rattle.std.proofs.Common.{◌≡◌, ◌+◌, ◌*◌, ◌%◌, ◌^◌, ◌
 use Rattle.std.specs.Int.{bit_at}
 use Rattle.std.proofs.lemmas.Nat.Bits.{bit_at_set_same, bit_at_set_other, bit_at_and, bit_at-zero, same_from_bits}
 use Rattle.std.proofs.lemmas.Bool.{cases_eq}
-use Rattle.oth_text.specs.Discs.{ShowsDiscs, disc_byte}
+use Rattle.oth_text.specs.Discs.{disc_byte}
 
 -- the first n cells are those of the words, which have no other squares and share none
 pub record AreDiscs (text : List ℕ) (black white n : ℕ) : Type 0 where
@@ -63,7 +63,3 @@ empty_more text black white n so_far is = record {
 
 pub are_apart : (text : List ℕ) (black white n : ℕ) → AreDiscs text black white n → bit_and black white ≡ 0
 are_apart text black white n so_far = same_from_bits _ _ (λ i. bit_at_and black white i ∙ let rest = so_far.apart i in let none : min (bit_at black i) (bit_at white i) ≡ 0 = omega arith in none ∙ sym (bit_at-zero i))
-
--- all of the 64 squares
-pub shows_discs : (text : List ℕ) (black white n : ℕ) → AreDiscs text black white n → n ≡ 64 → ShowsDiscs text black white
-shows_discs text black white n so_far all = λ s h. so_far.cells s (omega arith)
