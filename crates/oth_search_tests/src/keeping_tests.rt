@@ -176,10 +176,21 @@ fn keeps_what_a_probe_tells(rt: HostRuntime) -> Result<(), Fail> {
 /// Keeps no entry and remembers, and counts the boards that a search comes to: those that are looked up, of at least
 /// nine empty squares, and those that are recalled, of five to eight.
 #[derive(Drop)]
-struct Counted {
+pub(crate) struct Counted {
     memo: Memo,
-    looked: u32,
+    pub(crate) looked: u32,
     recalled: u32,
+}
+
+impl Counted {
+    /// Over this memory, before the first call.
+    pub(crate) fn over(memo: Memo) -> Counted {
+        Counted {
+            memo,
+            looked: 0,
+            recalled: 0,
+        }
+    }
 }
 
 impl Cells for Counted {
@@ -251,11 +262,7 @@ fn check_counts(
     most_looked: u32,
     most_recalled: u32,
 ) -> i8 {
-    let mut cells = Counted {
-        memo,
-        looked: 0,
-        recalled: 0,
-    };
+    let mut cells = Counted::over(memo);
     let answer = solve_with(board, &mut cells, Scoring::Winner);
     assert!(rt; answer.board == board);
     let Counted {
