@@ -88,19 +88,10 @@ gathered items scoring count works hands g same drawn lists are replies once = r
       let o = once x in omega arith;
 }
 
-pub nothing_found : (items : List Item) (scoring : Scoring) (count : ℕ) (g : Gathered) → count ≡ length items → AreOnce count g.drawn → g.replies.items ≡ [] → AreGathered items scoring g
-nothing_found items scoring count g same drawn none = record {
-  drawn = let P : ℕ → Type 0 = λ n. AreOnce n g.drawn in subst P same drawn;
-  replies = let P : List Reply → Type 0 = All (IsReplyOf items scoring) in subst P (sym none) (All-nil (IsReplyOf items scoring));
-  once = λ x. let n : times x (numbers_of g.replies.items) ≡ 0 = ap (λ l. times x (numbers_of l)) none in omega arith;
-}
-
 pub All-longer : {X : Type 0} (P : X → Type 0) (xs ys : List X) (x : X) → ys ≡ xs ++ x ∷ [] → All P xs → P x → All P ys
 All-longer P xs ys x e all one = subst (All P) (sym e) (All-push P xs x all one)
 
 module _ {C : Type 0} (items : List Item) (scoring : Scoring) (tasks : Tasks) where
-  hand_in : Job C → Hand
-  hand_in j = j.work.hand
 
   pub jobs_can : (jobs : List (Job C)) → AreAllHands tasks (map (λ (j : Job C). j.work.hand) jobs) → All (λ (j : Job C). Holds items scoring j.work) jobs → (i : ℕ) (d : Job C) → i < length jobs → CanWork items scoring tasks (get_or jobs i d).work
   jobs_can jobs all each i d below = record {

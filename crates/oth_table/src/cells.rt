@@ -9,7 +9,7 @@ ghost use Rattle.oth_table.specs.Parts.{fixed_of};
 use crate::choice::{entry_in, picked, place, second};
 use crate::table::{Look, Put, SharedTable, TableSeat};
 use oth_rules::{Board, Scoring};
-use oth_search::{Cells, Entry};
+use oth_search::{Cells, Entry, Solved};
 use std::marker::Model;
 
 /// A table and a seat at it, as the cells in which a search keeps what it found.
@@ -151,4 +151,20 @@ impl<'a> Cells for TableCells<'a> {
             self.put_own(entry);
         }
     }
+
+    /// Nothing, and without a step: for boards of few empty squares a search has a memory of its own.
+    fn recall(&mut self, _board: &Board, _scoring: Scoring) -> Option<Solved>
+        ensures asked { IfSome result (λ s. (s.board ≡ _board.now) × (s.scoring ≡ _scoring)) }
+        ensures fixed { fixed_of self.new ≡ fixed_of self.old }
+        ensures none { result ≡ None }
+        ensures unchanged { self.new ≡ self.old }
+    {
+        None
+    }
+
+    /// Drops it, without a step.
+    fn remember(&mut self, _solved: &Solved)
+        ensures fixed { fixed_of self.new ≡ fixed_of self.old }
+        ensures unchanged { self.new ≡ self.old }
+    {}
 }

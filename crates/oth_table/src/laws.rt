@@ -1,7 +1,8 @@
 //! What follows from the contracts of the table's calls.
 ghost use Rattle.std.specs.Prelude.{[], List, ◌≤◌, ℕ};
+ghost use Rattle.oth_history.specs.History.{Name as SeatName, Begins, HasNone, IsSeat};
 ghost use Rattle.oth_table.specs.Alone.{IsAlone, LooksAlone, PutsAlone, CountsAlone, SearchesAlone, StoresAlone};
-ghost use Rattle.oth_table.specs.History.{IsLegal, publishes};
+ghost use Rattle.oth_table.specs.History.{IsLegal, author, makes, publishes};
 ghost use Rattle.oth_table.specs.declared.history.Event.{Event as AnyEvent};
 ghost use Rattle.oth_table.specs.declared.history.Terms.{Terms as AnyTerms};
 
@@ -20,4 +21,16 @@ pub fn alone()
 /// the wear.
 pub fn published_within_the_wear()
     ensures { (terms : AnyTerms) (c : ℕ) (h : List AnyEvent) → IsLegal terms h → publishes c h ≤ terms.wear }
+{}
+
+/// What a legal history of a table begins with is legal.
+pub fn a_past_is_legal()
+    ensures { (terms : AnyTerms) (earlier later : List AnyEvent) → Begins earlier later → IsLegal terms later
+        → IsLegal terms earlier }
+{}
+
+/// In a legal history of a table whoever is no seat has no event.
+pub fn a_stranger_did_nothing()
+    ensures { (terms : AnyTerms) (h : List AnyEvent) (s : SeatName) → IsLegal terms h → ¬ IsSeat makes h s
+        → HasNone author s h }
 {}

@@ -1,8 +1,8 @@
 -- Seats that are lent one after the other.
-use Rattle.std.proofs.Common.{◌≡◌, [], ◌∷◌, refl, ap, ◌∙◌, subst, Option, Some, None}
-use Rattle.std.proofs.lemmas.List.Elements.{All-cons, All-nil}
+use Rattle.std.proofs.Common.{◌≡◌, ◌∷◌, ap, ◌∙◌, subst, Option, Some, None}
+use Rattle.std.proofs.lemmas.List.Elements.{All-cons}
 use Rattle.oth_history.specs.History.{Begins, events_of}
-use Rattle.oth_history.proofs.Histories.{begins_itself, begins_then, ends_begins, events_of-own, events_of-since}
+use Rattle.oth_history.proofs.Histories.{begins_then, ends_begins, events_of-own, events_of-since}
 use Rattle.oth_table.specs.Parts.{Use, Sitting}
 use Rattle.oth_table.specs.Calls.{Makes}
 use Rattle.oth_table.specs.History as tables
@@ -12,13 +12,6 @@ use Rattle.oth_pieces.specs.Watch.{Watcher, IsMadeBy}
 use Rattle.oth_pieces.specs.declared.floor.event.Event.{Event}
 use Rattle.oth_pieces.specs.declared.floor.event.Event.TheVariants.{Made}
 use Rattle.oth_walk.specs.Lending.{IsMaking, LendsFloor, LendsSeat, LendsTable}
-
-pub LendsFloor-none : (w : Watcher) → LendsFloor w w
-LendsFloor-none w = record {
-  same = (refl, refl, refl);
-  begins = begins_itself w.seen;
-  mine = ([], refl, All-nil IsMaking);
-}
 
 -- a further seat is made
 pub LendsFloor-made : (old mid new made : Watcher) → LendsFloor old mid → IsMadeBy mid new made → LendsFloor old new
@@ -37,13 +30,6 @@ LendsFloor-made old mid new made lent by =
         All-cons IsMaking e lent.mine.0 tt lent.mine.2,
       );
     }
-
-pub LendsSeat-none : (u : Use) → LendsSeat u u
-LendsSeat-none u = record { table = refl; seat = (refl, refl, refl); begins = begins_itself u.seat.seen }
-
-pub LendsTable-none : (u : Option Use) → LendsTable u u
-LendsTable-none None = tt
-LendsTable-none (Some u) = LendsSeat-none u
 
 pub LendsSeat-then : (a b c : Use) → LendsSeat a b → LendsSeat b c → LendsSeat a c
 LendsSeat-then a b c one two = record {
