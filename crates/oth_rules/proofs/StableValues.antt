@@ -11,7 +11,7 @@ use Rattle.oth_rules.specs.Move.{is_flipped, can_move, after}
 use Rattle.oth_rules.specs.Score.{disc_difference, score_of}
 use Rattle.oth_rules.specs.Value.{value}
 use Rattle.oth_rules.specs.Laws.{IsLegal}
-use Rattle.oth_rules.specs.Stable.{IsStable, AreStable}
+use Rattle.oth_rules.specs.Stable.{IsStable, AreStable, IsLeftByStableDiscs}
 use Rattle.oth_rules.proofs.Bits.{word_of-has}
 use Rattle.oth_rules.proofs.Counts.{count_upto, count_by-squares, counts, ones-word_of, theirs_not_empty}
 use Rattle.oth_rules.proofs.Positions.{cell-position_of, after-is}
@@ -246,3 +246,11 @@ stable-most g p w l h =
 
 pub stable-computed : (v : ℤ) (k : ℕ) → k ≤ 64 → v ≤ℤ (pos 64 -ℤ pos (2 * k)) → v ≤ℤ to_z w8 (of_z w8 (to_z w8 (of_z w8 (pos 64 -ℤ to_z w8 k)) -ℤ to_z w8 k))
 stable-computed v k l h = omega (arith, ints, l, h)
+
+pub left-computed : (p : Position) (w : ℕ) → count_ones w ≤ 64 → AreStable p w
+    → IsLeftByStableDiscs p (to_z w8 (of_z w8 (to_z w8 (of_z w8 (pos 64 -ℤ to_z w8 (count_ones w))) -ℤ to_z w8 (count_ones w))))
+unfolding IsLeftByStableDiscs
+left-computed p w l h = (w, h, same (count_ones w) l)
+  where
+    same : (k : ℕ) → k ≤ 64 → to_z w8 (of_z w8 (to_z w8 (of_z w8 (pos 64 -ℤ to_z w8 k)) -ℤ to_z w8 k)) ≡ pos 64 -ℤ pos (2 * k)
+    same k l = omega (arith, ints, l)

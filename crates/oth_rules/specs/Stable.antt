@@ -2,12 +2,13 @@
 --     StaysFor n p s      no move among the next n plies, passes counted, flips what stands on s
 --     IsStable p s      whatever is played, no move flips what stands on s
 --     AreStable p w      the squares of the word w have discs of theirs that are stable
+--     IsLeftByStableDiscs p r      r is 64 less twice the number of some discs of theirs that are stable
 --     Reaches p d set      the set has all squares that are in line with an empty one, along d or against it
 --     Adds d square old new      new has what old has, and the squares in line with this one along d
 --     IsReach p ..      each of the four words reaches what is in line with an empty square
 --     is_backed d reached stable s      along the line of d, s is not reached from an empty square, or is at the edge of the
 --         board, or has one beside it that is stable
-use Rattle.std.specs.Prelude.{◌≡◌, ℕ, zero, suc, ◌<◌, Bool, true, false, not, ◌&&◌, ◌||◌}
+use Rattle.std.specs.Prelude.{◌≡◌, ℕ, zero, suc, ◌*◌, ◌<◌, Bool, true, false, not, ◌&&◌, ◌||◌, ℤ, pos, ◌-ℤ◌, count_ones}
 use Rattle.oth_rules.specs.Square.{Direction, Back, Stay, Forth, has, ray, is_in}
 use Rattle.oth_rules.specs.Position.{Position, is_theirs, is_empty, pass}
 use Rattle.oth_rules.specs.Move.{is_flipped, after}
@@ -23,6 +24,10 @@ IsStable p s = (n : ℕ) → StaysFor n p s
 
 abbrev pub AreStable : Position → ℕ → Type 0
 AreStable p w = (s : ℕ) → s < 64 → has w s ≡ true → (is_theirs p s ≡ true) × IsStable p s
+
+-- kept folded, so that a proof looks into it only where it says so
+unfoldable pub IsLeftByStableDiscs : Position → ℤ → Type 0
+IsLeftByStableDiscs p r = (w : ℕ) × AreStable p w × (r ≡ pos 64 -ℤ pos (2 * count_ones w))
 
 abbrev pub Reaches : Position → Direction → (ℕ → Bool) → Type 0
 Reaches p d set =

@@ -5,7 +5,7 @@ ghost use Rattle.oth_rules.specs.Score.{score_of};
 ghost use Rattle.oth_rules.specs.Value.{value};
 ghost use Rattle.oth_rules.specs.Laws.{IsScore};
 ghost use Rattle.oth_rules.specs.Line.{direction_of};
-ghost use Rattle.oth_rules.specs.Stable.{AreStable, Adds, IsReach, is_backed};
+ghost use Rattle.oth_rules.specs.Stable.{AreStable, IsLeftByStableDiscs, Adds, IsReach, is_backed};
 ghost use Rattle.oth_rules.specs.declared.scoring.Scoring.{Scoring};
 
 use crate::board::Board;
@@ -21,6 +21,7 @@ impl Board {
     /// through them, and there may be more.
     pub fn most_by_stable_discs(&self) -> i8
         ensures value { (g : Scoring) → value (score_of g) self.now ≤ℤ result }
+        ensures discs { IsLeftByStableDiscs self.now result }
         ensures score { IsScore result }
     {
         let stable = self.stable_discs().count_ones() as i8;
