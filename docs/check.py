@@ -16,6 +16,7 @@ It tests, in each document and, where it says so, in the code:
 - that each board line has 64 cells;
 - that in each row `| `CONSTANT` | `PATH` | `VALUE` |` of a table the file gives the constant that value;
 - of docs/ARCHITECTURE.md: that the lemmas which it lists for a crate are those that proofs of other crates import;
+- that each lemma and each definition is named somewhere else than at its own statement, but those of `Examples`;
 - of docs/DECISIONS.md: that its entries are numbered one after the other, from 1;
 - of docs/TESTED.md: that each test stands in the crate and the module that are named with it;
 - of docs/WRONG_BODIES.md: that each `CRATE/NAME` is an edit of that crate's must-fail/, each name that follows it one too or a test of that
@@ -40,7 +41,7 @@ FOLDERS = r"crates|docs|bench|examples|hostile|completions|include|\.ci"
 ROW = re.compile(r"^\| `([^`]+)` \| \[?`([^`:]+):(\d+)`(?:\]\(([^)]*)\))? \|")
 VALUE = re.compile(r"^\| `([A-Z_]+)` \| `([^`]+)` \| `([^`]+)` \|")
 HEADING = re.compile(r"^(#+) (.*)$")
-COUNT = re.compile(r"\b(\d+) definitions\b")
+COUNT = re.compile(r"\b(\d+) (?:further )?definitions\b")
 SPEC = re.compile(r"^ *(?:(?:unfoldable|abbrev) +(?:pub +)?|pub +(?=data|record))(?:data +|record +)?([^\s:(){}]+)")
 CODE = re.compile(r"\b(?:fn|struct|enum|trait|type|const) +(\w+)")
 WORD = re.compile(r"[^\W\d][\w'-]*")
@@ -265,10 +266,10 @@ def clauses(path, at):
 
 
 def model(path, name):
-    """The ghost lines of a type: of its declaration and of its `impl Model`."""
+    """The ghost lines of a type: of its declaration, and of its `impl Model` or of its `impl TableRule`."""
     found = []
     text = lines_of(path)
-    for begin in (rf"(?:pub )?(?:struct|enum) {name}\b", rf"impl(?:<[^>]*>)? Model for {name}\b"):
+    for begin in (rf"(?:pub )?(?:struct|enum) {name}\b", rf"impl(?:<[^>]*>)? (?:Model|TableRule<[^>]*>) for {name}\b"):
         at = next((i for i, line in enumerate(text) if re.match(begin, line)), None)
         if at is not None:
             end = next((i for i in range(at, len(text)) if text[i].rstrip() in ("}", ");") or text[i].endswith(";") and i == at), at)
@@ -415,6 +416,64 @@ def test_lemmas():
         test(not differ, f"docs/ARCHITECTURE.md: the lemmas of {owner} that are used above it: {', '.join(differ)}")
 
 
+DECLARED = re.compile(r" *(?:(?:pub|abbrev|unfoldable|data|record) +)*([^\s:(){}=]+)(?: [({].*?)? :(?: |$)")
+USE = re.compile(r"(?m)^ *(?:ghost )?(?:pub )?use Rattle\.([^\s{};]+?)(?:\.\{([^}]*)\})?(?: as (\w+))?;?$")
+NAME = re.compile(r"(?<![^\s(){}\[\],;`⟦⟧])[^\s(){}\[\],;.`⟦⟧]+")
+
+
+class Logic:
+    """A file of specs, proofs or code: its lines with neither imports nor comments, and the words that it imports, with their modules."""
+
+    def __init__(self, path):
+        text = path.read_text(encoding="utf-8")
+        self.lines = [line for line in USE.sub("", text).split("\n") if not line.strip().startswith(("--", "//"))]
+        self.names = NAME.findall("\n".join(self.lines))
+        self.module = ".".join(path.relative_to(ROOT / "crates").with_suffix("").parts)
+        self.imported = set()
+        for module, names, local in USE.findall(text):
+            for name in names.split(",") if names else ():
+                original, _, other = name.strip().partition(" as ")
+                if (other or original) in self.names:
+                    self.imported.add((module, original))
+            if local:
+                parts = re.findall(rf"(?<![\w.]){local}\.([^\s(){{}},;.]+)", "\n".join(self.lines))
+                self.imported.update((module, name) for name in parts)
+
+    def statements(self):
+        """Each lemma and definition that is declared here, fields and constructors left out: its name, and the lines that it takes."""
+        found, bodies = [], [0]
+        for at, line in enumerate(self.lines):
+            depth = len(line) - len(line.lstrip())
+            while line and depth < bodies[-1]:
+                bodies.pop()
+            match = depth == bodies[-1] and DECLARED.match(line)
+            if line.lstrip().startswith("module _"):
+                bodies.append(depth + 2)
+                found.append((None, at))
+            elif match:
+                found.append((match.group(1), at))
+        ends = [at for _, at in found[1:]] + [len(self.lines)]
+        return [(name, at, end) for (name, at), end in zip(found, ends) if name]
+
+
+# Three lemmas of oth_main/proofs/AdditionLemmas that are still to be taken out.
+STILL_DEAD = ("answered_by", "faulty_answered", "refused_room")
+
+
+def test_dead():
+    """Whether each lemma and definition is named somewhere else than at its own statement; those of `Examples` are there to be read."""
+    places = ("specs/**/*.antt", "proofs/**/*.antt", "src/**/*.rt")
+    files = [Logic(path) for place in places for path in sorted(ROOT.glob(f"crates/*/{place}"))]
+    imported = set().union(*(file.imported for file in files))
+    for file in files:
+        if re.search(r"\.(specs|proofs)\.[A-Z]\w*$", file.module) and not file.module.endswith(".Examples"):
+            for name, at, end in file.statements():
+                if name in STILL_DEAD:
+                    continue
+                own = NAME.findall("\n".join(file.lines[at:end])).count(name)
+                test((file.module, name) in imported or file.names.count(name) > own, f"crates/{file.module.replace('.', '/')}.antt: nothing names {name}")
+
+
 def test_names():
     known = crates()
     test_tested(known)
@@ -478,6 +537,7 @@ def main():
     test_counts()
     test_names()
     test_lemmas()
+    test_dead()
     test_decisions()
     test_theorem()
     test_code()
