@@ -247,9 +247,10 @@ fn a_verdict_ends_with_its_status_where_a_device_fails(rt: HostRuntime) {
     assert!(rt; book_verify(&rt, rt.alloc(), b"", &mut writer, &mut errors) == 3);
 }
 
-// What an addition wrote on standard output and on standard error, and its status.
+// What an addition wrote on standard output and on standard error, how often it read, and its status.
 #[derive(Drop)]
 pub(super) struct Addition {
+    pub(super) reads: u64,
     pub(super) writer: ByteSink<256>,
     pub(super) errors: ByteSink<64>,
     pub(super) status: u8,
@@ -276,6 +277,7 @@ pub(super) fn add<R: Wait + Threads + Sync + AllocGlobal>(
         settings,
     );
     Addition {
+        reads: reader.calls(),
         writer,
         errors: errors.sink,
         status,
@@ -300,7 +302,8 @@ fn adds_the_lines_of_each_input(rt: HostRuntime) {
     }
 }
 
-// A read that fails leaves no book, and a write that fails a beginning of it.
+// A read that fails leaves no book, and a write that fails a beginning of it. Neither device is called again: the
+// source gives a byte a time, the sink takes one.
 #[test]
 fn an_addition_with_a_failing_device_writes_no_more(rt: HostRuntime) {
     let asked = by_two_workers(Scoring::Discs);
@@ -308,11 +311,14 @@ fn an_addition_with_a_failing_device_writes_no_more(rt: HostRuntime) {
         let done = add(&rt, EMPTY_BOOK, TWO_LINES, n, NO_FAILURE, &asked);
         assert!(rt; done.status == 1 && done.errors.taken() == b"run error 1\n".as_slice());
         assert!(rt; done.writer.taken().is_empty());
+        assert!(rt; done.reads == n as u64 + 1 && done.writer.calls() == 0);
     }
+    let whole = TWO_LINES.len() as u64 + 1;
     for n in 0..BOOK_OF_TWO.len() {
         let done = add(&rt, EMPTY_BOOK, TWO_LINES, NO_FAILURE, n, &asked);
         assert!(rt; done.status == 1 && done.errors.taken() == b"run error 2\n".as_slice());
         assert!(rt; done.writer.taken() == &BOOK_OF_TWO[..n]);
+        assert!(rt; done.reads == whole && done.writer.calls() == n as u64 + 1);
     }
 }
 
@@ -332,6 +338,7 @@ fn an_addition_tests_its_settings_first(rt: HostRuntime) {
         };
         let done = add(&rt, b"", TWO_LINES, 0, 0, &asked);
         assert!(rt; done.status == 2 && done.errors.taken() == told.as_slice());
+        assert!(rt; done.reads == 0 && done.writer.calls() == 0);
     }
 }
 
