@@ -14,6 +14,7 @@ import subprocess
 import sys
 
 CRATE = pathlib.Path(__file__).resolve().parent.parent / "crates/oth_c"
+KIT = ("std", "std_alloc", "core")
 USED = ("oth_rules", "oth_search", "oth_table", "oth_text")
 BELOW = ("oth_history", *USED)
 ARCHIVE = "out/liboth_c.a"
@@ -32,7 +33,8 @@ def left_by_ci(crate):
 def built_over():
     """Proves and compiles oth_c over the libraries that lie there, and tells whether that succeeded."""
     kit = pathlib.Path(subprocess.run(["rt", "doc"], stdout=subprocess.PIPE, check=True, text=True).stdout.strip()).parent
-    words = ["build", "--crate-name", "oth_c", "src/lib.rt", "--crate-type", "staticlib", "--extern", f"std={kit}/rlibs/std.rlib"]
+    words = ["build", "--crate-name", "oth_c", "src/lib.rt", "--crate-type", "staticlib"]
+    words += [word for crate in KIT for word in ("--extern", f"{crate}={kit}/rlibs/{crate}.rlib")]
     words += ["-L", f"dependency={kit}/rlibs", "--antt-project", f"{kit}/rattle/logic/antt-project.json", "--logic-built", f"{kit}/logic_built"]
     words += [word for crate in USED for word in ("--extern", f"{crate}={library_of(crate)}/{crate}.rlib")]
     words += [word for crate in BELOW for word in ("-L", f"dependency={library_of(crate)}")]

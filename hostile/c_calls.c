@@ -2,6 +2,7 @@
  *     c_calls refusals                          each refusal by its name; prints the names of those that do not come, or that write something
  *     c_calls moves | transcript                each line of standard input
  *     c_calls solve SCORING CELLS THREADS       so many threads at once solve all lines, with 1 MB of stack each; prints what all of them found
+ *     c_calls share SCORING CELLS THREADS       the same over one table, each thread from a seat of its own
  * Linked with -Wl,--wrap=malloc it refuses, in each call, the request for memory whose number the environment's REFUSED gives. */
 #include "othsolve.h"
 
@@ -26,6 +27,8 @@ static char lines[MOST_LINES][LINE];
 static int line_count;
 static uint8_t scoring;
 static uint32_t cells;
+/* The seat of this thread, where one table is shared. */
+static _Thread_local oth_seat *seat;
 
 static void print_squares(FILE *file, uint64_t squares) {
     for (int square = 0; square < 64; square++) {
@@ -58,7 +61,7 @@ static void solve_line(FILE *file, const char *line) {
     uint32_t code = oth_read_board((const uint8_t *)line, strlen(line), &position, &place);
     asked = 0;
     if (code == OTH_DONE) {
-        code = oth_solve_alone(position.board, scoring, cells, &answer);
+        code = seat == NULL ? oth_solve_alone(position.board, scoring, cells, &answer) : oth_solve_over(seat, position.board, &answer);
     }
     if (code != OTH_DONE) {
         print_refusal(file, code, place, empties(position.board));
@@ -109,22 +112,37 @@ static void each_line(FILE *file, void (*reply)(FILE *, const char *)) {
 struct report {
     char *text;
     size_t length;
+    oth_seat seat;
 };
 
 static void *solve_all(void *given) {
     struct report *report = given;
+    seat = report->seat.at == NULL ? NULL : &report->seat;
     FILE *file = open_memstream(&report->text, &report->length);
     each_line(file, solve_line);
     fclose(file);
+    oth_seat_free(&report->seat);
     return NULL;
 }
 
+/* Makes a table and a seat for each thread; no request for memory is refused there. */
+static int are_seated(int threads, struct report *found) {
+    long number = refused;
+    refused = 0;
+    int all = oth_table_new(cells, scoring, &found[0].seat) == OTH_DONE;
+    for (int at = 1; at < threads; at++) {
+        all = all && oth_seat_new(&found[at - 1].seat, &found[at].seat) == OTH_DONE;
+    }
+    refused = number;
+    return all;
+}
+
 /* Whether all threads found the same; prints it. */
-static int solve(int threads) {
+static int solve(int threads, int shares) {
     pthread_t started[MOST_THREADS];
-    struct report found[MOST_THREADS];
+    struct report found[MOST_THREADS] = {{0}};
     pthread_attr_t small;
-    int same = 1;
+    int same = !shares || are_seated(threads, found);
     pthread_attr_init(&small);
     pthread_attr_setstacksize(&small, STACK);
     for (int at = 0; at < threads; at++) {
@@ -186,6 +204,52 @@ static void refusals_of_solving(void) {
     want("solve: the table takes memory", asked > 2);
 }
 
+/* Makes a table of 64 cells; where `more` is given, a further seat of the table. */
+static uint32_t made(oth_seat *first, oth_seat *more) {
+    asked = 0;
+    return more == NULL ? oth_table_new(64, 1, first) : oth_seat_new(first, more);
+}
+
+/* Refuses each request of the call in turn, until it makes none that is refused: it leaves the seats as they were. */
+static int is_made_at_last(oth_seat *first, oth_seat *more) {
+    const oth_seat before = *first;
+    oth_seat *taken = more == NULL ? first : more;
+    uint32_t code = OTH_MEMORY;
+    int holds = 1;
+    for (refused = 1; code != OTH_DONE && refused < 100; refused++) {
+        code = made(first, more);
+        holds = holds && first->at == (code == OTH_DONE && more == NULL ? taken->at : before.at);
+        holds = holds && (code == OTH_DONE ? taken->at != NULL : code == OTH_MEMORY && taken->at == NULL);
+    }
+    holds = holds && refused > 3;
+    refused = 0;
+    return holds && code == OTH_DONE;
+}
+
+static void refusals_of_seats(void) {
+    oth_answer answer = {7, 7, 7};
+    oth_seat first = {NULL}, more = {NULL};
+    want("seat: no table", oth_seat_new(&first, &more) == OTH_NO_SEAT && first.at == NULL && more.at == NULL);
+    want("over: overlap", keeps(oth_solve_over(&first, both, &answer), OTH_OVERLAP, answer));
+    want("over: empties", keeps(oth_solve_over(&first, open_board, &answer), OTH_EMPTIES, answer));
+    want("over: no seat", keeps(oth_solve_over(&first, full, &answer), OTH_NO_SEAT, answer) && first.at == NULL);
+    want("table: scoring", oth_table_new(3, 2, &first) == OTH_SCORING && first.at == NULL);
+    want("table: no cells", oth_table_new(0, 1, &first) == OTH_CELLS && first.at == NULL);
+    want("table: three cells", oth_table_new(3, 1, &first) == OTH_CELLS && first.at == NULL);
+    want("table: too many cells", oth_table_new(524288, 1, &first) == OTH_CELLS && first.at == NULL);
+    want("table: memory", is_made_at_last(&first, NULL));
+    want("table: seated", oth_table_new(3, 2, &first) == OTH_SEATED && first.at != NULL);
+    want("seat: memory", is_made_at_last(&first, &more));
+    want("seat: seated", oth_seat_new(&first, &more) == OTH_SEATED && first.at != NULL && more.at != NULL);
+    oth_seat_free(&first);
+    want("free: the seat", first.at == NULL);
+    want("over: refused", keeps(oth_solve_over(&first, full, &answer), OTH_NO_SEAT, answer));
+    want("over: the other", oth_solve_over(&more, full, &answer) == OTH_DONE && answer.score == 64 && answer.kind == OTH_KIND_END);
+    oth_seat_free(&more);
+    oth_seat_free(&more);
+    want("free: the last", more.at == NULL);
+}
+
 static void refusals_of_texts(void) {
     uint8_t buffer[OTH_MOVES_LINE], place = 7;
     size_t written = 7;
@@ -216,14 +280,16 @@ int main(int count, char **words) {
     if (strcmp(command, "refusals") == 0) {
         refusals_of_rules();
         refusals_of_solving();
+        refusals_of_seats();
         refusals_of_texts();
         return wrong;
     }
     read_lines();
-    if (strcmp(command, "solve") == 0 && count == 5) {
+    int shares = strcmp(command, "share") == 0;
+    if ((shares || strcmp(command, "solve") == 0) && count == 5) {
         scoring = strcmp(words[2], "discs") == 0;
         cells = (uint32_t)strtoul(words[3], NULL, 10);
-        return !solve(atoi(words[4]));
+        return !solve(atoi(words[4]), shares);
     }
     each_line(stdout, strcmp(command, "moves") == 0 ? moves_line : transcript_line);
     return 0;

@@ -102,7 +102,7 @@ def board_lines():
 
 
 def against_program(program, calls, lines):
-    """The same replies as the program, by one thread and by four at once."""
+    """The same replies as the program: by one thread, by four at once, and by eight over one table."""
     text = text_of([*lines, *faulty_lines()])
     for scoring in ("winner", "discs"):
         for cells in ("0", "4096"):
@@ -110,6 +110,9 @@ def against_program(program, calls, lines):
             for threads in ("1", "4"):
                 name = f"{BOARDS} boards in C as by the program: {scoring}, {cells} cells, {threads} threads at once"
                 yield name, ran_wrong([calls, "solve", scoring, cells, threads], text, wanted)
+        for cells in ("1", "4096"):
+            name = f"{BOARDS} boards in C as by the program: {scoring}, eight threads over one table of {cells} cells"
+            yield name, ran_wrong([calls, "share", scoring, cells, "8"], text, printed([program, "solve", "--scoring", scoring], text))
     yield f"the moves of {BOARDS} boards in C as by the program", ran_wrong([calls, "moves"], text, printed([program, "moves"], text))
     games = text_of(transcripts())
     yield f"{GAMES} games in C as by the program", ran_wrong([calls, "transcript"], games, printed([program, "transcript"], games))
@@ -145,6 +148,9 @@ def without_memory(program, calls, lines):
         for request in range(1, MOST_REQUESTS + 1):
             name = f"{len(lines)} boards in C where request {request} of a call for memory is refused, {cells} cells"
             yield name, ran_wrong([calls, "solve", "winner", cells, "1"], text, wanted, env={**os.environ, "REFUSED": str(request)})
+    for request in (1, 2):
+        name = f"{len(lines)} boards in C over one table where request {request} of a solving call for memory is refused"
+        yield name, ran_wrong([calls, "share", "winner", "64", "4"], text, wanted, env={**os.environ, "REFUSED": str(request)})
 
 
 def under_valgrind(program, calls, lines):
@@ -154,6 +160,8 @@ def under_valgrind(program, calls, lines):
     for cells in ("0", "64"):
         wanted = printed([program, "solve", "--cells", cells], text)
         yield f"valgrind: {len(lines)} boards, {cells} cells, four threads", ran_wrong([*VALGRIND, calls, "solve", "winner", cells, "4"], text, wanted)
+    wanted = printed([program, "solve"], text)
+    yield f"valgrind: {len(lines)} boards, four threads over one table", ran_wrong([*VALGRIND, calls, "share", "winner", "64", "4"], text, wanted)
     yield "valgrind: moves", ran_wrong([*VALGRIND, calls, "moves"], text, printed([program, "moves"], text))
     games = text_of(transcripts()[:50])
     yield "valgrind: games", ran_wrong([*VALGRIND, calls, "transcript"], games, printed([program, "transcript"], games))

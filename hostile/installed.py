@@ -87,6 +87,15 @@ boards = [Board.of_line(line) for line in sys.stdin]
 for answer in solve_all(boards, int(sys.argv[1]), Scoring[sys.argv[2].upper()], cells=64):
     print(answer)
 """
+SHARES = """
+import sys
+from concurrent.futures import ThreadPoolExecutor
+from othsolve import Board, Scoring, Table
+boards = [Board.of_line(line) for line in sys.stdin]
+with Table(64, Scoring[sys.argv[1].upper()]) as table, ThreadPoolExecutor(4) as pool:
+    for answer in pool.map(table.solve, boards):
+        print(answer)
+"""
 # Each line an expression, and what it comes to or is refused with.
 PYTHON_ROWS = """
 Board.start().moves() | ('d3', 'c4', 'f5', 'e6')
@@ -253,7 +262,7 @@ def shared_object(prefix):
     """What the shared object is called, what is seen of it, and what it needs."""
     library = f"{prefix}/lib/libothsolve.so"
     seen = ran(["nm", "-D", "--defined-only", library]).wrote.decode().split("\n")
-    declared = re.findall(r"^uint32_t (oth_\w+)\(", read(f"{prefix}/include/othsolve.h"), re.MULTILINE)
+    declared = re.findall(r"^(?:uint32_t|void) (oth_\w+)\(", read(f"{prefix}/include/othsolve.h"), re.MULTILINE)
     yield "the shared object shows the header's calls alone", differs(sorted(line.split()[2] for line in seen if line), sorted(declared))
     yield "the shared object's name", differs(dynamic(library, "SONAME"), [SONAME])
     needed = [name for name in dynamic(library, "NEEDED") if not name.startswith("libc.so")]
@@ -326,6 +335,8 @@ def python(prefix):
             name = f"{len(boards)} boards in Python by {threads} threads as a small solver answers them: {scoring}"
             words = [sys.executable, "-c", SOLVES, threads, scoring]
             yield name, c_library.ran_wrong(words, lines, c_library.text_of(answers), env=told)
+        words = [sys.executable, "-c", SHARES, scoring]
+        yield f"the same by 4 threads over one table: {scoring}", c_library.ran_wrong(words, lines, c_library.text_of(answers), env=told)
     games = read(f"{TOP}/examples/games.txt")
     analyse = [sys.executable, f"{PYTHON}/analyse.py"]
     yield "a game analysed from 12 empty squares on", c_library.ran_wrong(analyse, games.splitlines(True)[0], ANALYSED, env=told)

@@ -7,8 +7,8 @@
  *           has one: `own` and `opp` change places. Where neither side has a move the game is over.
  * Score     What the mover gets if both sides play best, -64 to 64: its discs less the opponent's where the game is over.
  *           By OTH_SCORING_WINNER the squares that stay empty go to the winner, by OTH_SCORING_DISCS to nobody.
- * Answers   Each call returns OTH_DONE, which is 0, or the number of a refusal. A refused call writes nothing, but for
- *           `place` of the two readers.
+ * Answers   Each call but oth_seat_free returns OTH_DONE, which is 0, or the number of a refusal. A refused call writes
+ *           nothing, but for `place` of the two readers.
  *
  * Proved of each call is the contract beside it in crates/oth_c/src: what it writes is exactly what the rules over single
  * squares say, scores and best moves are those of full minimax, and a refusal comes exactly where it is named here.
@@ -19,12 +19,17 @@
  *    and the number of its bytes, which the call may write, and which hold some value before. No text ends with a NUL.
  * 2. What a call may write, no other pointer of that call leads to, and no other thread reads or writes meanwhile. Boards
  *    and positions go by value: oth_play(x, square, &x) is allowed, and writes the board after the move over x.
- * 3. The program's malloc, realloc and free are of one allocator, which aligns as C asks. Only oth_solve_alone uses them.
+ * 3. The program's malloc, realloc and free are of one allocator, which aligns as C asks. Only oth_solve_alone and the calls
+ *    of a seat use them.
  * 4. No call is made from a signal handler, or from the forked child of a process with threads.
- * 5. A thread that calls oth_solve_alone has 1 MB of stack. The other calls need a few kilobytes.
+ * 5. A thread that calls oth_solve_alone or oth_solve_over has 1 MB of stack. The other calls need a few kilobytes.
+ * 6. An oth_seat is {NULL} before its first call. After that only calls change it, one call at a time; it isn't copied, and
+ *    no copy is used. It may be handed to another thread where that comes after the call before (a thread's start or join,
+ *    a lock). At last oth_seat_free has each seat.
  *
- * Threads   No call starts a thread, waits, takes a lock, prints, or keeps anything for a later call. A program may call
- *           from as many threads of its own as it likes, at the same time, each call with memory of its own.
+ * Threads   No call starts a thread, waits, takes a lock or prints, and none but those of a seat keeps anything for a later
+ *           call. A program may call from as many threads of its own as it likes, at the same time, each call with memory
+ *           of its own. Several threads can search over one table, each from a seat of its own (below).
  * Build     cc -O2 -I. worked.c libothsolve.a -o worked             (x86-64-v2: with SSE4.2 and POPCNT; no other library)
  *           Where `./install PREFIX` put it: cc -O2 worked.c $(pkg-config --cflags --libs othsolve) -o worked, with
  *           PREFIX/lib/pkgconfig in PKG_CONFIG_PATH, or else -I PREFIX/include -L PREFIX/lib -lothsolve. That takes the
@@ -64,7 +69,11 @@ enum {
     OTH_GAME_LENGTH = 21,  /* the number of bytes is odd */
     OTH_GAME_SQUARE = 22,  /* pair `place`, counted from 1, is no letter from a to h and a digit from 1 to 8 */
     OTH_GAME_ILLEGAL = 23, /* the move of pair `place` is illegal */
-    OTH_GAME_OVER = 24     /* the game is over before pair `place` */
+    OTH_GAME_OVER = 24,    /* the game is over before pair `place` */
+
+    OTH_NO_SEAT = 31, /* there is no seat */
+    OTH_SEATED = 32,  /* there is a seat already */
+    OTH_MEMORY = 33   /* there is no memory for the table or the seat */
 };
 
 enum { OTH_SCORING_WINNER = 0, OTH_SCORING_DISCS = 1 };
@@ -92,6 +101,11 @@ typedef struct {
     uint8_t kind;
 } oth_answer;
 
+/* A seat of a table that several threads share, or none where it is {NULL}. */
+typedef struct {
+    void *at;
+} oth_seat;
+
 /* The mover's legal squares.
  * Refusal: OTH_OVERLAP. */
 uint32_t oth_moves(oth_board board, uint64_t *moves);
@@ -111,6 +125,32 @@ uint32_t oth_play(oth_board board, uint8_t square, oth_board *next);
  * tenths at 18.
  * Refusals, the first that holds: OTH_OVERLAP, OTH_SCORING, OTH_EMPTIES, OTH_CELLS. */
 uint32_t oth_solve_alone(oth_board board, uint8_t scoring, uint32_t cells, oth_answer *answer);
+
+/* A table for several threads and many boards. Each thread has a seat of it, makes its calls from there, and finds what all
+ * threads have stored. Made with one seat, before the threads start:
+ *
+ *     oth_seat first = {NULL}, second = {NULL};
+ *     oth_table_new(65536, OTH_SCORING_WINNER, &first);    the table, and its first seat
+ *     oth_seat_new(&first, &second);                       a further one, for another thread
+ *     oth_solve_over(&first, board, &answer);              here, while the other thread has its calls of &second
+ *     oth_seat_free(&first);                               each seat once; the last one frees the table too
+ *     oth_seat_free(&second);
+ *
+ * oth_table_new makes a table of `cells` cells of 32 bytes, 1, 2, 4 .. 262144, for boards by this scoring, and its first seat.
+ * Refusals, the first that holds: OTH_SEATED, OTH_SCORING, OTH_CELLS, OTH_MEMORY. */
+uint32_t oth_table_new(uint32_t cells, uint8_t scoring, oth_seat *seat);
+
+/* A further seat of the table of `seat`, in `more`, which is {NULL}: another variable than `seat`.
+ * Refusals, the first that holds: OTH_NO_SEAT, OTH_SEATED, OTH_MEMORY. */
+uint32_t oth_seat_new(oth_seat *seat, oth_seat *more);
+
+/* The score, all best moves and the kind of a board of at most 30 empty squares, by the table's scoring and the caller's
+ * thread. The answer is exact, whatever other threads do over the table meanwhile, and want of memory doesn't change it.
+ * Refusals, the first that holds: OTH_OVERLAP, OTH_EMPTIES, OTH_NO_SEAT. */
+uint32_t oth_solve_over(oth_seat *seat, oth_board board, oth_answer *answer);
+
+/* Frees the seat, and with the last seat its table; it is {NULL} then. Nothing is done where it was. */
+void oth_seat_free(oth_seat *seat);
 
 /* The position of a board line: 64 cells row by row from a1, each 'X' (black), 'O' (white) or '-', a space, and who moves,
  * 'X' or 'O'. `place` gets the place of the bad cell, and else 0.

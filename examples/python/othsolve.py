@@ -25,12 +25,13 @@ import ctypes
 import enum
 import os
 import re
+import threading
 from collections import deque
 from collections.abc import Iterable, Iterator
 from concurrent.futures import Future, ThreadPoolExecutor
 from dataclasses import dataclass
 
-__all__ = ["Answer", "Board", "Kind", "MOST_EMPTIES", "Refused", "Scoring", "Side", "solve_all"]
+__all__ = ["Answer", "Board", "Kind", "MOST_EMPTIES", "Refused", "Scoring", "Side", "Table", "solve_all"]
 
 MOST_EMPTIES = 30
 """A board with more empty squares is not solved."""
@@ -56,6 +57,9 @@ _WORDS = {
     22: "pair `place`, counted from 1, is no letter from a to h and a digit from 1 to 8",
     23: "the move of pair `place` is illegal",
     24: "the game is over before pair `place`",
+    31: "there is no seat",
+    32: "there is a seat already",
+    33: "there is no memory for the table or the seat",
 }
 _CELLS = 6
 # What stands for the place in these words, with what is said of it.
@@ -109,18 +113,26 @@ class _Answer(ctypes.Structure):
     _fields_ = [("best", ctypes.c_uint64), ("score", ctypes.c_int8), ("kind", ctypes.c_uint8)]
 
 
+class _Seat(ctypes.Structure):
+    _fields_ = [("at", ctypes.c_void_p)]
+
+
 def _library() -> ctypes.CDLL:
     """The library, with the types of its calls. `ctypes.CDLL` lets other threads of Python run while a call lasts."""
     try:
         library = ctypes.CDLL(os.environ.get("OTHSOLVE_LIBRARY", "libothsolve.so.0"))
     except OSError as error:
         raise ImportError(f"{error} (./install makes the library; OTHSOLVE_LIBRARY names it where the system doesn't find it)") from error
-    words, place = ctypes.POINTER(ctypes.c_uint64), ctypes.POINTER(ctypes.c_uint8)
+    words, place, seat = ctypes.POINTER(ctypes.c_uint64), ctypes.POINTER(ctypes.c_uint8), ctypes.POINTER(_Seat)
     calls = {
         "oth_moves": [_Board, words],
         "oth_flips": [_Board, ctypes.c_uint8, words],
         "oth_play": [_Board, ctypes.c_uint8, ctypes.POINTER(_Board)],
         "oth_solve_alone": [_Board, ctypes.c_uint8, ctypes.c_uint32, ctypes.POINTER(_Answer)],
+        "oth_table_new": [ctypes.c_uint32, ctypes.c_uint8, seat],
+        "oth_seat_new": [seat, seat],
+        "oth_solve_over": [seat, _Board, ctypes.POINTER(_Answer)],
+        "oth_seat_free": [seat],
         "oth_read_board": [ctypes.c_char_p, ctypes.c_size_t, ctypes.POINTER(_Position), place],
         "oth_read_transcript": [ctypes.c_char_p, ctypes.c_size_t, ctypes.POINTER(_Position), place],
         "oth_print_board": [_Position, ctypes.c_char_p, ctypes.c_size_t],
@@ -128,7 +140,7 @@ def _library() -> ctypes.CDLL:
     }
     for name, types in calls.items():
         call = getattr(library, name)
-        call.argtypes, call.restype = types, ctypes.c_uint32
+        call.argtypes, call.restype = types, None if name == "oth_seat_free" else ctypes.c_uint32
     return library
 
 
@@ -279,6 +291,57 @@ class Board:
         cells = self.line()
         rows = (f"{row + 1} {' '.join(cells[8 * row : 8 * row + 8])}" for row in range(8))
         return "\n".join(["  a b c d e f g h", *rows])
+
+
+class Table:
+    """A table for many boards and several threads, which find in it what all have stored: an answer is the same, and comes sooner.
+
+        with Table() as table, ThreadPoolExecutor(4) as pool:
+            for answer in pool.map(table.solve, boards):
+                print(answer)
+
+    `cells` is 1, 2, 4 .. 262144, of 32 bytes each. The table is freed by `close`, or where the `with` ends, once no call is under way.
+    """
+
+    def __init__(self, cells: int = 65_536, scoring: Scoring = Scoring.WINNER) -> None:
+        if not 0 <= cells < 1 << 32:
+            raise Refused(_CELLS)
+        self._lock = threading.Lock()
+        self._first = _Seat()
+        self._free: list[_Seat] = []
+        _done(_LIB.oth_table_new(cells, Scoring(scoring), ctypes.byref(self._first)))
+
+    def solve(self, board: Board) -> Answer:
+        """The score, all best moves and the kind of a board of at most MOST_EMPTIES empty squares, by the table's scoring."""
+        seat, answer = self._seat(), _Answer()
+        try:
+            _done(_LIB.oth_solve_over(ctypes.byref(seat), board._words, ctypes.byref(answer)))
+        finally:
+            with self._lock:
+                self._free.append(seat)
+        return Answer(answer.score, _names(answer.best), Kind(answer.kind))
+
+    def _seat(self) -> _Seat:
+        """A seat that no other call has."""
+        with self._lock:
+            if self._free:
+                return self._free.pop()
+            seat = _Seat()
+            _done(_LIB.oth_seat_new(ctypes.byref(self._first), ctypes.byref(seat)))
+            return seat
+
+    def close(self) -> None:
+        """Frees the table. After it a call is refused."""
+        with self._lock:
+            for seat in [self._first, *self._free]:
+                _LIB.oth_seat_free(ctypes.byref(seat))
+            self._free.clear()
+
+    def __enter__(self) -> Table:
+        return self
+
+    def __exit__(self, *_: object) -> None:
+        self.close()
 
 
 def solve_all(

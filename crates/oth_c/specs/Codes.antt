@@ -13,3 +13,6 @@ code_of refusal.Empties = 5
 code_of refusal.Cells = 6
 code_of refusal.Room = 7
 code_of refusal.Mover = 8
+code_of refusal.NoSeat = 31
+code_of refusal.Taken = 32
+code_of refusal.Memory = 33

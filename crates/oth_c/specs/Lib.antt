@@ -1,7 +1,9 @@
 pub mod Answers
 pub mod Boards
 pub mod Codes
+pub mod Owned
 pub mod Positions
 pub mod Rules
+pub mod Seats
 pub mod Solving
 pub mod Texts

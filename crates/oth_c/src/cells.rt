@@ -2,10 +2,11 @@
 
 ghost use Rattle.std.specs.Prelude.{◌≡◌};
 ghost use Rattle.oth_table.specs.Parts.{fixed_of};
+ghost use Rattle.oth_table.specs.Calls.{IsSeatOf};
 
 use oth_rules::{Board, Scoring};
 use oth_search::{Cells, Entry, Memo, Solved};
-use oth_table::TableCells;
+use oth_table::{TableCells, TableSeat};
 use std::alloc::Global;
 
 /// The cells of a table, and a memory of the call's own for boards with few empty squares, where there is room for one.
@@ -17,18 +18,30 @@ pub struct CallCells<'t> {
 
 impl<'t> CallCells<'t> {
     /// These cells, with nothing remembered.
-    pub fn of(alloc: Global, cells: TableCells<'t>) -> CallCells<'t> {
+    pub fn of(alloc: Global, cells: TableCells<'t>) -> CallCells<'t>
+        ensures { result.cells ≡ cells.entry }
+    {
         CallCells {
             cells,
             memo: Memo::new(alloc).ok(),
         }
     }
+
+    /// The seat of the table, as it then is.
+    pub fn into_seat(self) -> TableSeat
+        ensures seat { result ≡ self.entry.cells.seat }
+        ensures home { IsSeatOf self.entry.cells.table result }
+    {
+        self.cells.into_seat()
+    }
 }
 
 impl<'t> Cells for CallCells<'t> {
-    ghost Fixed = { Unit {0} };
+    ghost use Rattle.oth_table.specs.Parts.{Fixed};
 
-    ghost fixed = { λ c. tt };
+    ghost Fixed = { Fixed };
+
+    ghost fixed = { λ c. fixed_of c.cells };
 
     fn look(&mut self, board: &Board, scoring: Scoring) -> Option<Entry> {
         self.cells.look(board, scoring)

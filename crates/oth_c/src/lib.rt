@@ -5,8 +5,12 @@
 mod answer;
 mod board;
 mod cells;
+mod loose;
 mod position;
 mod refusal;
 mod rules;
+mod seat;
+mod seated;
+mod sharing;
 mod solving;
 mod texts;

@@ -25,10 +25,16 @@ pub enum Refusal {
     Room,
     /// 8: the mover is neither 0 nor 1.
     Mover,
+    /// 31: there is no seat.
+    NoSeat,
+    /// 32: there is a seat already.
+    Taken,
+    /// 33: there is no memory for it.
+    Memory,
 }
 
 impl Refusal {
-    /// The number by which C knows the refusal: 1 to 8.
+    /// The number by which C knows the refusal: 1 to 8, and of the calls of a seat 31 to 33.
     pub fn code(self) -> u32
         ensures { result ≡ code_of self }
     {
@@ -41,6 +47,9 @@ impl Refusal {
             Refusal::Cells => 6,
             Refusal::Room => 7,
             Refusal::Mover => 8,
+            Refusal::NoSeat => 31,
+            Refusal::Taken => 32,
+            Refusal::Memory => 33,
         }
     }
 }

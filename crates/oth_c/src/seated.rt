@@ -1,0 +1,91 @@
+//! A seat with the table that it is at.
+
+ghost use Rattle.std.specs.Prelude.{◌≡◌, IfOk, IfErr};
+ghost use Rattle.oth_search.specs.Full.{IsFullMinimax};
+ghost use Rattle.oth_table.specs.Calls.{IsSeatOf, IsSame, Makes};
+ghost use Rattle.oth_table.specs.Sizes.{IsSize};
+ghost use Rattle.oth_table.specs.Parts.{fixed_of};
+ghost use Rattle.oth_c.specs.Seats.{IsOpened, RefusesCells};
+ghost use Rattle.oth_c.specs.declared.refusal.Refusal.TheVariants as refusal;
+
+use crate::cells::CallCells;
+use crate::refusal::Refusal;
+use oth_rules::{Board, Scoring};
+use oth_search::{Answer, solve_with};
+use oth_table::{SharedTable, TableCells, TableError, TableSeat};
+use std::alloc::Global;
+use std::marker::Model;
+use std::sync::Arc;
+
+/// A seat of a table, and a part in the table: the last seat that goes frees it.
+#[derive(Drop)]
+pub struct Seated {
+    table: Arc<SharedTable>,
+    seat: TableSeat,
+}
+
+impl Model for Seated {
+    ghost use Rattle.oth_table.specs.Parts.{Use};
+    ghost use Rattle.oth_table.specs.Calls.{IsSeatOf};
+
+    ghost Value = { Use };
+
+    ghost view = { λ s. record { table = s.table.value; seat = s.seat } };
+
+    ghost invariant = { λ s. IsSeatOf s.table.value s.seat };
+}
+
+/// The place of one that may be away for the time of a call.
+#[derive(Drop)]
+pub struct Place {
+    pub seated: Option<Seated>,
+}
+
+impl Seated {
+    /// The first seat of a new table of `cells` cells: 1, 2, 4 .. 262,144.
+    pub fn new(alloc: Global, cells: u32, scoring: Scoring) -> Result<Seated, Refusal>
+        ensures ok { IfOk result (λ s. IsSize cells × IsOpened cells scoring s) }
+        ensures err { IfErr result (RefusesCells cells) }
+    {
+        match SharedTable::new(alloc, cells, scoring) {
+            Ok((table, seat)) => {
+                let Ok(table) = Arc::new(alloc, table) else {
+                    return Err(Refusal::Memory);
+                };
+                Ok(Seated { table, seat })
+            }
+            Err(TableError::Cells) => Err(Refusal::Cells),
+            Err(_) => Err(Refusal::Memory),
+        }
+    }
+
+    /// A further seat of the same table. The only refusal is for want of memory, and leaves this one as it was.
+    pub fn another(&mut self, alloc: Global) -> Result<Seated, Refusal>
+        ensures table { self.new.table ≡ self.old.table }
+        ensures same { IsSame self.old.seat self.new.seat }
+        ensures made { IfOk result (λ s. (s.table ≡ self.old.table) × Makes self.old.seat self.new.seat s.seat) }
+        ensures err { IfErr result (λ r. (r ≡ refusal.Memory) × (self.new ≡ self.old)) }
+    {
+        let Seated { table, seat } = self;
+        let Ok(part) = Arc::try_clone(table) else {
+            return Err(Refusal::Memory);
+        };
+        match table.seat(alloc, seat) {
+            Ok(seat) => Ok(Seated { table: part, seat }),
+            Err(_) => Err(Refusal::Memory),
+        }
+    }
+
+    /// The answer of a board by the table's scoring, and the seat, as it then is.
+    pub fn solve(self, alloc: Global, board: Board) -> (Seated, Answer)
+        ensures kept { fixed_of result.0 ≡ fixed_of self }
+        ensures full { IsFullMinimax board self.table.terms.scoring result.1 }
+    {
+        let Seated { table, seat } = self;
+        let scoring = table.scoring();
+        let mut cells = CallCells::of(alloc, TableCells::of(&table, seat));
+        let answer = solve_with(board, &mut cells, scoring);
+        let seat = cells.into_seat();
+        (Seated { table, seat }, answer)
+    }
+}
