@@ -10,3 +10,4 @@ pub mod Fulls
 pub mod RootSearch
 pub mod LastBounds
 pub mod KindLemmas
+pub mod Scored

@@ -7,3 +7,4 @@ pub mod Entries
 pub mod Lasts
 pub mod Full
 pub mod Children
+pub mod Scores

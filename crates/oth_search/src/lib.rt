@@ -23,10 +23,12 @@ mod outlook;
 mod probe;
 mod quarter;
 mod root;
+mod scores;
 mod searching;
 mod solved;
 mod solving;
 mod squares;
+mod valuing;
 mod window;
 
 pub use answer::Answer;
@@ -40,8 +42,10 @@ pub use memo::{Memo, MemoCells};
 pub use observer::{Observer, Unobserved};
 pub use ordering::order;
 pub use root::{guessed_score, settle_moves};
+pub use scores::{ScoredMove, Scores, answer_by, scores_with};
 pub use searching::search;
 pub use solved::{NotChild, Solved};
 pub use solving::{
     MOST_EMPTIES, TooManyEmpties, before_pass, ended, solve_alone, solve_moves, solve_with,
 };
+pub use valuing::value_of;

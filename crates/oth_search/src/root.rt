@@ -38,8 +38,8 @@ pub fn settle_moves<C: Cells, O: Observer>(
     replies
 }
 
-// The boards after the root's moves, in their order, with what is known of each.
-fn replies_of(root: &Solved, known: &[Solved]) -> ArrayVec<Solved, 64> {
+/// The boards after the root's moves, in their order, with what is known of each.
+pub(crate) fn replies_of(root: &Solved, known: &[Solved]) -> ArrayVec<Solved, 64> {
     let mut replies = ArrayVec::new();
     let squares = order(&root.board);
     for square in squares.as_slice() {
@@ -87,8 +87,8 @@ fn settle<C: Cells, O: Observer>(
     }
 }
 
-// The value of the reply at this place.
-fn exact_at<C: Cells, O: Observer>(
+/// The value of the reply at this place.
+pub(crate) fn exact_at<C: Cells, O: Observer>(
     replies: &mut [Solved],
     place: usize,
     cells: &mut C,
@@ -112,8 +112,8 @@ fn exact_at<C: Cells, O: Observer>(
     value
 }
 
-// The value that a reply is first asked for: what is known to be reached, or else a guess.
-fn start<C: Cells>(replies: &mut [Solved], limit: i8, empties: u8, cells: &mut C) -> i8
+/// The value that a reply is first asked for: what is known to be reached, or else a guess.
+pub(crate) fn start<C: Cells>(replies: &mut [Solved], limit: i8, empties: u8, cells: &mut C) -> i8
     requires few { length replies.old ≤ 64 }
     requires limit { IsScore limit }
     ensures score { IsScore result }
@@ -132,8 +132,8 @@ fn start<C: Cells>(replies: &mut [Solved], limit: i8, empties: u8, cells: &mut C
     guess(replies, cells)
 }
 
-// The place of a reply with at most the least value that is found to be reached, from `start` up to `limit`.
-fn leader<C: Cells, O: Observer>(
+/// The place of a reply with at most the least value that is found to be reached, from `start` up to `limit`.
+pub(crate) fn leader<C: Cells, O: Observer>(
     replies: &mut [Solved],
     start: i8,
     limit: i8,

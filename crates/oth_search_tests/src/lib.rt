@@ -9,6 +9,6 @@ mod keeping_tests;
 #[cfg(test)]
 mod root_tests;
 #[cfg(test)]
-mod speed_tests;
+mod scores_tests;
 #[cfg(test)]
 mod tests;
