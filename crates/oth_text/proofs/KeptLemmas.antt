@@ -33,3 +33,11 @@ reading-kept kept line keeps = elim (cases_lt 67 (length line)) [
 pub solvable_reading-kept : (kept line : List ℕ) → KeepsLine kept line → solvable_reading kept ≡ solvable_reading line
 unfolding solvable_reading
 solvable_reading-kept kept line keeps = ap if_solvable (reading-kept kept line keeps)
+
+pub kept_length : (kept line : List ℕ) → KeepsLine kept line → (length kept == 66) ≡ (length line == 66)
+kept_length kept line keeps = elim (cases_lt 67 (length line)) [
+  | inl l ↦
+      let short : length kept ≡ 67 = ap length keeps ∙ length-take-le 67 line (omega arith) in
+      ne_eqb (length kept) 66 (λ e. absurd (omega arith)) ∙ sym (ne_eqb (length line) 66 (λ e. absurd (omega arith)))
+  | inr l ↦ ap (λ n. n == 66) (ap length (keeps ∙ take_all 67 line l))
+]

@@ -8,4 +8,5 @@ pub mod ReportLemmas
 pub mod KeptLemmas
 pub mod PairLemmas
 pub mod TranscriptLemmas
+pub mod GameLemmas
 pub mod OneLineLemmas

@@ -1,20 +1,20 @@
 -- A transcript, pair by pair.
-use Rattle.std.proofs.Common.{◌≡◌, ◌+◌, ◌%◌, ◌==◌, ◌<◌, ℕ, List, [], ◌∷◌, ◌++◌, length, true, false, Option, Some, None, Ok, Err, refl, sym, ap, ◌∙◌, is_some, append_assoc, append-nil, arith}
+use Rattle.std.proofs.Common.{◌≡◌, ◌+◌, ◌%◌, ◌==◌, ◌<◌, ◌≤◌, ℕ, List, [], ◌∷◌, ◌++◌, length, true, false, Option, Some, None, Ok, Err, refl, sym, ap, ◌∙◌, is_some, append_assoc, append-nil, arith}
 use Rattle.std.specs.Prelude.{IsTrue}
 use Rattle.std.proofs.lemmas.List.{length-append}
 use Rattle.std.proofs.lemmas.Bool.{eq-eqb, ne_eqb}
-use Rattle.oth_rules.specs.Square.{word_of, has, squares}
-use Rattle.oth_rules.specs.Position.{Position as Discs, cell, empty_count, is_empty, is_empty_cell, pass}
+use Rattle.oth_rules.specs.Square.{word_of}
+use Rattle.oth_rules.specs.Position.{Position as Discs, empty_count, pass}
 use Rattle.oth_rules.specs.Move.{after, can_move, is_legal, is_over}
+use Rattle.oth_rules.proofs.Counts.{counts}
 use Rattle.oth_rules.proofs.Scores.{cannot_move, does_move}
 use Rattle.oth_rules.proofs.SearchLaws.{empty_count-after}
-use Rattle.oth_text.specs.Sides.{opponent, start}
-use Rattle.oth_text.specs.Transcript.{Reached, StandsFor, after_move, is_nil, is_square_name, or_fault, pair_fault, pending_bytes, played, resumed, square_of, transcript_reading, with_forced_pass}
+use Rattle.oth_text.specs.Sides.{opponent}
+use Rattle.oth_text.specs.Transcript.{Reached, StandsFrom, after_move, is_nil, is_square_name, or_fault, pair_fault, pending_bytes, played, resumed, square_of, transcript_reading_from, with_forced_pass}
 use Rattle.oth_text.specs.declared.position.Side.{Side}
 use Rattle.oth_text.specs.declared.position.Position.{Position}
 use Rattle.oth_text.specs.declared.fault.TranscriptFault.{TranscriptFault}
 use Rattle.oth_text.specs.declared.fault.TranscriptFault.TheVariants.{OddLength}
-use Rattle.oth_text.proofs.ReadingLemmas.{start-own, start-opp}
 
 -- ---- bytes
 
@@ -23,23 +23,23 @@ is_nil_push [] b = refl
 is_nil_push (c ∷ text) b = refl
 
 -- the second byte of a pair
-pair_done : (kept kept' : Reached) (letter digit : ℕ) (text : List ℕ) → StandsFor kept text → kept.pending ≡ Some letter → kept'.pending ≡ None → kept'.is_empty ≡ false
+pair_done : (from : Position) (kept kept' : Reached) (letter digit : ℕ) (text : List ℕ) → StandsFrom from kept text → kept.pending ≡ Some letter → kept'.pending ≡ None → kept'.is_empty ≡ false
     → ((rest : List ℕ) → resumed kept.fault kept.next_pair kept.position (letter ∷ digit ∷ rest) ≡ resumed kept'.fault kept'.next_pair kept'.position rest)
-    → StandsFor kept' (text ++ digit ∷ [])
-pair_done kept kept' letter digit text so_far some none some_byte step = record {
+    → StandsFrom from kept' (text ++ digit ∷ [])
+pair_done from kept kept' letter digit text so_far some none some_byte step = record {
   pairs = so_far.pairs ++ letter ∷ digit ∷ [];
   text_is = ap (λ t. t ++ digit ∷ []) (so_far.text_is ∙ ap (λ p. so_far.pairs ++ pending_bytes p) some) ∙ append_assoc so_far.pairs (letter ∷ []) (digit ∷ [])
       ∙ sym (append-nil (so_far.pairs ++ letter ∷ digit ∷ [])) ∙ ap (λ p. (so_far.pairs ++ letter ∷ digit ∷ []) ++ pending_bytes p) (sym none);
   even = let e = so_far.even in simp length-append (omega arith);
-  leads = λ rest. ap (played 1 start) (append_assoc so_far.pairs (letter ∷ digit ∷ []) rest) ∙ so_far.leads (letter ∷ digit ∷ rest) ∙ step rest;
+  leads = λ rest. ap (played 1 from) (append_assoc so_far.pairs (letter ∷ digit ∷ []) rest) ∙ so_far.leads (letter ∷ digit ∷ rest) ∙ step rest;
   empty = some_byte ∙ sym (is_nil_push text digit);
 }
 
 -- behind a fault
-pub pair_passed : (kept kept' : Reached) (letter digit : ℕ) (text : List ℕ) → StandsFor kept text → kept.pending ≡ Some letter → kept'.pending ≡ None → kept'.is_empty ≡ false
-    → is_some kept.fault ≡ true → kept'.fault ≡ kept.fault → StandsFor kept' (text ++ digit ∷ [])
-pair_passed kept kept' letter digit text so_far some none some_byte faulty same =
-    pair_done kept kept' letter digit text so_far some none some_byte (λ rest. passes kept.fault kept'.fault rest faulty same)
+pub pair_passed : (from : Position) (kept kept' : Reached) (letter digit : ℕ) (text : List ℕ) → StandsFrom from kept text → kept.pending ≡ Some letter → kept'.pending ≡ None → kept'.is_empty ≡ false
+    → is_some kept.fault ≡ true → kept'.fault ≡ kept.fault → StandsFrom from kept' (text ++ digit ∷ [])
+pair_passed from kept kept' letter digit text so_far some none some_byte faulty same =
+    pair_done from kept kept' letter digit text so_far some none some_byte (λ rest. passes kept.fault kept'.fault rest faulty same)
   where
     passes : (f g : Option TranscriptFault) (rest : List ℕ) → is_some f ≡ true → g ≡ f
         → resumed f kept.next_pair kept.position (letter ∷ digit ∷ rest) ≡ resumed g kept'.next_pair kept'.position rest
@@ -47,13 +47,13 @@ pair_passed kept kept' letter digit text so_far some none some_byte faulty same 
     passes (Some f) g rest faulty same = rw same refl
 
 -- a pair that is played, or is the first fault
-pub pair_played : (kept kept' : Reached) (letter digit : ℕ) (text : List ℕ) → StandsFor kept text → kept.pending ≡ Some letter → kept'.pending ≡ None → kept'.is_empty ≡ false
+pub pair_played : (from : Position) (kept kept' : Reached) (letter digit : ℕ) (text : List ℕ) → StandsFrom from kept text → kept.pending ≡ Some letter → kept'.pending ≡ None → kept'.is_empty ≡ false
     → is_some kept.fault ≡ false → kept'.fault ≡ pair_fault kept.next_pair kept.position letter digit
     → (kept'.fault ≡ None → (kept'.next_pair ≡ kept.next_pair + 1) × (kept'.position ≡ after_move kept.position (square_of letter digit)))
-    → StandsFor kept' (text ++ digit ∷ [])
+    → StandsFrom from kept' (text ++ digit ∷ [])
 unfolding played
-pair_played kept kept' letter digit text so_far some none some_byte good is moved =
-    pair_done kept kept' letter digit text so_far some none some_byte (λ rest. plays kept.fault kept'.fault rest good is moved)
+pair_played from kept kept' letter digit text so_far some none some_byte good is moved =
+    pair_done from kept kept' letter digit text so_far some none some_byte (λ rest. plays kept.fault kept'.fault rest good is moved)
   where
     moves_on : (g : Option TranscriptFault) (rest : List ℕ) → (g ≡ None → (kept'.next_pair ≡ kept.next_pair + 1) × (kept'.position ≡ after_move kept.position (square_of letter digit)))
         → or_fault g (played (kept.next_pair + 1) (after_move kept.position (square_of letter digit)) rest) ≡ resumed g kept'.next_pair kept'.position rest
@@ -69,9 +69,9 @@ pair_played kept kept' letter digit text so_far some none some_byte good is move
 
 -- ---- the end of a transcript
 
-pub at_odd : (kept : Reached) (text : List ℕ) → StandsFor kept text → is_some kept.pending ≡ true → Err OddLength ≡ transcript_reading text
-unfolding transcript_reading
-at_odd kept text so_far some =
+pub at_odd : (from : Position) (kept : Reached) (text : List ℕ) → StandsFrom from kept text → is_some kept.pending ≡ true → Err OddLength ≡ transcript_reading_from from text
+unfolding transcript_reading_from
+at_odd from kept text so_far some =
     let odd : length text % 2 ≡ 1 = odd_length kept.pending some so_far.text_is in
     let test : (length text % 2 == 0) ≡ false = ne_eqb _ _ (λ e. absurd (omega arith)) in
     rw test refl
@@ -84,21 +84,21 @@ no_pending : (p : Option ℕ) → is_some p ≡ false → p ≡ None
 no_pending None h = refl
 no_pending (Some b) h = absurd (let bad : true ≡ false = h in cc)
 
-whole_pairs : (kept : Reached) (text : List ℕ) → StandsFor kept text → is_some kept.pending ≡ false → transcript_reading text ≡ resumed kept.fault kept.next_pair kept.position []
-unfolding transcript_reading
-whole_pairs kept text so_far none =
+whole_pairs : (from : Position) (kept : Reached) (text : List ℕ) → StandsFrom from kept text → is_some kept.pending ≡ false → transcript_reading_from from text ≡ resumed kept.fault kept.next_pair kept.position []
+unfolding transcript_reading_from
+whole_pairs from kept text so_far none =
     let whole : text ≡ so_far.pairs ++ [] = so_far.text_is ∙ ap (λ p. so_far.pairs ++ pending_bytes p) (no_pending kept.pending none) in
     let len = ap length (whole ∙ append-nil so_far.pairs) in
     let even = so_far.even in
     let test : (length text % 2 == 0) ≡ true = eq-eqb _ _ (rw len even) in
-    rw test (ap (played 1 start) whole ∙ so_far.leads [])
+    rw test (ap (played 1 from) whole ∙ so_far.leads [])
 
-pub at_fault : (kept : Reached) (text : List ℕ) (f : TranscriptFault) → StandsFor kept text → is_some kept.pending ≡ false → kept.fault ≡ Some f → Err f ≡ transcript_reading text
-at_fault kept text f so_far none is = sym (whole_pairs kept text so_far none ∙ ap (λ g. resumed g kept.next_pair kept.position []) is)
+pub at_fault : (from : Position) (kept : Reached) (text : List ℕ) (f : TranscriptFault) → StandsFrom from kept text → is_some kept.pending ≡ false → kept.fault ≡ Some f → Err f ≡ transcript_reading_from from text
+at_fault from kept text f so_far none is = sym (whole_pairs from kept text so_far none ∙ ap (λ g. resumed g kept.next_pair kept.position []) is)
 
-pub at_end : (kept : Reached) (text : List ℕ) → StandsFor kept text → is_some kept.pending ≡ false → kept.fault ≡ None → Ok kept.position ≡ transcript_reading text
+pub at_end : (from : Position) (kept : Reached) (text : List ℕ) → StandsFrom from kept text → is_some kept.pending ≡ false → kept.fault ≡ None → Ok kept.position ≡ transcript_reading_from from text
 unfolding played
-at_end kept text so_far none is = sym (whole_pairs kept text so_far none ∙ ap (λ g. resumed g kept.next_pair kept.position []) is)
+at_end from kept text so_far none is = sym (whole_pairs from kept text so_far none ∙ ap (λ g. resumed g kept.next_pair kept.position []) is)
 
 -- ---- moves
 
@@ -132,9 +132,5 @@ fewer_empties p q b s within legal is same =
     let e = ap empty_count is in
     omega arith
 
-start_count : (b : Discs) → b.own ≡ 0x0000_0008_1000_0000 → b.opp ≡ 0x0000_0010_0800_0000 → empty_count b ≡ 60
-unfolding empty_count is_empty is_empty_cell cell has squares
-start_count b own opp = rw (own, opp) refl
-
-pub start_empties : empty_count start.board ≡ 60
-start_empties = start_count start.board start-own start-opp
+pub no_more_empties : (b : Discs) → empty_count b ≤ 64
+no_more_empties b = let all = counts b in omega arith

@@ -9,7 +9,7 @@ use Rattle.oth_rules.specs.Position.{Position as Discs, cell, is_mine_cell, is_t
 use Rattle.oth_rules.specs.Laws.{IsLegal}
 use Rattle.oth_rules.proofs.SearchLaws.{can_move-legal}
 use Rattle.oth_text.specs.Sides.{opponent, start}
-use Rattle.oth_text.specs.Transcript.{AreLegal, HasFaultyPair, MovesUnlessOver, with_forced_pass, IsPairFault, IsTranscript, IsTranscriptFault, after_move, after_moves, is_square_name, or_fault, pair_fault, played, square_of, transcript_of, transcript_reading}
+use Rattle.oth_text.specs.Transcript.{AreLegal, HasFaultyPair, MovesUnlessOver, with_forced_pass, IsPairFault, IsTranscriptFrom, IsTranscriptFaultFrom, after_move, after_moves, is_square_name, or_fault, pair_fault, played, square_of, transcript_of, transcript_reading_from}
 use Rattle.oth_text.specs.declared.position.Position.{Position}
 use Rattle.oth_text.proofs.ReadingLemmas.{start-own, start-opp}
 use Rattle.oth_text.specs.declared.fault.TranscriptFault.{TranscriptFault}
@@ -97,12 +97,6 @@ played_moves k p (s ∷ moves) rest legal =
     ∙ played_moves (k + 1) (after_move p s) moves rest legal.1
     ∙ ap (λ n. played n (after_moves (after_move p s) moves) rest) count
 
-record LeadsTo (p : Position) (text : List ℕ) (q : Position) : Type 0 where
-  pub moves : List ℕ
-  pub names : text ≡ transcript_of moves
-  pub legal : AreLegal p moves
-  pub reached : q ≡ after_moves p moves
-
 record FailsFrom (k : ℕ) (p : Position) (text : List ℕ) (f : TranscriptFault) : Type 0 where
   pub moves : List ℕ
   pub letter : ℕ
@@ -113,7 +107,7 @@ record FailsFrom (k : ℕ) (p : Position) (text : List ℕ) (f : TranscriptFault
   pub fault : IsPairFault (k + length moves) (after_moves p moves) letter digit f
 
 abbrev Says : ℕ → Position → List ℕ → Result Position TranscriptFault → Type 0
-Says k p text (Ok q) = LeadsTo p text q
+Says k p text (Ok q) = IsTranscriptFrom p text q
 Says k p text (Err f) = FailsFrom k p text f
 
 says_more : (k : ℕ) (p : Position) (letter digit : ℕ) (rest : List ℕ) (r : Result Position TranscriptFault) → IsName letter digit → IsLegal p.board (square_of letter digit)
@@ -168,63 +162,60 @@ length-transcript (s ∷ moves) = let rest = length-transcript moves in omega ar
 even_test : (n : ℕ) → n % 2 ≡ 0 → (n % 2 == 0) ≡ true
 even_test n h = eq-eqb _ _ h
 
-reading-even : (text : List ℕ) → length text % 2 ≡ 0 → transcript_reading text ≡ played 1 start text
-unfolding transcript_reading
-reading-even text even = rw (even_test (length text) even) refl
+reading-even : (from : Position) (text : List ℕ) → length text % 2 ≡ 0 → transcript_reading_from from text ≡ played 1 from text
+unfolding transcript_reading_from
+reading-even from text even = rw (even_test (length text) even) refl
 
-reading-odd : (text : List ℕ) → length text % 2 ≡ 1 → transcript_reading text ≡ Err OddLength
-unfolding transcript_reading
-reading-odd text odd = let test : (length text % 2 == 0) ≡ false = ne_eqb _ _ (λ e. absurd (omega arith)) in rw test refl
+reading-odd : (from : Position) (text : List ℕ) → length text % 2 ≡ 1 → transcript_reading_from from text ≡ Err OddLength
+unfolding transcript_reading_from
+reading-odd from text odd = let test : (length text % 2 == 0) ≡ false = ne_eqb _ _ (λ e. absurd (omega arith)) in rw test refl
 
-pub reading_transcript : (text : List ℕ) (p : Position) → IsTranscript text p → transcript_reading text ≡ Ok p
+pub reading_transcript : (from : Position) (text : List ℕ) (p : Position) → IsTranscriptFrom from text p → transcript_reading_from from text ≡ Ok p
 unfolding played
-reading_transcript text p h =
+reading_transcript from text p h =
     let count = length-transcript h.moves in
     let len = ap length h.names in
-    reading-even text (omega arith) ∙ ap (played 1 start) (h.names ∙ sym (append-nil (transcript_of h.moves)))
-    ∙ played_moves 1 start h.moves [] h.legal ∙ ap (λ q. Ok q) (sym h.reached)
+    reading-even from text (omega arith) ∙ ap (played 1 from) (h.names ∙ sym (append-nil (transcript_of h.moves)))
+    ∙ played_moves 1 from h.moves [] h.legal ∙ ap (λ q. Ok q) (sym h.reached)
 
-faulty_pair : (text : List ℕ) (f : TranscriptFault) → HasFaultyPair text f → transcript_reading text ≡ Err f
+faulty_pair : (from : Position) (text : List ℕ) (f : TranscriptFault) → HasFaultyPair from text f → transcript_reading_from from text ≡ Err f
 unfolding played
-faulty_pair text f h =
-    reading-even text h.even ∙ ap (played 1 start) h.names ∙ played_moves 1 start h.moves (h.letter ∷ h.digit ∷ h.others) h.legal
-    ∙ ap (λ o. or_fault o (played (1 + length h.moves + 1) (after_move (after_moves start h.moves) (square_of h.letter h.digit)) h.others))
-    (pair_fault_is (1 + length h.moves) (after_moves start h.moves) h.letter h.digit f h.fault)
+faulty_pair from text f h =
+    reading-even from text h.even ∙ ap (played 1 from) h.names ∙ played_moves 1 from h.moves (h.letter ∷ h.digit ∷ h.others) h.legal
+    ∙ ap (λ o. or_fault o (played (1 + length h.moves + 1) (after_move (after_moves from h.moves) (square_of h.letter h.digit)) h.others))
+    (pair_fault_is (1 + length h.moves) (after_moves from h.moves) h.letter h.digit f h.fault)
 
-pub reading_transcript_fault : (text : List ℕ) (f : TranscriptFault) → IsTranscriptFault text f → transcript_reading text ≡ Err f
-reading_transcript_fault text OddLength h = reading-odd text h
-reading_transcript_fault text (BadPair k) h = faulty_pair text (BadPair k) h
-reading_transcript_fault text (Illegal k) h = faulty_pair text (Illegal k) h
-reading_transcript_fault text (Over k) h = faulty_pair text (Over k) h
+pub reading_transcript_fault : (from : Position) (text : List ℕ) (f : TranscriptFault) → IsTranscriptFaultFrom from text f → transcript_reading_from from text ≡ Err f
+reading_transcript_fault from text OddLength h = reading-odd from text h
+reading_transcript_fault from text (BadPair k) h = faulty_pair from text (BadPair k) h
+reading_transcript_fault from text (Illegal k) h = faulty_pair from text (Illegal k) h
+reading_transcript_fault from text (Over k) h = faulty_pair from text (Over k) h
 
-is_transcript : (text : List ℕ) (p : Position) → LeadsTo start text p → IsTranscript text p
-is_transcript text p h = record { moves = h.moves; names = h.names; legal = h.legal; reached = h.reached }
+is_transcript_fault : (from : Position) (text : List ℕ) (f : TranscriptFault) → length text % 2 ≡ 0 → FailsFrom 1 from text f → IsTranscriptFaultFrom from text f
+is_transcript_fault from text OddLength even h = absurd h.fault
+is_transcript_fault from text (BadPair k) even h = record { even = even; moves = h.moves; letter = h.letter; digit = h.digit; others = h.others; names = h.names; legal = h.legal; fault = h.fault }
+is_transcript_fault from text (Illegal k) even h = record { even = even; moves = h.moves; letter = h.letter; digit = h.digit; others = h.others; names = h.names; legal = h.legal; fault = h.fault }
+is_transcript_fault from text (Over k) even h = record { even = even; moves = h.moves; letter = h.letter; digit = h.digit; others = h.others; names = h.names; legal = h.legal; fault = h.fault }
 
-is_transcript_fault : (text : List ℕ) (f : TranscriptFault) → length text % 2 ≡ 0 → FailsFrom 1 start text f → IsTranscriptFault text f
-is_transcript_fault text OddLength even h = absurd h.fault
-is_transcript_fault text (BadPair k) even h = record { even = even; moves = h.moves; letter = h.letter; digit = h.digit; others = h.others; names = h.names; legal = h.legal; fault = h.fault }
-is_transcript_fault text (Illegal k) even h = record { even = even; moves = h.moves; letter = h.letter; digit = h.digit; others = h.others; names = h.names; legal = h.legal; fault = h.fault }
-is_transcript_fault text (Over k) even h = record { even = even; moves = h.moves; letter = h.letter; digit = h.digit; others = h.others; names = h.names; legal = h.legal; fault = h.fault }
-
-pub says_transcript : (text : List ℕ) (p : Position) → transcript_reading text ≡ Ok p → IsTranscript text p
-says_transcript text p h = elim (cases_eq (length text % 2) 0) [
-  | inl even ↦ is_transcript text p (subst (Says 1 start text) (sym (reading-even text even) ∙ h) (played_says 1 start text even))
-  | inr odd ↦ let bad : ◌≡◌ {A = Result Position TranscriptFault} (Err OddLength) (Ok p) = sym (reading-odd text (omega arith)) ∙ h in absurd (cc)
+pub says_transcript : (from : Position) (text : List ℕ) (p : Position) → transcript_reading_from from text ≡ Ok p → IsTranscriptFrom from text p
+says_transcript from text p h = elim (cases_eq (length text % 2) 0) [
+  | inl even ↦ subst (Says 1 from text) (sym (reading-even from text even) ∙ h) (played_says 1 from text even)
+  | inr odd ↦ let bad : ◌≡◌ {A = Result Position TranscriptFault} (Err OddLength) (Ok p) = sym (reading-odd from text (omega arith)) ∙ h in absurd (cc)
 ]
 
-pub says_fault : (text : List ℕ) (f : TranscriptFault) → transcript_reading text ≡ Err f → IsTranscriptFault text f
-says_fault text f h = elim (cases_eq (length text % 2) 0) [
-  | inl even ↦ is_transcript_fault text f even (subst (Says 1 start text) (sym (reading-even text even) ∙ h) (played_says 1 start text even))
+pub says_fault : (from : Position) (text : List ℕ) (f : TranscriptFault) → transcript_reading_from from text ≡ Err f → IsTranscriptFaultFrom from text f
+says_fault from text f h = elim (cases_eq (length text % 2) 0) [
+  | inl even ↦ is_transcript_fault from text f even (subst (Says 1 from text) (sym (reading-even from text even) ∙ h) (played_says 1 from text even))
   | inr odd ↦
       let is_odd : length text % 2 ≡ 1 = omega arith in
-      let e : ◌≡◌ {A = Result Position TranscriptFault} (Err OddLength) (Err f) = sym (reading-odd text is_odd) ∙ h in
+      let e : ◌≡◌ {A = Result Position TranscriptFault} (Err OddLength) (Err f) = sym (reading-odd from text is_odd) ∙ h in
       let same : OddLength ≡ f = cc in
-      subst (IsTranscriptFault text) same is_odd
+      subst (IsTranscriptFaultFrom from text) same is_odd
 ]
 
 -- ---- the mover
 
-forced : (q : Position) → MovesUnlessOver (with_forced_pass q)
+pub forced : (q : Position) → MovesUnlessOver (with_forced_pass q)
 unfolding with_forced_pass is_over
 forced q = go (can_move q.board) (can_move (pass q.board)) refl refl
   where
@@ -248,6 +239,9 @@ moves_on : (p : Position) (moves : List ℕ) → MovesUnlessOver p → MovesUnle
 moves_on p [] here = here
 moves_on p (s ∷ moves) here = moves_on (after_move p s) moves (after_one p s)
 
-pub transcript_mover : (text : List ℕ) (r : Result Position TranscriptFault) → r ≡ transcript_reading text → IfOk r (λ p. MovesUnlessOver p)
-transcript_mover text (Ok p) is = let t = says_transcript text p (sym is) in subst MovesUnlessOver (sym t.reached) (moves_on start t.moves (λ open_game. start_moves))
-transcript_mover text (Err f) is = tt
+pub transcript_mover : (from : Position) (text : List ℕ) (r : Result Position TranscriptFault) → MovesUnlessOver from → r ≡ transcript_reading_from from text → IfOk r (λ p. MovesUnlessOver p)
+transcript_mover from text (Ok p) here is = let t = says_transcript from text p (sym is) in subst MovesUnlessOver (sym t.reached) (moves_on from t.moves here)
+transcript_mover from text (Err f) here is = tt
+
+pub start_mover : MovesUnlessOver start
+start_mover = λ open_game. start_moves

@@ -6,3 +6,4 @@ pub mod Discs
 pub mod Report
 pub mod FaultLine
 pub mod Transcript
+pub mod Game

@@ -1,11 +1,12 @@
--- Transcripts: the names of moves, one after the other, from the start of a game.
+-- Transcripts: the names of moves, one after the other, from the start of a game or from another position.
 --     after_move p s      the position after a move to s, with a forced pass put in
 --     AreLegal p moves      the moves are legal one after the other, from p on
 --     after_moves p moves      the position that they lead to
 --     transcript_of moves      their names
---     IsTranscript text p      the text is a transcript that leads to p
---     IsTranscriptFault text f      the text is no transcript, and this is its first fault
---     transcript_reading text      the position that a transcript leads to, or the first fault of another text
+--     IsTranscriptFrom from text p      the text is a transcript that leads from a position to p
+--     IsTranscriptFaultFrom from text f      the text is no transcript from that position, and this is its first fault
+--     transcript_reading_from from text      the position that a transcript leads to from there, or the first fault of another text
+--     IsTranscript, IsTranscriptFault, transcript_reading      the same from the start of a game
 use Rattle.std.specs.Prelude.{◌≡◌, ℕ, ◌+◌, ◌-◌, ◌*◌, ◌%◌, ◌==◌, ◌&&◌, nat_le, Bool, true, false, if◌then◌else◌, List, [], ◌∷◌, ◌++◌, length, fold, Option, Some, None, Result, Ok, Err, ⊤}
 use Rattle.std.specs.List.{flat_map}
 use Rattle.oth_rules.specs.Position.{pass}
@@ -38,11 +39,14 @@ after_moves p moves = fold after_move p moves
 abbrev pub transcript_of : List ℕ → List ℕ
 transcript_of moves = flat_map square_name moves
 
-pub record IsTranscript (text : List ℕ) (p : Position) : Type 0 where
+pub record IsTranscriptFrom (from : Position) (text : List ℕ) (p : Position) : Type 0 where
   pub moves : List ℕ
   pub names : text ≡ transcript_of moves
-  pub legal : AreLegal start moves
-  pub reached : p ≡ after_moves start moves
+  pub legal : AreLegal from moves
+  pub reached : p ≡ after_moves from moves
+
+abbrev pub IsTranscript : List ℕ → Position → Type 0
+IsTranscript text p = IsTranscriptFrom start text p
 
 -- the mover can move, unless the game is over
 abbrev pub MovesUnlessOver : Position → Type 0
@@ -67,22 +71,25 @@ IsPairFault k p letter digit (Illegal j) =
     (j ≡ k) × (is_square_name letter digit ≡ true) × (is_over p.board ≡ false) × (is_legal p.board (square_of letter digit) ≡ false)
 
 -- behind legal moves comes a pair with this fault, counted from 1
-pub record HasFaultyPair (text : List ℕ) (f : TranscriptFault) : Type 0 where
+pub record HasFaultyPair (from : Position) (text : List ℕ) (f : TranscriptFault) : Type 0 where
   pub even : length text % 2 ≡ 0
   pub moves : List ℕ
   pub letter : ℕ
   pub digit : ℕ
   pub others : List ℕ
   pub names : text ≡ transcript_of moves ++ letter ∷ digit ∷ others
-  pub legal : AreLegal start moves
-  pub fault : IsPairFault (1 + length moves) (after_moves start moves) letter digit f
+  pub legal : AreLegal from moves
+  pub fault : IsPairFault (1 + length moves) (after_moves from moves) letter digit f
 
 -- the odd length comes first, then the pairs from the left
+abbrev pub IsTranscriptFaultFrom : Position → List ℕ → TranscriptFault → Type 0
+IsTranscriptFaultFrom from text OddLength = length text % 2 ≡ 1
+IsTranscriptFaultFrom from text (BadPair k) = HasFaultyPair from text (BadPair k)
+IsTranscriptFaultFrom from text (Illegal k) = HasFaultyPair from text (Illegal k)
+IsTranscriptFaultFrom from text (Over k) = HasFaultyPair from text (Over k)
+
 abbrev pub IsTranscriptFault : List ℕ → TranscriptFault → Type 0
-IsTranscriptFault text OddLength = length text % 2 ≡ 1
-IsTranscriptFault text (BadPair k) = HasFaultyPair text (BadPair k)
-IsTranscriptFault text (Illegal k) = HasFaultyPair text (Illegal k)
-IsTranscriptFault text (Over k) = HasFaultyPair text (Over k)
+IsTranscriptFault text f = IsTranscriptFaultFrom start text f
 
 -- ---- the reading, as a function
 
@@ -103,8 +110,11 @@ played k p [] = Ok p
 played k p (letter ∷ []) = Err OddLength
 played k p (letter ∷ digit ∷ rest) = or_fault (pair_fault k p letter digit) (played (k + 1) (after_move p (square_of letter digit)) rest)
 
-unfoldable pub transcript_reading : List ℕ → Result Position TranscriptFault
-transcript_reading text = if length text % 2 == 0 then played 1 start text else Err OddLength
+unfoldable pub transcript_reading_from : Position → List ℕ → Result Position TranscriptFault
+transcript_reading_from from text = if length text % 2 == 0 then played 1 from text else Err OddLength
+
+abbrev pub transcript_reading : List ℕ → Result Position TranscriptFault
+transcript_reading text = transcript_reading_from start text
 
 -- ---- a transcript that is read in parts
 
@@ -129,10 +139,13 @@ abbrev pub is_nil : List ℕ → Bool
 is_nil [] = true
 is_nil (b ∷ bs) = false
 
--- what was kept stands for the text so far: whole pairs, and a byte of the next
-pub record StandsFor (kept : Reached) (text : List ℕ) : Type 0 where
+-- what was kept stands for the text so far from a position on: whole pairs, and a byte of the next
+pub record StandsFrom (from : Position) (kept : Reached) (text : List ℕ) : Type 0 where
   pub pairs : List ℕ
   pub text_is : text ≡ pairs ++ pending_bytes kept.pending
   pub even : length pairs % 2 ≡ 0
-  pub leads : (rest : List ℕ) → played 1 start (pairs ++ rest) ≡ resumed kept.fault kept.next_pair kept.position rest
+  pub leads : (rest : List ℕ) → played 1 from (pairs ++ rest) ≡ resumed kept.fault kept.next_pair kept.position rest
   pub empty : kept.is_empty ≡ is_nil text
+
+abbrev pub StandsFor : Reached → List ℕ → Type 0
+StandsFor kept text = StandsFrom start kept text

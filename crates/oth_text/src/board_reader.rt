@@ -1,6 +1,6 @@
 //! Board lines that are read in parts.
 
-ghost use Rattle.std.specs.Prelude.{◌≡◌, ℕ, List, [], ◌++◌};
+ghost use Rattle.std.specs.Prelude.{◌≡◌, ◌==◌, ℕ, List, [], ◌++◌, length};
 ghost use Rattle.oth_text.specs.BoardLine.{KeepsLine, reading, solvable_reading};
 ghost use Rattle.oth_text.specs.Transcript.{is_nil};
 
@@ -60,6 +60,13 @@ impl BoardReader {
         ensures { (line : List ℕ) → KeepsLine self.now line → result ≡ is_nil line }
     {
         self.kept.is_empty()
+    }
+
+    /// Whether the line has as many bytes so far as a board line.
+    pub fn has_length_of_line(&self) -> bool
+        ensures { (line : List ℕ) → KeepsLine self.now line → result ≡ (length line == 66) }
+    {
+        self.kept.len() == BOARD_LINE_LEN
     }
 
     /// The reading of the whole line, as `read_board` gives it.

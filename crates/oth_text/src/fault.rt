@@ -38,3 +38,14 @@ pub enum TranscriptFault {
     #[error("the game is over before move {0}")]
     Over(u8),
 }
+
+/// The first fault of a line that should be a board line, alone or with a space and the moves that are played on it.
+#[derive(Clone, Copy, Debug, PartialEq, Eq, Error)]
+pub enum GameFault {
+    /// What should be the board line is none.
+    #[error("{0}")]
+    Board(LineFault),
+    /// What stands behind the space is no transcript from the board's position.
+    #[error("{0}")]
+    Moves(TranscriptFault),
+}

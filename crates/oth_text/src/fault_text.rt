@@ -3,9 +3,10 @@
 ghost use Rattle.std.specs.Prelude.{◌≡◌, ◌+◌, ◌≤◌, ◌++◌, length, decimal};
 ghost use Rattle.arrayvec.specs.ArrayVec.{array_vec_len};
 ghost use Rattle.oth_text.specs.OneLine.{IsOneLine};
-ghost use Rattle.oth_text.specs.FaultLine.{fault_line_of, transcript_fault_line_of};
+ghost use Rattle.oth_text.specs.FaultLine.{fault_line_of, game_fault_line_of, moves_fault_line_of};
+ghost use Rattle.oth_text.specs.FaultLine.{transcript_fault_line_of};
 
-use crate::fault::{LineFault, TranscriptFault};
+use crate::fault::{GameFault, LineFault, TranscriptFault};
 use crate::report::push_text;
 use arrayvec::ArrayVec;
 use itoa::Buffer;
@@ -40,6 +41,31 @@ pub fn transcript_fault_line(fault: &TranscriptFault) -> ArrayVec<u8, FAULT_LINE
     }
 }
 
+/// The board's fault as `fault_line` has it, and a fault of the moves with 20 more than `transcript_fault_line` has, as
+/// the C library numbers it.
+pub fn game_fault_line(fault: &GameFault) -> ArrayVec<u8, FAULT_LINE_LEN>
+    ensures text { result.items ≡ game_fault_line_of fault.now }
+    ensures one_line { IsOneLine result.items }
+{
+    match fault {
+        GameFault::Board(fault) => fault_line(fault),
+        GameFault::Moves(fault) => moves_fault_line(fault),
+    }
+}
+
+// The fault line of the moves behind a board line.
+fn moves_fault_line(fault: &TranscriptFault) -> ArrayVec<u8, FAULT_LINE_LEN>
+    ensures text { result.items ≡ moves_fault_line_of fault.now }
+    ensures one_line { IsOneLine result.items }
+{
+    match fault {
+        TranscriptFault::OddLength => plain_line(b"error 21"),
+        TranscriptFault::BadPair(pair) => numbered_line(b"error 22 at ", *pair),
+        TranscriptFault::Illegal(pair) => numbered_line(b"error 23 at ", *pair),
+        TranscriptFault::Over(pair) => numbered_line(b"error 24 at ", *pair),
+    }
+}
+
 // A fault line that names no place.
 fn plain_line(text: &[u8]) -> ArrayVec<u8, FAULT_LINE_LEN>
     requires short { length text.now ≤ 24 }
@@ -54,7 +80,7 @@ fn plain_line(text: &[u8]) -> ArrayVec<u8, FAULT_LINE_LEN>
 
 // A fault line that ends with a number.
 fn numbered_line(text: &[u8], number: u8) -> ArrayVec<u8, FAULT_LINE_LEN>
-    requires short { length text.now ≤ 11 }
+    requires short { length text.now ≤ 12 }
     requires one_line { IsOneLine text.now }
     ensures text { result.items ≡ text.now ++ decimal number }
     ensures one_line { IsOneLine result.items }

@@ -1,4 +1,4 @@
-//! Transcripts: the names of moves, one after the other, from the start of a game.
+//! Transcripts: the names of moves, one after the other, from the start of a game or from another position.
 
 ghost use Rattle.std.specs.Prelude.{◌≡◌, ◌+◌, ◌≤◌, ◌<◌, ◌↔◌, ℕ, List, [], ◌∷◌, ◌++◌, Option, None, Some, Ok, Err, IfOk};
 ghost use Rattle.std.specs.Prelude.{IfErr, SomeIff, IsTrue};
@@ -6,8 +6,9 @@ ghost use Rattle.oth_rules.specs.Position.{empty_count};
 ghost use Rattle.oth_text.specs.declared.position.Position.{Position as PositionReached};
 ghost use Rattle.oth_text.specs.declared.fault.TranscriptFault.{TranscriptFault as Fault};
 ghost use Rattle.oth_text.specs.Transcript.{IsTranscript, IsTranscriptFault, MovesUnlessOver, Reached, StandsFor};
+ghost use Rattle.oth_text.specs.Transcript.{IsTranscriptFaultFrom, IsTranscriptFrom, StandsFrom};
 ghost use Rattle.oth_text.specs.Transcript.{after_move, is_nil, is_square_name, pair_fault, square_of};
-ghost use Rattle.oth_text.specs.Transcript.{transcript_reading, with_forced_pass};
+ghost use Rattle.oth_text.specs.Transcript.{transcript_reading, transcript_reading_from, with_forced_pass};
 
 use crate::fault::TranscriptFault;
 use crate::position::Position;
@@ -41,7 +42,7 @@ impl Model for TranscriptReader {
     } };
 
     // Each move takes an empty square.
-    ghost invariant = { λ r. r.next_pair + empty_count r.position.board ≤ 61 };
+    ghost invariant = { λ r. r.next_pair + empty_count r.position.board ≤ 65 };
 
     ghost inverse = { λ v. record {
       position = v.position;
@@ -53,12 +54,19 @@ impl Model for TranscriptReader {
 }
 
 impl TranscriptReader {
-    /// The reader before the first byte of a transcript.
+    /// The reader before the first byte of a transcript from the start of a game.
     pub fn new() -> Self
         ensures { StandsFor result [] }
     {
+        Self::starting_at(Position::start())
+    }
+
+    /// The reader before the first byte of a transcript from this position, whose mover moves first.
+    pub fn starting_at(position: Position) -> Self
+        ensures { StandsFrom position result [] }
+    {
         TranscriptReader {
-            position: Position::start(),
+            position,
             next_pair: 1,
             fault: None,
             pending: None,
@@ -66,7 +74,7 @@ impl TranscriptReader {
         }
     }
 
-    /// Forgets what was read: another transcript begins.
+    /// Forgets what was read: another transcript begins, from the start of a game.
     pub fn clear(&mut self)
         ensures { StandsFor self.new [] }
     {
@@ -75,7 +83,8 @@ impl TranscriptReader {
 
     /// Takes the next bytes of the transcript.
     pub fn push(&mut self, bytes: &[u8])
-        ensures { (text : List ℕ) → StandsFor self.old text → StandsFor self.new (text ++ bytes.now) }
+        ensures { (from : PositionReached) (text : List ℕ) → StandsFrom from self.old text
+            → StandsFrom from self.new (text ++ bytes.now) }
     {
         for byte in bytes {
             self.push_byte(*byte);
@@ -84,14 +93,15 @@ impl TranscriptReader {
 
     /// Whether no byte was taken.
     pub fn is_empty(&self) -> bool
-        ensures { (text : List ℕ) → StandsFor self.now text → result ≡ is_nil text }
+        ensures { (from : PositionReached) (text : List ℕ) → StandsFrom from self.now text → result ≡ is_nil text }
     {
         self.is_empty
     }
 
-    /// The reading of the transcript, as `read_transcript` gives it.
+    /// The reading of the transcript; from the start of a game it is that of `read_transcript`.
     pub fn read(&self) -> Result<Position, TranscriptFault>
-        ensures { (text : List ℕ) → StandsFor self.now text → result ≡ transcript_reading text }
+        ensures { (from : PositionReached) (text : List ℕ) → StandsFrom from self.now text
+            → result ≡ transcript_reading_from from text }
     {
         if self.pending.is_some() {
             return Err(TranscriptFault::OddLength);
@@ -104,7 +114,8 @@ impl TranscriptReader {
 
     // One more byte: the first of a pair waits for the second.
     fn push_byte(&mut self, byte: u8)
-        ensures { (text : List ℕ) → StandsFor self.old text → StandsFor self.new (text ++ byte ∷ []) }
+        ensures { (from : PositionReached) (text : List ℕ) → StandsFrom from self.old text
+            → StandsFrom from self.new (text ++ byte ∷ []) }
     {
         self.is_empty = false;
         match self.pending {
@@ -175,7 +186,7 @@ fn square_named(letter: u8, digit: u8) -> Option<Square>
 }
 
 // The position after a pass, where the mover has to pass and the other side can move.
-fn with_forced_pass(position: Position) -> Position
+pub(crate) fn with_forced_pass(position: Position) -> Position
     ensures passed { result ≡ with_forced_pass position }
     ensures empties { empty_count result.board ≡ empty_count position.board }
 {
@@ -202,7 +213,25 @@ pub fn read_transcript(text: &[u8]) -> Result<Position, TranscriptFault>
     ensures fault { (f : Fault) → (result ≡ Err f) ↔ IsTranscriptFault text.now f }
     ensures mover { IfOk result (λ p. MovesUnlessOver p) }
 {
-    let mut reader = TranscriptReader::new();
+    read_from(Position::start(), text)
+}
+
+/// The position that a transcript leads to from this position, as `read_transcript` reads it from the start of a game.
+/// A forced pass is put in before the first move too, so the mover of the answer can move unless the game is over.
+pub fn play_transcript(from: Position, text: &[u8]) -> Result<Position, TranscriptFault>
+    ensures reading { result ≡ transcript_reading_from (with_forced_pass from) text.now }
+    ensures position { (p : PositionReached) → (result ≡ Ok p) ↔ IsTranscriptFrom (with_forced_pass from) text.now p }
+    ensures fault { (f : Fault) → (result ≡ Err f) ↔ IsTranscriptFaultFrom (with_forced_pass from) text.now f }
+    ensures mover { IfOk result (λ p. MovesUnlessOver p) }
+{
+    read_from(with_forced_pass(from), text)
+}
+
+// The position that a transcript leads to from this position, where the mover moves first.
+fn read_from(from: Position, text: &[u8]) -> Result<Position, TranscriptFault>
+    ensures { result ≡ transcript_reading_from from text.now }
+{
+    let mut reader = TranscriptReader::starting_at(from);
     reader.push(text);
     reader.read()
 }

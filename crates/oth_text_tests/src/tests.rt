@@ -3,9 +3,10 @@ use oth_rules::Scoring;
 use oth_search::solve_alone;
 use oth_text::fakes::{BrokenSource, ByteSink};
 use oth_text::{
-    BoardReader, Failed, FromRead, LineFault, Position, Sink, Source, ToWrite, TranscriptFault,
-    TranscriptReader, fault_line, moves_line, read_board, read_solvable, read_transcript,
-    report_line, transcript_fault_line, write_all, write_board,
+    BoardReader, Failed, FromRead, GameFault, GameReader, LineFault, Position, Sink, Source,
+    ToWrite, TranscriptFault, TranscriptReader, fault_line, game_fault_line, moves_line,
+    play_transcript, read_board, read_game, read_solvable, read_transcript, report_line,
+    transcript_fault_line, write_all, write_board,
 };
 use std::cell::Cell;
 use std::io::{Error, ErrorKind, Read, Write};
@@ -26,6 +27,15 @@ const FULL: &[u8] = b"XXXXXXXXXXXXXXXXXXXXXXXXXXXXXXXXXXXXXXXXXXXXXXXXXXXXXXXXXX
 const DRAWN: &[u8] = b"-XXXXXXXXOOOOOOXXOOOOOOXXOOOOOOXXOOOOOOXXOOOOOOXXXXXXXOXXXXXXXX- X";
 
 const PASSING: &[u8] = b"-OXXXXXXXXXXXXXXXXXXXXXXXXXXXXXXXXXXXXXXXXXXXXXXXXXXXXXXXXXXXXXX O";
+
+// The first board of `CORNERS` after h1, which turns e1, f1 and g1. White has no move there, and Black has b1.
+const CORNER_TAKEN: &[u8] = b"--OXXXXXOOOOOOOOOOOOOOOOOOOOOOOOOOOOOOOOOOOOOOOOOOOOOOOOOOOOOOOO X";
+
+const CORNER_TAKEN_TURNED: &[u8] =
+    b"--OXXXXXOOOOOOOOOOOOOOOOOOOOOOOOOOOOOOOOOOOOOOOOOOOOOOOOOOOOOOOO O";
+
+// After b1, which turns c1. Nobody has a move, and Black has moved.
+const CORNERS_OVER: &[u8] = b"-XXXXXXXOOOOOOOOOOOOOOOOOOOOOOOOOOOOOOOOOOOOOOOOOOOOOOOOOOOOOOOO O";
 
 // The position of a board line.
 fn shown(rt: &impl Abort, line: &[u8]) -> Position {
@@ -67,6 +77,22 @@ fn fails(transcript: &[u8], refusal: &[u8]) -> bool {
     match read_transcript(transcript) {
         Ok(_) => false,
         Err(fault) => transcript_fault_line(&fault).as_slice() == refusal,
+    }
+}
+
+// Whether the line of a board and moves leads to the board line.
+fn plays_to(line: &[u8], reached: &[u8]) -> bool {
+    match read_game(line) {
+        Ok(position) => write_board(&position).as_slice() == reached,
+        Err(_) => false,
+    }
+}
+
+// Whether such a line is refused with this fault line.
+fn is_no_game(line: &[u8], refusal: &[u8]) -> bool {
+    match read_game(line) {
+        Ok(_) => false,
+        Err(fault) => game_fault_line(&fault).as_slice() == refusal,
     }
 }
 
@@ -161,6 +187,127 @@ fn a_transcript_leads_to_its_position(rt: HostRuntime) {
 }
 
 #[test]
+fn moves_on_a_board_lead_to_its_position(rt: HostRuntime) {
+    assert!(rt; plays_to(START, START));
+    assert!(rt;
+        plays_to(
+            b"---------------------------OX------XO--------------------------- X f5d6c3d3c4",
+            b"------------------XO------XXX------OXX-----O-------------------- O"
+        )
+    );
+    // A pass behind the last move, before the first one, and between two.
+    assert!(rt;
+        plays_to(
+            b"--OXOOO-OOOOOOOOOOOOOOOOOOOOOOOOOOOOOOOOOOOOOOOOOOOOOOOOOOOOOOOO X h1",
+            CORNER_TAKEN
+        )
+    );
+    assert!(rt; plays_to(CORNER_TAKEN_TURNED, CORNER_TAKEN));
+    assert!(rt;
+        plays_to(
+            b"--OXXXXXOOOOOOOOOOOOOOOOOOOOOOOOOOOOOOOOOOOOOOOOOOOOOOOOOOOOOOOO O ",
+            CORNER_TAKEN
+        )
+    );
+    assert!(rt;
+        plays_to(
+            b"--OXXXXXOOOOOOOOOOOOOOOOOOOOOOOOOOOOOOOOOOOOOOOOOOOOOOOOOOOOOOOO O b1",
+            CORNERS_OVER
+        )
+    );
+    assert!(rt;
+        plays_to(
+            b"--OXOOO-OOOOOOOOOOOOOOOOOOOOOOOOOOOOOOOOOOOOOOOOOOOOOOOOOOOOOOOO X h1b1",
+            CORNERS_OVER
+        )
+    );
+    // A game that is over has no pass.
+    assert!(rt; plays_to(CORNERS_OVER, CORNERS_OVER));
+}
+
+#[test]
+fn a_refused_game_has_its_first_fault(rt: HostRuntime) {
+    assert!(rt; is_no_game(b"", b"error 1"));
+    assert!(rt; is_no_game(b"f5d6", b"error 1"));
+    assert!(rt;
+        is_no_game(
+            b"x--------------------------OX------XO--------------------------- Xf5",
+            b"error 1"
+        )
+    );
+    assert!(rt;
+        is_no_game(
+            b"x--------------------------OX------XO--------------------------- X f5d",
+            b"error 2 at 1"
+        )
+    );
+    assert!(rt;
+        is_no_game(
+            b"---------------------------OX------XO---------------------------.X f5f5",
+            b"error 3"
+        )
+    );
+    assert!(rt;
+        is_no_game(
+            b"---------------------------OX------XO--------------------------- x ",
+            b"error 4"
+        )
+    );
+    assert!(rt;
+        is_no_game(
+            b"---------------------------OX------XO--------------------------- X F5d",
+            b"error 21"
+        )
+    );
+    assert!(rt;
+        is_no_game(
+            b"---------------------------OX------XO--------------------------- X f5D6",
+            b"error 22 at 2"
+        )
+    );
+    assert!(rt;
+        is_no_game(
+            b"---------------------------OX------XO--------------------------- X f5f5",
+            b"error 23 at 2"
+        )
+    );
+    assert!(rt;
+        is_no_game(
+            b"--OXOOO-OOOOOOOOOOOOOOOOOOOOOOOOOOOOOOOOOOOOOOOOOOOOOOOOOOOOOOOO X h1b1a1",
+            b"error 24 at 3"
+        )
+    );
+    assert!(rt;
+        is_no_game(
+            b"-XXXXXXXOOOOOOOOOOOOOOOOOOOOOOOOOOOOOOOOOOOOOOOOOOOOOOOOOOOOOOOO O a1",
+            b"error 24 at 1"
+        )
+    );
+}
+
+#[test]
+fn a_game_in_parts_is_read_as_a_whole_one(rt: HostRuntime) {
+    let mut line = GameReader::new();
+    assert!(rt; line.is_empty());
+    line.push(&CORNERS[..20]);
+    assert!(rt; line.read() == Err(GameFault::Board(LineFault::Length)));
+    line.push(&CORNERS[20..]);
+    assert!(rt; line.read() == read_board(CORNERS).map_err(GameFault::Board));
+    line.push(b" h");
+    assert!(rt; line.read() == Err(GameFault::Moves(TranscriptFault::OddLength)));
+    line.push(b"1");
+    assert!(rt; line.read() == read_board(CORNER_TAKEN).map_err(GameFault::Board));
+    line.clear();
+    assert!(rt; line.is_empty());
+    line.push(START);
+    line.push(b"\r");
+    line.push(b" f5");
+    assert!(rt; line.read() == Err(GameFault::Board(LineFault::Length)));
+    let corner_taken = shown(&rt, CORNER_TAKEN);
+    assert!(rt; play_transcript(shown(&rt, CORNERS), b"h1") == Ok(corner_taken));
+}
+
+#[test]
 fn a_line_in_parts_is_read_as_a_whole_one(rt: HostRuntime) {
     let mut line = BoardReader::new();
     assert!(rt; line.is_empty());
@@ -223,6 +370,8 @@ fn each_refusal_has_its_words(rt: HostRuntime) -> Result<(), std::test::Fail> {
     );
     let fault = TranscriptFault::Illegal(2);
     let text = format!(in rt.alloc(); "{fault}")?;
+    assert_eq!(rt; text.as_str(), "move 2 is illegal");
+    let text = format!(in rt.alloc(); "{}", GameFault::Moves(fault))?;
     assert_eq!(rt; text.as_str(), "move 2 is illegal");
     Ok(())
 }
