@@ -6,6 +6,7 @@ _othsolve_commands='
 solve --workers --cells --scoring --book
 moves
 transcript
+play
 book-verify FILE
 book-add --workers --cells FILE
 '

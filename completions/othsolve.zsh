@@ -6,6 +6,7 @@ local -a commands=(
     'solve:write the score and all best moves of each board line of standard input'
     'moves:write all legal moves of each board line of standard input'
     'transcript:write the board line that each transcript of standard input leads to'
+    'play:write the board line that moves on each board line of standard input lead to'
     'book-verify:verify every entry of a book'
     'book-add:write a book with the answers to the board lines of standard input added'
 )

@@ -1,4 +1,5 @@
-"""Compares the built program with the small solver: the same answers by both scorings, any number of workers, any table, and from a book."""
+"""Compares the built program with the small solver: the same answers by both scorings, any number of workers, any table, and from a book,
+and the same boards after moves."""
 import random
 import tempfile
 
@@ -9,6 +10,8 @@ SEED = 20261123
 BOARDS = 2000
 BOOKED = 500
 MOST_EMPTIES = 7
+GAMES = 1000
+MOST_EMPTIES_PLAYED = 30
 WAITING = 1000
 MOST_EMPTIES_WAITING = 12
 TOGETHER = 40
@@ -34,9 +37,36 @@ def steps(program):
                 )
         name = f"a book of {BOOKED} boards, added to, verified and asked: {scoring}"
         yield name, by_book(program, scoring, lines, [line[at] for line in wanted])
+    yield moves_on_boards(program)
     yield from side_by_side(program)
     yield from together(program)
     yield from book_side_by_side(program)
+
+
+def moves_on_boards(program):
+    """A step: random moves on boards lead to the boards, or have the faults, that the small solver's rules give."""
+    draw = random.Random(SEED + 3)
+    games = [some_moves(draw, *board) for board in minimax.boards(SEED + 3, GAMES, MOST_EMPTIES_PLAYED)]
+    lines, wanted = map(list, zip(*games))
+    name = f"{GAMES} boards of 0 to {MOST_EMPTIES_PLAYED} empty squares with moves played on them"
+    return name, difference([program, "play"], lines, wanted)
+
+
+def some_moves(draw, cells, side):
+    """A board line with some moves behind it, of which one may be faulty, and the line that answers it."""
+    line, names, faulty_at = minimax.board_line(cells, side), [], draw.randrange(2 * MOST_EMPTIES_PLAYED)
+    for at in range(draw.randrange(MOST_EMPTIES_PLAYED + 1)):
+        cells, side = minimax.awake(cells, side)
+        legal = minimax.moves(cells, side)
+        others = [square for square in range(64) if square not in dict(legal)]
+        if not legal or at == faulty_at:
+            bad = minimax.name(draw.choice(others))
+            return f"{line} {''.join(names)}{bad}", f"error {23 if legal else 24} at {at + 1}"
+        move = draw.choice(legal)
+        names.append(minimax.name(move[0]))
+        cells, side = minimax.after(cells, side, *move), minimax.other(side)
+    reached = minimax.board_line(*minimax.awake(cells, side))
+    return f"{line} {''.join(names)}" if names else line, reached
 
 
 def side_by_side(program):

@@ -147,6 +147,7 @@ for line in sys.stdin:
 COMPLETES = {
     "othsolve b": "book-add book-verify",
     "othsolve help m": "moves",
+    "othsolve p": "play",
     "othsolve solve --scoring ": "discs winner",
     "othsolve solve --scoring = d": "discs",
     "othsolve solve --workers 1": "1 10 11 12 13 14 15 16",
@@ -158,6 +159,7 @@ COMPLETES = {
     "othsolve book-add --cells 64 on": "one.book",
     "othsolve book-add --cells=64 on": "one.book",
     "othsolve moves ": "",
+    "othsolve play ": "",
     "othsolve solve < on": "one.book",
 }
 COMPLETION = """

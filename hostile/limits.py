@@ -80,6 +80,7 @@ def walks(program, fine):
         commands = {
             "moves": (["moves"], given),
             "transcript": (["transcript"], b"f5d6c3d3c4\n" * BOARDS),
+            "play": (["play"], b"---------------------------OX------XO--------------------------- X f5d6c3d3c4\n" * BOARDS),
             "book-verify": (["book-verify", book], b""),
             "book-add": (["book-add", book], board_lines(SEED + 1, BOARDS, EMPTIES)),
         }

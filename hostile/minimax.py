@@ -65,6 +65,12 @@ def after(cells, side, square, turned):
     return child
 
 
+def awake(cells, side):
+    """The board after a pass, where the side has to pass and the other side can move."""
+    passes = not moves(cells, side) and moves(cells, other(side))
+    return cells, other(side) if passes else side
+
+
 def value(cells, side):
     """The value of a board for the side to move, by the whole tree of the game."""
     legal = moves(cells, side)

@@ -19,7 +19,7 @@ BEGIN = "Begin here"
 SEVERAL = "A collection on several machines"
 BOOK = "Keep and extend a book"
 TOOLS = ("pv", "parallel", "ssh", "iconv", "flock")
-LEAST = 15
+LEAST = 16
 PATIENCE = 20
 
 # In place of ssh: every machine is this one, but some are lost.

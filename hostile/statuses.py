@@ -9,6 +9,7 @@ import tempfile
 from running import EMPTY_BOOK, file_of, ran
 
 START = "---------------------------OX------XO--------------------------- X"
+FIVE_MOVES = "------------------XO------XXX------OXX-----O-------------------- O"
 FULL_BOARD = "X" * 64 + " X"
 CORNERS = "X" * 60 + "OOO- X"
 TWO_CORNERS = "-OXXXXO-" + "X" * 56 + " X"
@@ -17,7 +18,7 @@ MEGABYTE = 1 << 20
 LITTLE = 64
 AT_ONCE = 5
 FAULTY_WORDS = re.compile(rb"^error: .+\n")
-COMMANDS = ("solve", "moves", "transcript", "book-verify", "book-add")
+COMMANDS = ("solve", "moves", "transcript", "play", "book-verify", "book-add")
 
 
 class Case:
@@ -56,6 +57,7 @@ def done(folder):
     yield Case("solve", ["solve"], lines, wrote=b"error 5 60\n+64 h8\n+64 end\n", said=b"")
     yield Case("moves", ["moves"], lines, wrote=b"d3 c4 f5 e6\nh8\nend\n", said=b"")
     yield Case("transcript", ["transcript"], b"\n", wrote=f"{START}\n".encode(), said=b"")
+    yield Case("play", ["play"], f"{START} f5d6c3d3c4\n{START}".encode(), wrote=f"{FIVE_MOVES}\n{START}\n".encode(), said=b"")
     yield Case("a last line without byte 10", ["solve"], FULL_BOARD.encode(), wrote=b"+64 end\n", said=b"")
     for words in (["--help"], ["-h"], ["help"]):
         yield Case(f"help by {words[0]}", words, wrote=helps(*COMMANDS), said=b"")
@@ -82,6 +84,12 @@ def lines_of_every_kind():
     for command in ("solve", "moves"):
         wrote = b"error 1\n" + (b"+64 end\n" if command == "solve" else b"end\n")
         yield Case(f"a line of 10 MB in {LITTLE} MB of memory, {command}", [command], long_line, wrote=wrote, preexec_fn=little_memory)
+    endless = START.encode() + b" " + b"f5" * (5 * MEGABYTE) + b"\n" + good + b" \n"
+    wrote = b"error 23 at 2\n" + good + b"\n"
+    yield Case(f"a line of 10 MB in {LITTLE} MB of memory, play", ["play"], endless, wrote=wrote, preexec_fn=little_memory)
+    faulty = b"".join([START.encode() + end + b"\n" for end in (b"f5", b"\r", b" f5\r", b" \0a", b" f5f5", b"  f5")])
+    wrote = b"error 1\nerror 1\nerror 21\nerror 22 at 1\nerror 23 at 2\nerror 21\n"
+    yield Case("faulty lines, play", ["play"], faulty + b"?" * 66 + b" f\n" + good + b" a1", wrote=wrote + b"error 2 at 1\nerror 24 at 1\n")
     many = b"\n" * 100_000
     yield Case("100,000 lines", ["transcript"], many, wrote=f"{START}\n".encode() * 100_000)
 
@@ -199,12 +207,14 @@ def lines_one_by_one(program):
     boards = [(FULL_BOARD, "+64 end"), (TWO_CORNERS, "+64 a1 h1"), ("X", "error 1"), (FULL_BOARD, "+64 end")]
     moves = [(START, "d3 c4 f5 e6"), ("X", "error 1"), (FULL_BOARD, "end")]
     games = [("", START), ("f5d", "error 1"), ("", START)]
+    played = [(f"{START} f5d6c3d3c4", FIVE_MOVES), (f"{START} f5d", "error 21"), (START, START)]
     for words, lines in (
         (["solve"], boards),
         (["solve", "--workers", "4"], boards),
         (["solve", "--workers", "16", "--cells", "0"], boards),
         (["moves"], moves),
         (["transcript"], games),
+        (["play"], played),
     ):
         yield f"a line that comes alone is answered at once: {' '.join(words)}", is_answered_at_once(program, words, lines)
 

@@ -88,6 +88,7 @@ USAGES = (
     (["solve", "-"], "othsolve solve [OPTIONS] < BOARDS"),
     (["moves", "boards.txt"], "othsolve moves < BOARDS"),
     (["transcript", "games.txt"], "othsolve transcript < GAMES"),
+    (["play", "games.txt"], "othsolve play < GAMES"),
     (["book-add", "empty.book", "boards.txt"], "othsolve book-add [OPTIONS] FILE < BOARDS"),
 )
 

@@ -1,17 +1,19 @@
 -- What is written of a line.
 --     reply settings line      for `Solve` the value by the scoring and all best moves of a board of at most 30 empty squares, for `Moves`
---         all legal moves, for `Transcript` the board line of the position that is reached; or the first fault of the line
+--         all legal moves, for `Transcript` and `Play` the board line of the position that is reached; or the first fault of the line
 use Rattle.std.specs.Prelude.{ℕ, List, Result, Ok, Err}
 use Rattle.oth_rules.specs.declared.scoring.Scoring.{Scoring}
 use Rattle.oth_text.specs.BoardLine.{board_line, reading, solvable_reading}
-use Rattle.oth_text.specs.FaultLine.{fault_line_of, transcript_fault_line_of}
+use Rattle.oth_text.specs.FaultLine.{fault_line_of, game_fault_line_of, transcript_fault_line_of}
+use Rattle.oth_text.specs.Game.{game_reading}
 use Rattle.oth_text.specs.Report.{moves_line_of, report_line_of}
 use Rattle.oth_text.specs.Transcript.{transcript_reading}
+use Rattle.oth_text.specs.declared.fault.GameFault.{GameFault}
 use Rattle.oth_text.specs.declared.fault.LineFault.{LineFault}
 use Rattle.oth_text.specs.declared.fault.TranscriptFault.{TranscriptFault}
 use Rattle.oth_text.specs.declared.position.Position.{Position}
 use Rattle.oth_words.specs.declared.settings.Command.{Command}
-use Rattle.oth_words.specs.declared.settings.Command.TheVariants.{Solve, Moves, Transcript}
+use Rattle.oth_words.specs.declared.settings.Command.TheVariants.{Solve, Moves, Transcript, Play}
 use Rattle.oth_words.specs.declared.settings.Settings.{Settings}
 
 abbrev pub solve_reply : Scoring → Result Position LineFault → List ℕ
@@ -26,10 +28,15 @@ abbrev pub transcript_reply : Result Position TranscriptFault → List ℕ
 transcript_reply (Ok position) = board_line position
 transcript_reply (Err fault) = transcript_fault_line_of fault
 
+abbrev pub play_reply : Result Position GameFault → List ℕ
+play_reply (Ok position) = board_line position
+play_reply (Err fault) = game_fault_line_of fault
+
 abbrev pub reply_to : Command → Scoring → List ℕ → List ℕ
 reply_to Solve scoring line = solve_reply scoring (solvable_reading line)
 reply_to Moves scoring line = moves_reply (reading line)
 reply_to Transcript scoring line = transcript_reply (transcript_reading line)
+reply_to Play scoring line = play_reply (game_reading line)
 
 abbrev pub reply : Settings → List ℕ → List ℕ
 reply settings line = reply_to settings.command settings.scoring line

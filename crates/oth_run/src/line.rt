@@ -2,10 +2,11 @@
 
 ghost use Rattle.std.specs.Prelude.{◌≡◌, ◌≤◌, ◌++◌, ℕ, List, [], length};
 ghost use Rattle.oth_text.specs.BoardLine.{KeepsLine, reading, solvable_reading};
+ghost use Rattle.oth_text.specs.Game.{KeepsGame, game_reading};
 ghost use Rattle.oth_text.specs.Transcript.{StandsFor, is_nil, transcript_reading};
 ghost use Rattle.oth_words.specs.declared.settings.Command.{Command as CommandGiven};
 ghost use Rattle.oth_run.specs.Line.{Holds};
-ghost use Rattle.oth_run.specs.Reply.{moves_reply, reply, solve_reply, transcript_reply};
+ghost use Rattle.oth_run.specs.Reply.{moves_reply, play_reply, reply, solve_reply, transcript_reply};
 
 use crate::checking::Lawful;
 use crate::solver::Solver;
@@ -13,8 +14,8 @@ use arrayvec::ArrayVec;
 use oth_batch::Jobs;
 use oth_pool::Gate;
 use oth_text::{
-    BoardReader, LineFault, REPORT_LINE_LEN, TranscriptReader, fault_line, moves_line, report_line,
-    transcript_fault_line, write_board,
+    BoardReader, GameReader, LineFault, REPORT_LINE_LEN, TranscriptReader, fault_line,
+    game_fault_line, moves_line, report_line, transcript_fault_line, write_board,
 };
 use oth_words::Command;
 use std::sync::Wait;
@@ -29,6 +30,7 @@ pub enum Line {
     Solve(BoardReader),
     Moves(BoardReader),
     Transcript(TranscriptReader),
+    Play(GameReader),
 }
 
 impl Line {
@@ -40,6 +42,7 @@ impl Line {
             Command::Solve => Line::Solve(BoardReader::new()),
             Command::Moves => Line::Moves(BoardReader::new()),
             Command::Transcript => Line::Transcript(TranscriptReader::new()),
+            Command::Play => Line::Play(GameReader::new()),
         }
     }
 
@@ -51,6 +54,7 @@ impl Line {
             Line::Solve(reader) => reader.clear(),
             Line::Moves(reader) => reader.clear(),
             Line::Transcript(reader) => reader.clear(),
+            Line::Play(reader) => reader.clear(),
         }
     }
 
@@ -63,6 +67,7 @@ impl Line {
             Line::Solve(reader) => reader.push(bytes),
             Line::Moves(reader) => reader.push(bytes),
             Line::Transcript(reader) => reader.push(bytes),
+            Line::Play(reader) => reader.push(bytes),
         }
     }
 
@@ -74,6 +79,7 @@ impl Line {
             Line::Solve(reader) => reader.is_empty(),
             Line::Moves(reader) => reader.is_empty(),
             Line::Transcript(reader) => reader.is_empty(),
+            Line::Play(reader) => reader.is_empty(),
         }
     }
 
@@ -91,6 +97,7 @@ impl Line {
             Line::Solve(reader) => solve_reply(reader, solver, jobs, settings),
             Line::Moves(reader) => moves_reply(reader),
             Line::Transcript(reader) => transcript_reply(reader),
+            Line::Play(reader) => play_reply(reader),
         }
     }
 }
@@ -133,6 +140,16 @@ fn transcript_reply(reader: &TranscriptReader) -> ArrayVec<u8, REPLY_LEN>
     match reader.read() {
         Ok(position) => copied(write_board(&position).as_slice()),
         Err(fault) => copied(transcript_fault_line(&fault).as_slice()),
+    }
+}
+
+// The board line of the position that the moves on a board lead to, or the line's fault.
+fn play_reply(reader: &GameReader) -> ArrayVec<u8, REPLY_LEN>
+    ensures { (line : List ℕ) → KeepsGame reader.now line → result.items ≡ play_reply (game_reading line) }
+{
+    match reader.read() {
+        Ok(reached) => copied(write_board(&reached).as_slice()),
+        Err(fault) => copied(game_fault_line(&fault).as_slice()),
     }
 }
 

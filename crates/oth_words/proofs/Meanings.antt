@@ -15,7 +15,7 @@ use Rattle.clap.specs.declared.parser.matches.ArgMatches.{ArgMatches}
 use Rattle.oth_words.specs.CommandLine.{HasNumbers, IsNumber, IsUnread, Meaning, Means, MeansRun, ScoringWords, add, othsolve, run, scoring_word, verify}
 use Rattle.oth_words.specs.declared.settings.Settings.{Settings}
 use Rattle.oth_words.specs.declared.settings.Command.{Command}
-use Rattle.oth_words.specs.declared.settings.Command.TheVariants.{Solve, Moves, Transcript}
+use Rattle.oth_words.specs.declared.settings.Command.TheVariants.{Solve, Moves, Transcript, Play}
 
 -- two texts with different bytes at a place
 differ : (a b : Text) (k : ℕ) → a ≡ b → slice_index a k ≡ slice_index b k
@@ -32,28 +32,25 @@ solve_means rows (run s book) m = go s.command m
     go Solve m = (s, m.1, m.2)
     go Moves m = absurd (let bad : 115 ≡ 109 = differ _ _ 0 m.0 in omega arith)
     go Transcript m = absurd (let bad : 115 ≡ 116 = differ _ _ 0 m.0 in omega arith)
+    go Play m = absurd (let bad : 115 ≡ 112 = differ _ _ 0 m.0 in omega arith)
+
+-- the word of a command that reports lines doesn't begin as those of the book
+reports : (t : Command) (sub : Text × List Row) (s : Settings) (book : Option Text) → MeansRun t sub s book → slice_index sub.0 0 ≡ 98 → ⊥
+reports Solve sub s book m b = let other : slice_index sub.0 0 ≡ 115 = differ _ _ 0 m.0 in omega arith
+reports Moves sub s book m b = let other : slice_index sub.0 0 ≡ 109 = differ _ _ 0 m.0 in omega arith
+reports Transcript sub s book m b = let other : slice_index sub.0 0 ≡ 116 = differ _ _ 0 m.0 in omega arith
+reports Play sub s book m b = let other : slice_index sub.0 0 ≡ 112 = differ _ _ 0 m.0 in omega arith
 
 pub verify_means : (rows : List Row) (m : Meaning) → Means (Some (codes "book-verify", rows)) m → (file : Text) × (first_of (codes "file") rows ≡ Some file)
 verify_means rows (verify file) m = (file, m.1)
 verify_means rows (add s file) m = absurd (let bad : 118 ≡ 97 = differ _ _ 5 m.0 in omega arith)
-verify_means rows (run s book) m = go s.command m
-  where
-    go : (t : Command) → MeansRun t (codes "book-verify", rows) s book → (file : Text) × (first_of (codes "file") rows ≡ Some file)
-    go Solve m = absurd (let bad : 98 ≡ 115 = differ _ _ 0 m.0 in omega arith)
-    go Moves m = absurd (let bad : 98 ≡ 109 = differ _ _ 0 m.0 in omega arith)
-    go Transcript m = absurd (let bad : 98 ≡ 116 = differ _ _ 0 m.0 in omega arith)
+verify_means rows (run s book) m = absurd (reports s.command (codes "book-verify", rows) s book m refl)
 
 pub add_means : (rows : List Row) (m : Meaning) → Means (Some (codes "book-add", rows)) m
     → ((s : Settings) × HasNumbers rows s) × ((file : Text) × (first_of (codes "file") rows ≡ Some file))
 add_means rows (add s file) m = ((s, m.1), (file, m.4))
 add_means rows (verify file) m = absurd (let bad : 97 ≡ 118 = differ _ _ 5 m.0 in omega arith)
-add_means rows (run s book) m = go s.command m
-  where
-    go : (t : Command) → MeansRun t (codes "book-add", rows) s book
-        → ((s : Settings) × HasNumbers rows s) × ((file : Text) × (first_of (codes "file") rows ≡ Some file))
-    go Solve m = absurd (let bad : 98 ≡ 115 = differ _ _ 0 m.0 in omega arith)
-    go Moves m = absurd (let bad : 98 ≡ 109 = differ _ _ 0 m.0 in omega arith)
-    go Transcript m = absurd (let bad : 98 ≡ 116 = differ _ _ 0 m.0 in omega arith)
+add_means rows (run s book) m = absurd (reports s.command (codes "book-add", rows) s book m refl)
 
 -- by the entries, as the getters read them
 pub number_rows : (f : Found) (id : Text) (n : ℕ) → IsNumber (one_text f id) n → IsNumber (one_of id (rows_of f)) n

@@ -21,7 +21,7 @@ use Rattle.oth_words.specs.CommandLine.{AreScorings, HasNumbers, IsNumber, Meani
 use Rattle.oth_rules.specs.declared.scoring.Scoring.{Scoring}
 use Rattle.oth_rules.specs.declared.scoring.Scoring.TheVariants.{Winner, Discs}
 use Rattle.oth_words.specs.declared.settings.Settings.{Settings}
-use Rattle.oth_words.specs.declared.settings.Command.TheVariants.{Solve, Moves, Transcript}
+use Rattle.oth_words.specs.declared.settings.Command.TheVariants.{Solve, Moves, Transcript, Play}
 
 -- ---- values
 
@@ -148,10 +148,13 @@ module _ (scorings : ScoringWords) (are : AreScorings scorings) where
           (
             λ hit e. (run (record { command = Transcript; workers = 1; cells = 0; scoring = Winner }) None, (refl, (refl, refl, refl), refl)),
             (
-              λ hit e. verify_taken p.1 e,
+              λ hit e. (run (record { command = Play; workers = 1; cells = 0; scoring = Winner }) None, (refl, (refl, refl, refl), refl)),
               (
-                λ hit e. add_taken p.1 e,
-                (λ hit e. absurd (help_refused p.0 (or_false _ hit) may), tt),
+                λ hit e. verify_taken p.1 e,
+                (
+                  λ hit e. add_taken p.1 e,
+                  (λ hit e. absurd (help_refused p.0 (or_false _ hit) may), tt),
+                ),
               ),
             ),
           ),

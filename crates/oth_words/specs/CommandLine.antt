@@ -17,7 +17,7 @@ use Rattle.oth_rules.specs.declared.scoring.Scoring.{Scoring}
 use Rattle.oth_rules.specs.declared.scoring.Scoring.TheVariants.{Winner, Discs}
 use Rattle.oth_words.specs.declared.settings.Settings.{Settings}
 use Rattle.oth_words.specs.declared.settings.Command.{Command}
-use Rattle.oth_words.specs.declared.settings.Command.TheVariants.{Solve, Moves, Transcript}
+use Rattle.oth_words.specs.declared.settings.Command.TheVariants.{Solve, Moves, Transcript, Play}
 use Rattle.oth_words.specs.declared.settings.Words.{Words}
 use Rattle.oth_words.specs.declared.settings.Words.TheVariants.{Run, Verify, Add}
 
@@ -75,11 +75,11 @@ titled = let a = new_app (codes "othsolve") in record a { top = record a.top { h
 abbrev pub program : App
 program = record titled { top = record titled.top { subcommand_required = true } }
 
--- the command with its five subcommands
+-- the command with its six subcommands
 unfoldable pub othsolve : ScoringWords → App
 othsolve scorings =
-    with_subcommand (with_subcommand (with_subcommand (with_subcommand (with_subcommand program (solve_app scorings).top)
-    (new_app (codes "moves")).top) (new_app (codes "transcript")).top) verify_app.top) add_app.top
+    with_subcommand (with_subcommand (with_subcommand (with_subcommand (with_subcommand (with_subcommand program (solve_app scorings).top)
+    (new_app (codes "moves")).top) (new_app (codes "transcript")).top) (new_app (codes "play")).top) verify_app.top) add_app.top
 
 -- ---- what the words mean
 
@@ -122,6 +122,7 @@ MeansRun Solve sub s book = (sub.0 ≡ codes "solve") × HasNumbers sub.1 s
     × (first_of (codes "scoring") sub.1 ≡ Some (scoring_word s.scoring)) × (first_of (codes "book") sub.1 ≡ book)
 MeansRun Moves sub s book = (sub.0 ≡ codes "moves") × IsPlain s × (book ≡ None)
 MeansRun Transcript sub s book = (sub.0 ≡ codes "transcript") × IsPlain s × (book ≡ None)
+MeansRun Play sub s book = (sub.0 ≡ codes "play") × IsPlain s × (book ≡ None)
 
 -- a subcommand, by its name and its matches, stands for this
 abbrev pub Means : Option (Text × List Row) → Meaning → Type 0

@@ -91,6 +91,21 @@ Faults of a transcript, whose pairs of bytes are counted from 1:
     error 4 at K  the game is over before pair K
     error 3 at K  the move of pair K is illegal";
 
+const PLAY_NOTES: &str = "\
+Games are read from standard input, a line each: othsolve play < games.txt
+A line is a board line, a space and the names of moves with nothing between them. A board line alone
+has no moves. Forced passes are not written; they are put in, before the first move too. A line, and
+its answer:
+    ---------------------------OX------XO--------------------------- X f5d6c3d3c4
+    ------------------XO------XXX------OXX-----O-------------------- O
+
+'error 1' to 'error 4' are the faults of the board line, as in solve --help. Those of the moves, whose
+pairs of bytes are counted from 1:
+    error 21       the number of their bytes is odd
+    error 22 at K  pair K is no letter from a to h and digit from 1 to 8
+    error 24 at K  the game is over before pair K
+    error 23 at K  the move of pair K is illegal";
+
 const VERIFY_NOTES: &str = "\
 Each entry is solved anew, by as many threads as there are processors, at most 16. Prints 'book ok N'
 with the number of entries and ends with status 0, or ends with status 3 and one of these on standard
@@ -243,6 +258,17 @@ fn transcript_command<'a>(alloc: Global) -> App<'a>
         .after_help(TRANSCRIPT_NOTES)
 }
 
+// The subcommand `play`.
+fn play_command<'a>(alloc: Global) -> App<'a>
+    ensures app { app_of result ≡ new_app (codes "play") }
+    ensures local { (out-Command result).has_globals ≡ false }
+{
+    App::new(alloc, "play")
+        .about("Writes the board line that moves on each board line of standard input lead to")
+        .override_usage("othsolve play < GAMES")
+        .after_help(PLAY_NOTES)
+}
+
 // The subcommand `book-verify`.
 fn verify_command<'a>(alloc: Global) -> Result<App<'a>, AllocError>
     ensures app { IfOk result (λ c. app_of c ≡ verify_app) }
@@ -290,6 +316,7 @@ fn command<'a>(alloc: Global, scorings: &'a [&'a str]) -> Result<App<'a>, AllocE
         .subcommand(solve_command(alloc, scorings)?)?
         .subcommand(moves_command(alloc))?
         .subcommand(transcript_command(alloc))?
+        .subcommand(play_command(alloc))?
         .subcommand(verify_command(alloc)?)?
         .subcommand(add_command(alloc)?)
 }
@@ -399,6 +426,7 @@ fn plan<'a>(name: &str, matches: &ArgMatches<'a>) -> Option<Plan<'a>>
         "solve" => solve_plan(matches),
         "moves" => Some(plain(Command::Moves)),
         "transcript" => Some(plain(Command::Transcript)),
+        "play" => Some(plain(Command::Play)),
         "book-verify" => verify_plan(matches),
         "book-add" => add_plan(matches),
         _ => None,
@@ -451,7 +479,7 @@ fn read_with<'a>(
 /// Reads the words of a command line, of which the first names the program:
 ///
 /// - `solve [--workers N] [--cells N] [--scoring winner|discs] [--book FILE]`
-/// - `moves`, `transcript`: by one worker, without a table
+/// - `moves`, `transcript`, `play`: by one worker, without a table
 /// - `book-verify FILE`
 /// - `book-add [--workers N] [--cells N] FILE`: it solves by `winner`
 ///

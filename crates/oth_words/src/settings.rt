@@ -11,6 +11,8 @@ pub enum Command {
     Moves,
     /// Of a transcript the board line of the position that it leads to.
     Transcript,
+    /// Of a board line and the moves that are played on it the board line of the position that they lead to.
+    Play,
 }
 
 /// The cells of the table where no number is asked for.
@@ -25,7 +27,7 @@ pub struct Settings {
     pub workers: u8,
     /// The cells of the table that they share: 0 for none, or a power of two of at most 262,144.
     pub cells: u32,
-    /// How a finished game is counted. `Moves` and `Transcript` ignore it.
+    /// How a finished game is counted. `Solve` alone heeds it.
     pub scoring: Scoring,
 }
 

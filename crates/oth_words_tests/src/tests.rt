@@ -55,6 +55,31 @@ fn solve_has_defaults_and_takes_values(rt: HostRuntime) {
 }
 
 #[test]
+fn the_plain_commands_take_no_options(rt: HostRuntime) {
+    let commands = [
+        ("moves", Command::Moves),
+        ("transcript", Command::Transcript),
+        ("play", Command::Play),
+    ];
+    for (word, command) in commands {
+        match read_words(rt.alloc(), ["othsolve", word].as_slice()).expect(&rt, "words") {
+            Words::Run(settings, None) => {
+                assert!(rt;
+                    settings
+                        == Settings {
+                            command,
+                            workers: 1,
+                            cells: 0,
+                            scoring: Scoring::Winner
+                        }
+                );
+            }
+            _ => panic!(rt; "another command"),
+        }
+    }
+}
+
+#[test]
 fn the_words_of_a_book_name_its_file(rt: HostRuntime) {
     let words = ["othsolve", "book-verify", "a.book"];
     match read_words(rt.alloc(), words.as_slice()).expect(&rt, "words") {

@@ -31,6 +31,15 @@ const THREE_GAMES: &[u8] = b"f5d6c3d3c4\n\nF5";
 const FOLLOWED: &[u8] = b"------------------XO------XXX------OXX-----O-------------------- O\n\
       ---------------------------OX------XO--------------------------- X\nerror 2 at 1\n";
 
+// Boards with moves in its place: 73, 68 and 66 bytes.
+const THREE_PLAYED: &[u8] = b"---------------------------OX------XO--------------------------- X f5d6c3\n\
+      ---------------------------OX------XO--------------------------- X \n\
+      --OXXXXXOOOOOOOOOOOOOOOOOOOOOOOOOOOOOOOOOOOOOOOOOOOOOOOOOOOOOOOO O";
+
+const PLAYED: &[u8] = b"------------------X--------XX------OXX-----O-------------------- O\n\
+      ---------------------------OX------XO--------------------------- X\n\
+      --OXXXXXOOOOOOOOOOOOOOOOOOOOOOOOOOOOOOOOOOOOOOOOOOOOOOOOOOOOOOOO X\n";
+
 // Two lines of 67 bytes.
 pub(super) const TWO_LINES: &[u8] =
     b"---------------------------OX------XO--------------------------- X\n\
@@ -38,12 +47,13 @@ pub(super) const TWO_LINES: &[u8] =
 
 pub(super) const SOLVED_TWO: &[u8] = b"error 5 60\n-50 h1\n";
 
-fn walks() -> [Walk; 4] {
+fn walks() -> [Walk; 5] {
     let winner = Scoring::Winner;
     [
         (settings(Command::Solve, winner), THREE_LINES, SOLVED),
         (settings(Command::Moves, winner), THREE_LINES, MOVED),
         (settings(Command::Transcript, winner), THREE_GAMES, FOLLOWED),
+        (settings(Command::Play, winner), THREE_PLAYED, PLAYED),
         (by_two_workers(winner), TWO_LINES, SOLVED_TWO),
     ]
 }

@@ -193,6 +193,56 @@ const FOLLOWED: [(&[u8], &[u8]); 6] = [
     (b"e6f4e3f6g5d6e7f5c5a1\n", b"error 4 at 10\n"),
 ];
 
+// Boards and moves on them. On the second board h1 turns three discs and White has to pass, b1 turns one, and then
+// the game is over; the third is that board after h1 with White to move.
+const PLAYED: [(&[u8], &[u8]); 12] = [
+    (
+        b"---------------------------OX------XO--------------------------- X f5d6c3d3c4\n",
+        b"------------------XO------XXX------OXX-----O-------------------- O\n",
+    ),
+    (
+        b"--OXOOO-OOOOOOOOOOOOOOOOOOOOOOOOOOOOOOOOOOOOOOOOOOOOOOOOOOOOOOOO X h1\n",
+        b"--OXXXXXOOOOOOOOOOOOOOOOOOOOOOOOOOOOOOOOOOOOOOOOOOOOOOOOOOOOOOOO X\n",
+    ),
+    (
+        b"--OXXXXXOOOOOOOOOOOOOOOOOOOOOOOOOOOOOOOOOOOOOOOOOOOOOOOOOOOOOOOO O\n",
+        b"--OXXXXXOOOOOOOOOOOOOOOOOOOOOOOOOOOOOOOOOOOOOOOOOOOOOOOOOOOOOOOO X\n",
+    ),
+    (
+        b"--OXXXXXOOOOOOOOOOOOOOOOOOOOOOOOOOOOOOOOOOOOOOOOOOOOOOOOOOOOOOOO O b1\n",
+        b"-XXXXXXXOOOOOOOOOOOOOOOOOOOOOOOOOOOOOOOOOOOOOOOOOOOOOOOOOOOOOOOO O\n",
+    ),
+    (
+        b"--OXOOO-OOOOOOOOOOOOOOOOOOOOOOOOOOOOOOOOOOOOOOOOOOOOOOOOOOOOOOOO X h1b1a1\n",
+        b"error 24 at 3\n",
+    ),
+    (
+        b"---------------------------OX------XO--------------------------- X f5f5\n",
+        b"error 23 at 2\n",
+    ),
+    (
+        b"---------------------------OX------XO--------------------------- X F5\n",
+        b"error 22 at 1\n",
+    ),
+    (
+        b"---------------------------OX------XO--------------------------- X f5d\n",
+        b"error 21\n",
+    ),
+    (
+        b"---------------------------OX------XO--------------------------- x f5d\n",
+        b"error 4\n",
+    ),
+    (
+        b"?--------------------------OX------XO--------------------------- X f5f5\n",
+        b"error 2 at 1\n",
+    ),
+    (
+        b"---------------------------OX------XO--------------------------- Xf5\n",
+        b"error 1\n",
+    ),
+    (b"\n", b"error 1\n"),
+];
+
 // Runs each line by itself, a byte a read and a byte a write.
 fn check_rows<R: Wait + Threads + Sync + AllocGlobal + Abort>(
     rt: &R,
@@ -240,6 +290,13 @@ fn follows_each_transcript(rt: HostRuntime) {
             &settings(Command::Transcript, scoring),
             FOLLOWED.as_slice(),
         );
+    }
+}
+
+#[test]
+fn plays_the_moves_of_each_row(rt: HostRuntime) {
+    for scoring in [Scoring::Winner, Scoring::Discs] {
+        check_rows(&rt, &settings(Command::Play, scoring), PLAYED.as_slice());
     }
 }
 
