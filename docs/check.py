@@ -456,10 +456,6 @@ class Logic:
         return [(name, at, end) for (name, at), end in zip(found, ends) if name]
 
 
-# Three lemmas of oth_main/proofs/AdditionLemmas that are still to be taken out.
-STILL_DEAD = ("answered_by", "faulty_answered", "refused_room")
-
-
 def test_dead():
     """Whether each lemma and definition is named somewhere else than at its own statement; those of `Examples` are there to be read."""
     places = ("specs/**/*.antt", "proofs/**/*.antt", "src/**/*.rt")
@@ -468,8 +464,6 @@ def test_dead():
     for file in files:
         if re.search(r"\.(specs|proofs)\.[A-Z]\w*$", file.module) and not file.module.endswith(".Examples"):
             for name, at, end in file.statements():
-                if name in STILL_DEAD:
-                    continue
                 own = NAME.findall("\n".join(file.lines[at:end])).count(name)
                 test((file.module, name) in imported or file.names.count(name) > own, f"crates/{file.module.replace('.', '/')}.antt: nothing names {name}")
 

@@ -3,6 +3,8 @@
  *     c_calls moves | transcript                each line of standard input
  *     c_calls solve SCORING CELLS THREADS       so many threads at once solve all lines, with 1 MB of stack each; prints what all of them found
  *     c_calls share SCORING CELLS THREADS       the same over one table, each thread from a seat of its own
+ *     c_calls within SCORING CELLS THREADS      the same, each line by calls that may look up 1, 2, 4, .. boards until one is done; 1 where bounds of an ended call
+ *                                               do not enclose the score, or none was ended
  * Linked with -Wl,--wrap=malloc it refuses, in each call, the request for memory whose number the environment's REFUSED gives. */
 #include "othsolve.h"
 
@@ -29,6 +31,9 @@ static uint8_t scoring;
 static uint32_t cells;
 /* The seat of this thread, where one table is shared. */
 static _Thread_local oth_seat *seat;
+/* Whether each answer is asked for by calls that may be ended. */
+static int by_parts;
+static _Atomic long ended_calls, untrue_bounds;
 
 static void print_squares(FILE *file, uint64_t squares) {
     for (int square = 0; square < 64; square++) {
@@ -53,6 +58,29 @@ static void print_refusal(FILE *file, uint32_t code, uint8_t place, int count) {
     }
 }
 
+/* The answer by calls that may look up ever more boards. */
+static uint32_t solved_by_parts(oth_board board, oth_answer *answer) {
+    oth_bounds known = {-64, 64}, bounds;
+    uint64_t most = 1;
+    uint32_t code = oth_solve_within(seat, board, most, answer, &bounds);
+    while (code == OTH_STOPPED) {
+        known.lower = bounds.lower > known.lower ? bounds.lower : known.lower;
+        known.upper = bounds.upper < known.upper ? bounds.upper : known.upper;
+        ended_calls += 1;
+        most *= 2;
+        code = oth_solve_within(seat, board, most, answer, &bounds);
+    }
+    untrue_bounds += code == OTH_DONE && (answer->score < known.lower || answer->score > known.upper);
+    return code;
+}
+
+static uint32_t solved(oth_board board, oth_answer *answer) {
+    if (seat == NULL) {
+        return oth_solve_alone(board, scoring, cells, answer);
+    }
+    return by_parts ? solved_by_parts(board, answer) : oth_solve_over(seat, board, answer);
+}
+
 static void solve_line(FILE *file, const char *line) {
     static const char *const words[] = {"", " pass", " end"};
     oth_position position = {{0, 0}, 0};
@@ -61,7 +89,7 @@ static void solve_line(FILE *file, const char *line) {
     uint32_t code = oth_read_board((const uint8_t *)line, strlen(line), &position, &place);
     asked = 0;
     if (code == OTH_DONE) {
-        code = seat == NULL ? oth_solve_alone(position.board, scoring, cells, &answer) : oth_solve_over(seat, position.board, &answer);
+        code = solved(position.board, &answer);
     }
     if (code != OTH_DONE) {
         print_refusal(file, code, place, empties(position.board));
@@ -228,11 +256,15 @@ static int is_made_at_last(oth_seat *first, oth_seat *more) {
 
 static void refusals_of_seats(void) {
     oth_answer answer = {7, 7, 7};
+    oth_bounds bounds = {7, 7};
     oth_seat first = {NULL}, more = {NULL};
     want("seat: no table", oth_seat_new(&first, &more) == OTH_NO_SEAT && first.at == NULL && more.at == NULL);
     want("over: overlap", keeps(oth_solve_over(&first, both, &answer), OTH_OVERLAP, answer));
     want("over: empties", keeps(oth_solve_over(&first, open_board, &answer), OTH_EMPTIES, answer));
     want("over: no seat", keeps(oth_solve_over(&first, full, &answer), OTH_NO_SEAT, answer) && first.at == NULL);
+    want("within: overlap", keeps(oth_solve_within(&first, both, 0, &answer, &bounds), OTH_OVERLAP, answer) && bounds.lower == 7);
+    want("within: empties", keeps(oth_solve_within(&first, open_board, 0, &answer, &bounds), OTH_EMPTIES, answer) && bounds.lower == 7);
+    want("within: no seat", keeps(oth_solve_within(&first, full, 0, &answer, &bounds), OTH_NO_SEAT, answer) && bounds.upper == 7);
     want("table: scoring", oth_table_new(3, 2, &first) == OTH_SCORING && first.at == NULL);
     want("table: no cells", oth_table_new(0, 1, &first) == OTH_CELLS && first.at == NULL);
     want("table: three cells", oth_table_new(3, 1, &first) == OTH_CELLS && first.at == NULL);
@@ -244,6 +276,7 @@ static void refusals_of_seats(void) {
     oth_seat_free(&first);
     want("free: the seat", first.at == NULL);
     want("over: refused", keeps(oth_solve_over(&first, full, &answer), OTH_NO_SEAT, answer));
+    want("within: done", oth_solve_within(&more, full, 0, &answer, &bounds) == OTH_DONE && answer.score == 64 && bounds.lower == 7);
     want("over: the other", oth_solve_over(&more, full, &answer) == OTH_DONE && answer.score == 64 && answer.kind == OTH_KIND_END);
     oth_seat_free(&more);
     oth_seat_free(&more);
@@ -285,11 +318,13 @@ int main(int count, char **words) {
         return wrong;
     }
     read_lines();
-    int shares = strcmp(command, "share") == 0;
+    by_parts = strcmp(command, "within") == 0;
+    int shares = by_parts || strcmp(command, "share") == 0;
     if ((shares || strcmp(command, "solve") == 0) && count == 5) {
         scoring = strcmp(words[2], "discs") == 0;
         cells = (uint32_t)strtoul(words[3], NULL, 10);
-        return !solve(atoi(words[4]), shares);
+        int same = solve(atoi(words[4]), shares);
+        return !same || (by_parts && (untrue_bounds != 0 || ended_calls == 0));
     }
     each_line(stdout, strcmp(command, "moves") == 0 ? moves_line : transcript_line);
     return 0;

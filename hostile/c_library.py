@@ -113,9 +113,18 @@ def against_program(program, calls, lines):
         for cells in ("1", "4096"):
             name = f"{BOARDS} boards in C as by the program: {scoring}, eight threads over one table of {cells} cells"
             yield name, ran_wrong([calls, "share", scoring, cells, "8"], text, printed([program, "solve", "--scoring", scoring], text))
+    more = text + text_of(deeper_lines())
+    for scoring in ("winner", "discs"):
+        name = f"{BOARDS} boards and deeper ones in C by calls that are ended, with true bounds: {scoring}, four threads over one table"
+        yield name, ran_wrong([calls, "within", scoring, "4096", "4"], more, printed([program, "solve", "--scoring", scoring], more))
     yield f"the moves of {BOARDS} boards in C as by the program", ran_wrong([calls, "moves"], text, printed([program, "moves"], text))
     games = text_of(transcripts())
     yield f"{GAMES} games in C as by the program", ran_wrong([calls, "transcript"], games, printed([program, "transcript"], games))
+
+
+def deeper_lines():
+    """Boards of 6 to 15 empty squares, two of each."""
+    return [minimax.board_line(*board) for board in minimax.boards(SEED, 10 * 16, 15)[-20:]]
 
 
 def faulty_lines():
@@ -161,6 +170,7 @@ def under_valgrind(program, calls, lines):
         wanted = printed([program, "solve", "--cells", cells], text)
         yield f"valgrind: {len(lines)} boards, {cells} cells, four threads", ran_wrong([*VALGRIND, calls, "solve", "winner", cells, "4"], text, wanted)
     wanted = printed([program, "solve"], text)
+    yield f"valgrind: {len(lines)} boards by calls that are ended, over one table", ran_wrong([*VALGRIND, calls, "within", "winner", "64", "1"], text, wanted)
     yield f"valgrind: {len(lines)} boards, four threads over one table", ran_wrong([*VALGRIND, calls, "share", "winner", "64", "4"], text, wanted)
     yield "valgrind: moves", ran_wrong([*VALGRIND, calls, "moves"], text, printed([program, "moves"], text))
     games = text_of(transcripts()[:50])

@@ -115,6 +115,8 @@ Board.of_line("X" * 64 + " O").kind() | <Kind.END: 2>
 Board.of_line(A).pass_turn() | ValueError: the side to move has a move
 Board.of_line("X" * 64 + " O").pass_turn() | ValueError: the game is over
 Board.start().solve() | Refused: more than 30 squares are empty
+Table(64).solve_within(Board.of_line(A), 1 << 40) | Answer(score=-50, best=('h1',), kind=<Kind.MOVE: 0>)
+type(Table(64).solve_within(Board.of_line(A), 0)).__name__ | 'Bounds'
 Board.of_line(A).solve(cells=3) | Refused: the cells are neither 0 nor one of 1, 2, 4 .. 262144
 Board.of_line(A).solve(cells=-1) | Refused: the cells are neither 0 nor one of 1, 2, 4 .. 262144
 Board.of_line(A).solve(cells=1 << 32) | Refused: the cells are neither 0 nor one of 1, 2, 4 .. 262144

@@ -7,7 +7,8 @@
  *           has one: `own` and `opp` change places. Where neither side has a move the game is over.
  * Score     What the mover gets if both sides play best, -64 to 64: its discs less the opponent's where the game is over.
  *           By OTH_SCORING_WINNER the squares that stay empty go to the winner, by OTH_SCORING_DISCS to nobody.
- * Answers   Each call but oth_seat_free returns OTH_DONE, which is 0, or the number of a refusal. A refused call writes
+ * Answers   Each call but oth_seat_free returns OTH_DONE, which is 0, or the number of a refusal (oth_solve_within also
+ *           OTH_STOPPED, which is none). A refused call writes
  *           nothing, but for `place` of the two readers.
  *
  * Proved of each call is the contract beside it in crates/oth_c/src: what it writes is exactly what the rules over single
@@ -22,7 +23,7 @@
  * 3. The program's malloc, realloc and free are of one allocator, which aligns as C asks. Only oth_solve_alone and the calls
  *    of a seat use them.
  * 4. No call is made from a signal handler, or from the forked child of a process with threads.
- * 5. A thread that calls oth_solve_alone or oth_solve_over has 1 MB of stack. The other calls need a few kilobytes.
+ * 5. A thread that calls oth_solve_alone, oth_solve_over or oth_solve_within has 1 MB of stack. The other calls need a few kilobytes.
  * 6. An oth_seat is {NULL} before its first call. After that only calls change it, one call at a time; it isn't copied, and
  *    no copy is used. It may be handed to another thread where that comes after the call before (a thread's start or join,
  *    a lock). At last oth_seat_free has each seat.
@@ -76,6 +77,9 @@ enum {
     OTH_MEMORY = 33   /* there is no memory for the table or the seat */
 };
 
+/* What oth_solve_within returns where its search was ended before it was done: no refusal. */
+enum { OTH_STOPPED = 41 };
+
 enum { OTH_SCORING_WINNER = 0, OTH_SCORING_DISCS = 1 };
 enum { OTH_KIND_MOVE = 0, OTH_KIND_PASS = 1, OTH_KIND_END = 2 };
 enum { OTH_BLACK = 0, OTH_WHITE = 1 };
@@ -100,6 +104,12 @@ typedef struct {
     int8_t score;
     uint8_t kind;
 } oth_answer;
+
+/* Bounds of a board's value for the mover: it is neither less than `lower` nor more than `upper`. */
+typedef struct {
+    int8_t lower;
+    int8_t upper;
+} oth_bounds;
 
 /* A seat of a table that several threads share, or none where it is {NULL}. */
 typedef struct {
@@ -148,6 +158,15 @@ uint32_t oth_seat_new(oth_seat *seat, oth_seat *more);
  * thread. The answer is exact, whatever other threads do over the table meanwhile, and want of memory doesn't change it.
  * Refusals, the first that holds: OTH_OVERLAP, OTH_EMPTIES, OTH_NO_SEAT. */
 uint32_t oth_solve_over(oth_seat *seat, oth_board board, oth_answer *answer);
+
+/* The same for a caller who can't wait: once about `most` boards were looked up, in the table and in a memory beside it, the
+ * search is ended, and the call returns OTH_STOPPED, writes true bounds of the board's value, and no answer. What it found
+ * stays in the table, and a further call from there goes on with it: so `most` may be small, and calls be made, each with
+ * more, until there is no more time. It ends a little later than that: at the next board of 11 and more empty squares, and
+ * not within the guess of the score with which each search begins. Where it returns OTH_DONE it has written the answer, and
+ * no bounds.
+ * Refusals, the first that holds: OTH_OVERLAP, OTH_EMPTIES, OTH_NO_SEAT. */
+uint32_t oth_solve_within(oth_seat *seat, oth_board board, uint64_t most, oth_answer *answer, oth_bounds *bounds);
 
 /* Frees the seat, and with the last seat its table; it is {NULL} then. Nothing is done where it was. */
 void oth_seat_free(oth_seat *seat);

@@ -38,9 +38,9 @@ thread_local! {
     static PART: Cell<Part> = const { Cell::new(Part::Search) };
 }
 
-/// Counts a search of a board, unless few squares are empty.
+/// Counts a search of a board with 6 to 8 empty squares.
 pub fn count(board: &Board) {
-    if board.empties() >= 6 {
+    if (6..=8).contains(&board.empties()) {
         let place = PLACE.with(|place| *place);
         let part = PART.with(|part| part.get());
         let count = &COUNTS[place].0[part as usize];

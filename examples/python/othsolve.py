@@ -31,7 +31,7 @@ from collections.abc import Iterable, Iterator
 from concurrent.futures import Future, ThreadPoolExecutor
 from dataclasses import dataclass
 
-__all__ = ["Answer", "Board", "Kind", "MOST_EMPTIES", "Refused", "Scoring", "Side", "Table", "solve_all"]
+__all__ = ["Answer", "Board", "Bounds", "Kind", "MOST_EMPTIES", "Refused", "Scoring", "Side", "Table", "solve_all"]
 
 MOST_EMPTIES = 30
 """A board with more empty squares is not solved."""
@@ -62,6 +62,8 @@ _WORDS = {
     33: "there is no memory for the table or the seat",
 }
 _CELLS = 6
+# What a call answers that was ended.
+_STOPPED = 41
 # What stands for the place in these words, with what is said of it.
 _PLACE = "`place`(, (1 to 64|counted from 1),)?"
 
@@ -113,6 +115,10 @@ class _Answer(ctypes.Structure):
     _fields_ = [("best", ctypes.c_uint64), ("score", ctypes.c_int8), ("kind", ctypes.c_uint8)]
 
 
+class _Bounds(ctypes.Structure):
+    _fields_ = [("lower", ctypes.c_int8), ("upper", ctypes.c_int8)]
+
+
 class _Seat(ctypes.Structure):
     _fields_ = [("at", ctypes.c_void_p)]
 
@@ -132,6 +138,7 @@ def _library() -> ctypes.CDLL:
         "oth_table_new": [ctypes.c_uint32, ctypes.c_uint8, seat],
         "oth_seat_new": [seat, seat],
         "oth_solve_over": [seat, _Board, ctypes.POINTER(_Answer)],
+        "oth_solve_within": [seat, _Board, ctypes.c_uint64, ctypes.POINTER(_Answer), ctypes.POINTER(_Bounds)],
         "oth_seat_free": [seat],
         "oth_read_board": [ctypes.c_char_p, ctypes.c_size_t, ctypes.POINTER(_Position), place],
         "oth_read_transcript": [ctypes.c_char_p, ctypes.c_size_t, ctypes.POINTER(_Position), place],
@@ -175,6 +182,14 @@ class Answer:
     def __str__(self) -> str:
         """The report line, as `othsolve solve` writes it."""
         return f"{self.score:+d} {' '.join(self.best) or self.kind.name.lower()}"
+
+
+@dataclass(frozen=True)
+class Bounds:
+    """What is known of a board's score where its search was ended: it is neither less than `lower` nor more than `upper`."""
+
+    lower: int
+    upper: int
 
 
 @dataclass(frozen=True)
@@ -317,9 +332,28 @@ class Table:
         try:
             _done(_LIB.oth_solve_over(ctypes.byref(seat), board._words, ctypes.byref(answer)))
         finally:
-            with self._lock:
-                self._free.append(seat)
+            self._leave(seat)
         return Answer(answer.score, _names(answer.best), Kind(answer.kind))
+
+    def solve_within(self, board: Board, most: int) -> Answer | Bounds:
+        """As `solve`, where about `most` boards may be looked up; if these are too few, what is known by then.
+
+        A further call goes on with what the last one found, so it may be asked with more each time, until there is no more time.
+        """
+        seat, answer, bounds = self._seat(), _Answer(), _Bounds()
+        try:
+            code = _LIB.oth_solve_within(ctypes.byref(seat), board._words, most, ctypes.byref(answer), ctypes.byref(bounds))
+        finally:
+            self._leave(seat)
+        if code == _STOPPED:
+            return Bounds(bounds.lower, bounds.upper)
+        _done(code)
+        return Answer(answer.score, _names(answer.best), Kind(answer.kind))
+
+    def _leave(self, seat: _Seat) -> None:
+        """The seat is free for another call."""
+        with self._lock:
+            self._free.append(seat)
 
     def _seat(self) -> _Seat:
         """A seat that no other call has."""

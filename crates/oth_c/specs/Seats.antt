@@ -4,12 +4,17 @@
 --     Opens g cells x y          where there was no seat there is the first one of a new table
 --     Joins x y more more'       where there was no seat there is a further one of the same table
 --     Solves, SolvesFully x b a      a is the answer of the board by the table's scoring, as C has it and as the search
+--     EnclosesIn, EnclosesFully x b      bounds enclose the board's value by the table's scoring, as C has them and as the search
 --     IsKept x y                 it is the same seat of the same table, whatever it has seen
 --     RefusesCells, RefusesTable, RefusesSeat, RefusesBoard      why a call refuses: the first cause that holds
-use Rattle.std.specs.Prelude.{◌≡◌, ℕ, ◌<◌, ◌≤◌, [], Bool, true, false, Option, Some, None}
+use Rattle.std.specs.Prelude.{◌≡◌, ℕ, ℤ, ◌<◌, ◌≤◌, [], Bool, true, false, Option, Some, None}
 use Rattle.oth_rules.specs.Position.{empty_count}
 use Rattle.oth_rules.specs.declared.scoring.Scoring.{Scoring}
+use Rattle.oth_rules.specs.Score.{score_of}
+use Rattle.oth_rules.specs.Value.{value}
+use Rattle.oth_search.specs.Bound.{Encloses}
 use Rattle.oth_search.specs.Full.{IsFullMinimax}
+use Rattle.oth_search.specs.declared.solved.Solved.{Solved}
 use Rattle.oth_search.specs.declared.answer.Answer.{Answer}
 use Rattle.oth_table.specs.Calls.{IsSame, Makes}
 use Rattle.oth_table.specs.Parts.{Use, fixed_of}
@@ -46,6 +51,14 @@ Solves (Some u) b a = (overlaps b ≡ false) × (empty_count (position b) ≤ 30
 abbrev pub SolvesFully : Option Use → OthBoard → Answer → Type 0
 SolvesFully None b a = ⊥
 SolvesFully (Some u) b a = (overlaps b ≡ false) × (empty_count (position b) ≤ 30) × IsFullMinimax (position b) u.table.terms.scoring a
+
+abbrev pub EnclosesIn : Option Use → OthBoard → ℤ → ℤ → Type 0
+EnclosesIn None b lower upper = ⊥
+EnclosesIn (Some u) b lower upper = (overlaps b ≡ false) × (empty_count (position b) ≤ 30) × Encloses lower upper (value (score_of u.table.terms.scoring) (position b))
+
+abbrev pub EnclosesFully : Option Use → OthBoard → Solved → Type 0
+EnclosesFully None b s = ⊥
+EnclosesFully (Some u) b s = (overlaps b ≡ false) × (empty_count (position b) ≤ 30) × (s.board ≡ position b) × (s.scoring ≡ u.table.terms.scoring)
 
 abbrev pub IsKept : Option Use → Option Use → Type 0
 IsKept None y = y ≡ None

@@ -5,26 +5,22 @@ ghost use Rattle.oth_table.specs.Parts.{fixed_of};
 ghost use Rattle.oth_table.specs.Calls.{IsSeatOf};
 
 use oth_rules::{Board, Scoring};
-use oth_search::{Cells, Entry, Memo, Solved};
+use oth_search::{Cells, Entry, Memories, Solved};
 use oth_table::{TableCells, TableSeat};
-use std::alloc::Global;
 
-/// The cells of a table, and a memory of the call's own for boards with few empty squares, where there is room for one.
+/// The cells of a table, and the memories of the call's own.
 #[derive(Drop)]
 pub struct CallCells<'t> {
     cells: TableCells<'t>,
-    memo: Option<Memo>,
+    memories: Memories,
 }
 
 impl<'t> CallCells<'t> {
-    /// These cells, with nothing remembered.
-    pub fn of(alloc: Global, cells: TableCells<'t>) -> CallCells<'t>
+    /// These cells, and these memories.
+    pub fn of(cells: TableCells<'t>, memories: Memories) -> CallCells<'t>
         ensures { result.cells ≡ cells.entry }
     {
-        CallCells {
-            cells,
-            memo: Memo::new(alloc).ok(),
-        }
+        CallCells { cells, memories }
     }
 
     /// The seat of the table, as it then is.
@@ -51,16 +47,15 @@ impl<'t> Cells for CallCells<'t> {
         self.cells.put(entry);
     }
 
+    fn remembers(&self, empties: u8) -> bool {
+        self.memories.remembers(empties)
+    }
+
     fn recall(&mut self, board: &Board, scoring: Scoring) -> Option<Solved> {
-        match &self.memo {
-            Some(memo) => memo.recall(board, scoring),
-            None => None,
-        }
+        self.memories.recall(board, scoring)
     }
 
     fn remember(&mut self, solved: &Solved) {
-        if let Some(memo) = &mut self.memo {
-            memo.remember(solved);
-        }
+        self.memories.remember(solved);
     }
 }

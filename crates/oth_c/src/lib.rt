@@ -14,3 +14,4 @@ mod seated;
 mod sharing;
 mod solving;
 mod texts;
+mod within;

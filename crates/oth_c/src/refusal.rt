@@ -6,6 +6,9 @@ ghost use Rattle.oth_c.specs.Codes.{code_of};
 /// What an export answers where it did what it was asked for.
 pub const DONE: u32 = 0;
 
+/// What an export answers where its search was ended before it was done: no refusal, and no answer yet.
+pub const STOPPED: u32 = 41;
+
 /// Why an export refuses. A reader's own faults have numbers beside these.
 #[derive(Clone, Copy, PartialEq, Eq, Debug)]
 pub enum Refusal {

@@ -11,7 +11,7 @@ ghost use Rattle.oth_c.specs.declared.refusal.Refusal.TheVariants as refusal;
 use crate::cells::CallCells;
 use crate::refusal::Refusal;
 use oth_rules::{Board, Scoring};
-use oth_search::{Answer, solve_with};
+use oth_search::{Answer, Limited, Memories, Stopped, solve_until, solve_with};
 use oth_table::{SharedTable, TableCells, TableError, TableSeat};
 use std::alloc::Global;
 use std::marker::Model;
@@ -83,9 +83,33 @@ impl Seated {
     {
         let Seated { table, seat } = self;
         let scoring = table.scoring();
-        let mut cells = CallCells::of(alloc, TableCells::of(&table, seat));
+        let memories = Memories::of(alloc, board.empties(), false);
+        let mut cells = CallCells::of(TableCells::of(&table, seat), memories);
         let answer = solve_with(board, &mut cells, scoring);
         let seat = cells.into_seat();
         (Seated { table, seat }, answer)
+    }
+
+    /// The answer of a board by the table's scoring, or what is known of it when so many boards were looked up; and the
+    /// seat, as it then is.
+    pub fn solve_within(
+        self,
+        alloc: Global,
+        board: Board,
+        most: u64,
+    ) -> (Seated, Result<Answer, Stopped>)
+        ensures kept { fixed_of result.0 ≡ fixed_of self }
+        ensures full { IfOk result.1 (IsFullMinimax board self.table.terms.scoring) }
+        ensures known { IfErr result.1 (λ s. (s.known.board ≡ board)
+            × (s.known.scoring ≡ self.table.terms.scoring)) }
+    {
+        let Seated { table, seat } = self;
+        let scoring = table.scoring();
+        let memories = Memories::of(alloc, board.empties(), false);
+        let cells = CallCells::of(TableCells::of(&table, seat), memories);
+        let mut limited = Limited::of(cells, most);
+        let found = solve_until(alloc, &board, &mut limited, scoring);
+        let seat = limited.into_cells().into_seat();
+        (Seated { table, seat }, found)
     }
 }

@@ -15,7 +15,7 @@ use crate::board::OthBoard;
 use crate::cells::CallCells;
 use crate::refusal::{DONE, Refusal};
 use oth_rules::{Board, Scoring};
-use oth_search::{Answer, MOST_EMPTIES, solve_alone, solve_with};
+use oth_search::{Answer, MOST_EMPTIES, Memories, solve_alone, solve_with};
 use oth_table::{SharedTable, TableCells, TableError, TableSeat};
 use std::alloc::Global;
 
@@ -88,6 +88,7 @@ fn over(
     requires { IsSeatOf table.now seat }
     ensures { IsFullMinimax board scoring result }
 {
-    let mut cells = CallCells::of(alloc, TableCells::of(table, seat));
+    let memories = Memories::of(alloc, board.empties(), true);
+    let mut cells = CallCells::of(TableCells::of(table, seat), memories);
     solve_with(board, &mut cells, scoring)
 }

@@ -11,8 +11,8 @@ use Rattle.oth_text.specs.Transcript.{is_nil}
 use Rattle.oth_text.specs.declared.fault.LineFault.{LineFault}
 use Rattle.oth_text.specs.declared.fault.LineFault.TheVariants.{Empties}
 use Rattle.oth_text.specs.declared.position.Position.{Position}
-use Rattle.oth_book.specs.Add.{HasNoRoom, IsAbsent, IsRefused, Keeps}
-use Rattle.oth_book.specs.Book.{HasExact, IsTrueBook}
+use Rattle.oth_book.specs.Add.{HasNoRoom, IsAbsent, Keeps}
+use Rattle.oth_book.specs.Book.{IsTrueBook}
 use Rattle.oth_book.specs.Contents.{Contents}
 use Rattle.oth_book.specs.declared.add.AddError.{AddError}
 use Rattle.oth_book.specs.declared.add.AddError.TheVariants as refused
@@ -50,27 +50,12 @@ answers_many line p n is count many = rw (solvable_is line (Ok p) is ∙ by_coun
 pub answers_few : (line : List ℕ) (p : Position) (a : Answer) → reading line ≡ Ok p → a.board ≡ p.board → (30 < empty_count p.board → ⊥) → AnswersLine (solvable_reading line) (Ok a)
 answers_few line p a is same few = rw (solvable_is line (Ok p) is ∙ by_count p false (few_or_many p few)) same
 
--- a line that is answered, and one that isn't
-pub answered_by : (book : Contents) (line : List ℕ) (a : Answer) → AnswersLine (solvable_reading line) (Ok a) → HasExact book.entries (canonical a.board) → IsAnswered book line
-answered_by book line a answers has p is = rw (rw is at answers) at has
-
-pub faulty_answered : (book : Contents) (line : List ℕ) (f : LineFault) → AnswersLine (solvable_reading line) (Err f) → IsAnswered book line
-faulty_answered book line f answers p is = absurd (rw is at answers)
-
 pub no_place : (book : Contents) (line : List ℕ) (a : Answer) (why : AddError) → AnswersLine (solvable_reading line) (Ok a) → IsAbsent book a.board → HasNoRoom book.entries why → HasNoPlace book line
 no_place book line a why answers absent room = go (solvable_reading line) refl answers
   where
     go : (r : Result Position LineFault) → solvable_reading line ≡ r → AnswersLine r (Ok a) → HasNoPlace book line
     go (Ok p) is same = record { position = p; shown = is; absent = rw (same) at absent; why = why; no_room = room }
     go (Err f) is same = absurd same
-
--- by the book's scoring only want of room refuses
-pub refused_room : (old : Contents) (a : Answer) (why : AddError) → a.scoring ≡ old.scoring → IsRefused old a why → IsAbsent old a.board × ((why : AddError) × HasNoRoom old.entries why)
-refused_room old a refused.Scoring same h = absurd (h same)
-refused_room old a refused.Memory same h = (h.1, (refused.Memory, h.2))
-refused_room old a refused.Full same h = (h.1, (refused.Full, h.2))
-refused_room old a refused.OneNumber same h = absurd h.2
-refused_room old a refused.Empties same h = absurd h.2
 
 -- ---- an input, part by part
 

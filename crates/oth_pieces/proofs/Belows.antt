@@ -9,10 +9,6 @@ use Rattle.oth_rules.specs.Position.{Position}
 use Rattle.oth_rules.specs.Move.{is_legal, legal_squares}
 use Rattle.oth_pieces.specs.declared.frontier.item.Item.{Item}
 
-pub not_not : (b : Bool) → not (not b) ≡ b
-not_not true = refl
-not_not false = refl
-
 pub range_split : (a n m : ℕ) → range_with_len a (n + m) ≡ range_with_len a n ++ range_with_len (a + n) m
 range_split a zero m = let e : 0 + m ≡ m = omega arith in let f : a + 0 ≡ a = omega arith in (λ i. range_with_len (sym f i) (e i))
 range_split a (suc n) m =

@@ -24,7 +24,6 @@ sum_has f (u ∷ us) zero v e = let is : f u ≡ f v = ap f (some-injective u v 
 sum_has f (u ∷ us) (suc port) v e = let rest = sum_has f us port v e in omega (arith, sum_by-cons f u us)
 
 module _ (put : List ℕ) (views : List Share) where
-
   abbrev Alone : Type 0
   Alone = (port : ℕ) (v : Share) → get_elem? views port ≡ some v → v.pushes ≡ true → (j : ℕ) (u : Share) → get_elem? views j ≡ some u → u.knows ≡ true → j ≡ port
 

@@ -80,27 +80,20 @@ impl Frontier {
     }
 }
 
-// Puts a forced pass in, and says whether it did.
-fn awake(board: Board) -> (Board, bool)
+/// The board after a forced pass, where there is one, and whether there is.
+pub fn awake(board: Board) -> (Board, bool)
     ensures board { result.0 ≡ awake board }
     ensures passed { result.1 ≡ only_passes board }
 {
-    if can_move(&board) {
+    if board.can_move() {
         return (board, false);
     }
     let passed = board.pass();
-    if can_move(&passed) {
+    if passed.can_move() {
         (passed, true)
     } else {
         (board, false)
     }
-}
-
-/// Whether the mover has a move.
-pub fn can_move(board: &Board) -> bool
-    ensures { result ≡ can_move board.now }
-{
-    board.moves() != 0
 }
 
 // Where the move is legal, adds the item after it.

@@ -11,6 +11,6 @@ pub mod tasks;
 pub use collector::Collector;
 pub use crew::is_crew;
 pub use floor::{Floor, FloorError, FloorSeat, Stranger};
-pub use frontier::{Frontier, Item, MOST_ITEMS, can_move};
+pub use frontier::{Frontier, Item, MOST_ITEMS, awake};
 pub use reply::{Refusal, Reply};
 pub use tasks::{Drawn, Hand, Tasks, TasksError};

@@ -92,7 +92,6 @@ pub All-longer : {X : Type 0} (P : X → Type 0) (xs ys : List X) (x : X) → ys
 All-longer P xs ys x e all one = subst (All P) (sym e) (All-push P xs x all one)
 
 module _ {C : Type 0} (items : List Item) (scoring : Scoring) (tasks : Tasks) where
-
   pub jobs_can : (jobs : List (Job C)) → AreAllHands tasks (map (λ (j : Job C). j.work.hand) jobs) → All (λ (j : Job C). Holds items scoring j.work) jobs → (i : ℕ) (d : Job C) → i < length jobs → CanWork items scoring tasks (get_or jobs i d).work
   jobs_can jobs all each i d below = record {
     hand =

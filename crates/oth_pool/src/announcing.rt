@@ -2,7 +2,7 @@
 
 use oth_pieces::Frontier;
 use oth_rules::{Board, Scoring, Square};
-use oth_search::{Observer, Solved, known_below};
+use oth_search::{Cells, Observer, Solved, known_below};
 use oth_walk::{Gate, Scene, is_settled};
 
 // The items of a frontier by the root's moves, of which some were announced.
@@ -94,7 +94,7 @@ impl<'s, G: Gate> Announcer<'s, G> {
     }
 }
 
-impl<'s, G: Gate> Observer for Announcer<'s, G> {
+impl<'s, G: Gate, C: Cells> Observer<C> for Announcer<'s, G> {
     fn before(&mut self, child: &Board) {
         if let Some(square) = self.items.announce(child) {
             self.open = Some(square);

@@ -7,6 +7,7 @@ mod at_once;
 mod book_lookup;
 mod promise;
 pub mod run;
+mod scoring_moves;
 mod solving;
 pub mod work;
 mod workers;
@@ -17,4 +18,5 @@ pub use oth_pieces::{
 };
 pub use oth_walk::{Gate, Open, TableAccess, WorkerCells};
 pub use run::{Gathered, run_workers};
+pub use scoring_moves::scores;
 pub use solving::{SolveError, solve};

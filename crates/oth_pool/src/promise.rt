@@ -1,6 +1,6 @@
 //! The order in which the items of a frontier are drawn: those whose search promises most come first.
 use arrayvec::ArrayVec;
-use oth_pieces::{MOST_ITEMS, can_move};
+use oth_pieces::{MOST_ITEMS, awake};
 use oth_rules::{Board, Square};
 use oth_search::order;
 use oth_walk::Scene;
@@ -44,25 +44,16 @@ fn rank_of(of_move: u32, of_reply: u32) -> u32 {
 fn replies_to(scene: &Scene, square: Square) -> ArrayVec<Board, 64> {
     let mut replies = ArrayVec::new();
     if let Some(child) = scene.root.play(square) {
-        let child = awake(child);
+        let (child, _) = awake(child);
         let squares = order(&child);
         for reply in squares.as_slice() {
             if let Some(board) = child.play(*reply) {
-                let _ = replies.try_push(awake(board));
+                let (board, _) = awake(board);
+                let _ = replies.try_push(board);
             }
         }
     }
     replies
-}
-
-// The board, after a forced pass where there is one.
-fn awake(board: Board) -> Board {
-    let passed = board.pass();
-    if !can_move(&board) && can_move(&passed) {
-        passed
-    } else {
-        board
-    }
 }
 
 // The place of the value in the list, or beyond all places.

@@ -209,19 +209,11 @@ fn walks_of<'w, 't>(
             return None;
         };
         let height = Height::of(shared.floor, own);
-        let hints = seat_of(shared.hints);
+        let hints = HintSeat::of(shared.hints);
         let cells = WorkerCells::of(alloc, shared.plan, table);
         walks.push_reserved(Walk::of(alloc, shared.plan, cells, height, hints));
     }
     Some(walks)
-}
-
-// A seat of the hints, if there are any and there is memory for it.
-fn seat_of<'h>(hints: &'h Option<Hints>) -> Option<HintSeat<'h>> {
-    match hints {
-        Some(hints) => HintSeat::of(hints),
-        None => None,
-    }
 }
 
 // A job for each hand.

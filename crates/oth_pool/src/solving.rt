@@ -20,7 +20,7 @@ use oth_search::{
 };
 use oth_table::{SharedTable, is_size};
 use oth_walk::{
-    Gate, Height, Plan, Scene, TableAccess, Walk, WorkerCells, is_settled, search_item,
+    Gate, Height, HintSeat, Plan, Scene, TableAccess, Walk, WorkerCells, is_settled, search_item,
 };
 use std::alloc::Global;
 use std::thread::Threads;
@@ -75,8 +75,8 @@ pub fn solve<R: Threads + Sync, G: Gate>(
     Ok(answer(&means, &by_book, cells))
 }
 
-// The first cause for which the board isn't solved, if there is one.
-fn accepted(board: &Board, workers: u8, cells: u32) -> Result<(), SolveError>
+/// The first cause for which the board isn't solved, if there is one.
+pub(crate) fn accepted(board: &Board, workers: u8, cells: u32) -> Result<(), SolveError>
     ensures ok { IfOk result (λ nothing. Accepts board.now workers cells) }
     ensures err { IfErr result (Refuses board.now workers cells) }
 {
@@ -93,8 +93,8 @@ fn accepted(board: &Board, workers: u8, cells: u32) -> Result<(), SolveError>
     Ok(())
 }
 
-// So many of the workers as pay for a board with so many empty squares.
-fn crew(workers: u8, empties: u8) -> u8
+/// So many of the workers as pay for a board with so many empty squares.
+pub(crate) fn crew(workers: u8, empties: u8) -> u8
     requires { IsCrew workers }
     ensures { IsCrew result }
 {
@@ -145,8 +145,8 @@ fn answer_moves<R: Threads + Sync, G: Gate>(
     }
 }
 
-// So many of the cells as a search of so many empty squares can use, since it takes time to make a table.
-fn cells_for(cells: u32, empties: u8) -> u32 {
+/// So many of the cells as a search of so many empty squares can use, since it takes time to make a table.
+pub(crate) fn cells_for(cells: u32, empties: u8) -> u32 {
     match empties {
         0..=9 => cells.min(1 << 6),
         10..=12 => cells.min(1 << 10),
@@ -157,8 +157,8 @@ fn cells_for(cells: u32, empties: u8) -> u32 {
     }
 }
 
-// The same: by the items of the frontier.
-fn answer_over<'t, R: Threads + Sync, G: Gate>(
+/// The answer of the board of which the book tells so much, where the mover has a move, by the items of the frontier.
+pub(crate) fn answer_over<'t, R: Threads + Sync, G: Gate>(
     means: &Means<R, G>,
     by_book: &Solved,
     access: &mut Option<TableAccess<'t>>,
@@ -175,9 +175,9 @@ fn answer_over<'t, R: Threads + Sync, G: Gate>(
     }
 }
 
-// The frontier of the board, on the heap: a search is to have room on the stack. None where there is no memory.
+/// The frontier of the board, on the heap: a search is to have room on the stack. None where there is no memory.
 #[inline(never)]
-fn frontier_of(alloc: Global, board: &Board) -> Option<Box<Frontier>>
+pub(crate) fn frontier_of(alloc: Global, board: &Board) -> Option<Box<Frontier>>
     requires { IsSolvable board.now }
 {
     Box::new(alloc, Frontier::of(board, 2)).ok()
@@ -240,7 +240,7 @@ fn answer_alone<'t, R: Threads + Sync, G: Gate>(
     ensures board { result.board ≡ by_book.now.board }
     ensures scoring { result.scoring ≡ by_book.now.scoring }
 {
-    let mut cells = WorkerCells::of(means.alloc, scene.plan, access);
+    let mut cells = WorkerCells::of(means.alloc, scene.plan.for_one(), access);
     let mut announcer = Announcer::of(scene, means.gate);
     let answer = solve_moves(*by_book, &[], &mut cells, &mut announcer);
     announcer.finish();
@@ -264,7 +264,13 @@ fn answer_together<'t, R: Threads + Sync, G: Gate>(
     let (floor, mut seat) = raised_floor(alloc, by_book)?;
     let (gathered, found) = run(means, scene, &floor, &mut seat, access);
     let cells = WorkerCells::of(alloc, scene.plan, access);
-    let mut walk = Walk::of(alloc, scene.plan, cells, Height::of(&floor, seat), None);
+    let mut walk = Walk::of(
+        alloc,
+        scene.plan,
+        cells,
+        Height::of(&floor, seat),
+        HintSeat::none(),
+    );
     walk.found = found;
     let replies = replies_of(scene, &gathered, means.gate, &mut walk);
     let children = children_of(scene, replies.as_slice(), &mut walk);

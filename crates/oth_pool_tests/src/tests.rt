@@ -7,6 +7,7 @@ mod drawing;
 mod gate;
 mod refused;
 mod rows;
+mod scoring;
 
 use oth_pool::{Floor, Frontier, Open, SolveError, TableAccess, WorkerCells, run_workers, solve};
 use oth_rules::samples::board;

@@ -246,6 +246,10 @@ all_compasses f w i l e =
 
 -- ---- whether a side can move
 
+pub not_not : (b : Bool) → not (not b) ≡ b
+not_not true = refl
+not_not false = refl
+
 pub move_test : (p : Position) (w : ℕ) → w ≡ word_of (is_legal p) → eqb w 0 ≡ not (can_move p)
 unfolding can_move
 move_test p w e =

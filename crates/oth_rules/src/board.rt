@@ -2,7 +2,7 @@
 ghost use Rattle.std.specs.Prelude.{◌≡◌, ◌<◌, ◌≤◌, ◌↔◌, bit_and, IsErr, IfOk, IsTrue, SomeIff, false};
 ghost use Rattle.oth_rules.specs.Square.{word_of, is_in};
 ghost use Rattle.oth_rules.specs.Position.{Position, IsBoard, empty_count, is_empty, pass};
-ghost use Rattle.oth_rules.specs.Move.{outflanked, flipped_along, is_flipped, is_legal, is_over, after};
+ghost use Rattle.oth_rules.specs.Move.{outflanked, flipped_along, is_flipped, is_legal, can_move, is_over, after};
 ghost use Rattle.oth_rules.specs.Score.{winner_score, disc_difference, score_of};
 ghost use Rattle.oth_rules.specs.Value.{value, is_best};
 ghost use Rattle.oth_rules.specs.Symmetry.{image, map_word, is_below, canonical, IsLeastImage};
@@ -241,6 +241,13 @@ impl Board {
         ensures { result ≡ after self.now square }
     {
         self.play_flipped(square, self.flips_of_empty(square))
+    }
+
+    /// Whether the mover has a legal move.
+    pub fn can_move(&self) -> bool
+        ensures { result ≡ can_move self.now }
+    {
+        self.moves() != 0
     }
 
     /// Whether neither side has a legal move.

@@ -12,19 +12,6 @@ Decides-closer a b lower upper alpha beta alpha' beta' i low high e f d = elim d
   | inr out ↦ elim out [ inl h ↦ inr (inl (omega (arith, ints, h))) | inr h ↦ inr (inr (omega (arith, ints, h))) ]
 ]
 
--- not above `most`, and then asked whether below it
-pub Decides-both : (a b lower upper most w x y z : ℤ) → IsInterval lower upper → a ≤ℤ lower → upper ≤ℤ b → w ≡ most → x ≡ most +ℤ pos 1 → y ≡ most -ℤ pos 1 → z ≡ most → Decides a b w x → a ≤ℤ most → Decides lower upper y z → Decides lower upper (most -ℤ pos 1) (most +ℤ pos 1)
-Decides-both a b lower upper most w x y z i low high ew ex ey ez first not_above second = elim first [
-  | inl e ↦ inl (omega (arith, ints, i.ordered, e))
-  | inr out ↦ elim out [
-    | inl h ↦ absurd (omega (arith, ints, h, not_above))
-    | inr h ↦ elim second [
-      | inl e ↦ inl e
-      | inr away ↦ elim away [ inl k ↦ inl (omega (arith, ints, i.ordered, h, k)) | inr k ↦ inr (inr (omega (arith, ints, k))) ]
-    ]
-  ]
-]
-
 -- bounds that decide a threshold between them are closer
 pub fewer : (a b lower upper alpha w x : ℤ) → IsInterval lower upper → a ≤ℤ alpha → alpha <ℤ b → a ≤ℤ lower → upper ≤ℤ b → w ≡ alpha → x ≡ alpha +ℤ pos 1 → Decides lower upper w x → unsigned_abs (upper -ℤ lower) < unsigned_abs (b -ℤ a)
 fewer a b lower upper alpha w x i from to low high k e d = elim d [

@@ -1,5 +1,5 @@
 //! Questions of a board's value, answered by as many searches as it takes.
-ghost use Rattle.std.specs.Prelude.{◌≡◌, negsuc, pos, ◌≤ℤ◌, ◌+ℤ◌, ◌-ℤ◌};
+ghost use Rattle.std.specs.Prelude.{◌≡◌, negsuc, pos, ◌≤ℤ◌, ◌+ℤ◌};
 ghost use Rattle.oth_rules.specs.Laws.{IsScore};
 ghost use Rattle.oth_rules.specs.Score.{score_of};
 ghost use Rattle.oth_rules.specs.Value.{value};
@@ -47,21 +47,6 @@ impl Solved {
         }
         let found = Solved::by_search(&self.board, alpha, alpha + 1, cells, self.scoring);
         self.joined(&found)
-    }
-
-    /// The board with bounds that tell whether its value is above `most`, below it, or which number it is.
-    pub(crate) fn against<C: Cells>(&self, most: i8, cells: &mut C) -> Solved
-        requires { IsScore most }
-        ensures board { result.board ≡ self.now.board }
-        ensures scoring { result.scoring ≡ self.now.scoring }
-        ensures decides { Decides result.interval.lower result.interval.upper (most -ℤ pos 1) (most +ℤ pos 1) }
-        ensures fixed { C.fixed cells.new ≡ C.fixed cells.old }
-    {
-        let reply = self.decided_at(most, cells);
-        if reply.interval.lower > most {
-            return reply;
-        }
-        reply.decided_at(most - 1, cells)
     }
 
     /// The board with its value, by questions ever further below what it is known to reach.

@@ -24,7 +24,14 @@ pub trait Cells {
     fn put(&mut self, entry: &Entry)
         ensures fixed { fixed self.new ≡ fixed self.old };
 
-    /// What is remembered of a board with few empty squares by the asked scoring, if anything is: by default nothing.
+    /// Whether boards with so many empty squares, 9 and more, are remembered too, and neither looked up nor put: by
+    /// default they are not.
+    fn remembers(&self, _empties: u8) -> bool {
+        false
+    }
+
+    /// What is remembered of a board by the asked scoring, if anything is: by default nothing. It is asked of boards
+    /// with few empty squares, 5 to 8, and of those that it remembers besides.
     fn recall(&mut self, _board: &Board, _scoring: Scoring) -> Option<Solved>
         ensures asked { IfSome result (λ s. (s.board ≡ _board.now) × (s.scoring ≡ _scoring)) }
         ensures fixed { fixed self.new ≡ fixed self.old }
@@ -32,7 +39,7 @@ pub trait Cells {
         None
     }
 
-    /// Offers what was found of a board with few empty squares. The cells are free to drop it, and by default do.
+    /// Offers what was found of such a board. The cells are free to drop it, and by default do.
     fn remember(&mut self, _solved: &Solved)
         ensures fixed { fixed self.new ≡ fixed self.old }
     {}

@@ -33,7 +33,7 @@ const FEWEST_EMPTIES_RECORDED: u8 = 8;
 // Where the mover asks for no more than this, the opponent's stable discs seldom stand in the way.
 const LEAST_ALPHA_BOUNDED: i8 = 24;
 
-// Boards with fewer empty squares are remembered and not kept.
+// Boards with fewer empty squares are always remembered and not kept.
 const FEWEST_EMPTIES_KEPT: u8 = 9;
 
 /// As `probe`, with the cells.
@@ -75,7 +75,7 @@ fn probe_kept<C: Cells>(node: Node, alpha: i8, cells: &mut C, scoring: Scoring) 
     ensures fixed { C.fixed cells.new ≡ C.fixed cells.old }
 {
     let board = node.board;
-    if board.empties() < FEWEST_EMPTIES_KEPT {
+    if is_remembered(&board, cells) {
         return probe_remembered(node, alpha, cells, scoring);
     }
     let known = known(&board.canonical().0, cells, scoring);
@@ -158,7 +158,7 @@ fn probe_middle<C: Cells>(node: Node, alpha: i8, cells: &mut C, scoring: Scoring
     ensures fixed { C.fixed cells.new ≡ C.fixed cells.old }
 {
     let list: ArrayVec<Child, 10> = children(&node);
-    if node.board.empties() <= FEWEST_EMPTIES_KEPT {
+    if node.board.empties() <= FEWEST_EMPTIES_KEPT || is_remembered(&node.board, cells) {
         if let Some(found) = recorded_above(&node.board, list.as_slice(), alpha, cells, scoring) {
             return found;
         }
@@ -295,12 +295,18 @@ fn recorded_above<C: Cells>(
     None
 }
 
-// What is recorded of the board's value: in the memory where few squares are empty, and else in the cells.
+// Whether the board is one that is remembered, and not kept.
+fn is_remembered<C: Cells>(board: &Board, cells: &C) -> bool {
+    let empties = board.empties();
+    empties < FEWEST_EMPTIES_KEPT || cells.remembers(empties)
+}
+
+// What is recorded of the board's value: in the memory where the board is remembered, and else in the cells.
 fn recorded<C: Cells>(board: &Board, cells: &mut C, scoring: Scoring) -> Solved
     ensures value { Encloses result.interval.lower result.interval.upper (value (score_of scoring) board.now) }
     ensures fixed { C.fixed cells.new ≡ C.fixed cells.old }
 {
-    if board.empties() < FEWEST_EMPTIES_KEPT {
+    if is_remembered(board, cells) {
         return recalled(board, cells, scoring);
     }
     known(&board.canonical().0, cells, scoring)

@@ -1,47 +1,87 @@
-//! A small memory of boards that were searched lately, and cells that have one.
-ghost use Rattle.std.specs.Prelude.{◌≡◌, ◌<◌, IfSome, IsNone, vec_len};
+//! Memories of boards that were searched lately, and cells that have one.
+ghost use Rattle.std.specs.Prelude.{◌≡◌, ◌<◌, ◌≤◌, IfSome, IsNone, vec_len};
 
 use crate::cells::Cells;
 use crate::entry::Entry;
+use crate::memories::Memories;
 use crate::solved::Solved;
 use oth_rules::{Board, Scoring};
 use std::alloc::{AllocError, Global};
 
-// So many boards are remembered at most: a power of two.
+// So many boards are remembered on the stack: a power of two.
 const PLACES: usize = 4096;
 
-// A hash of a board has 64 bits, and the highest 12 of them are its place.
-const SHIFT: u32 = 52;
+// A hash of a board has 64 bits, of which the highest depend on all squares: those above so many are its place.
+const SHIFT: u32 = 44;
 
-// From so many empty squares at the root on a memory for boards of few empty squares pays.
-const FEWEST_EMPTIES_REMEMBERED: u8 = 10;
+// The places of a smaller memory are the lowest of these bits, to which those that stand so far above are brought.
+const FOLD: u32 = 8;
 
 /// What was found of boards lately, each at the place of its hash, where a later one takes the place of an earlier one.
-/// Nothing is promised of what is remembered, but that it is true. It has 96 KB of the heap, and none of the stack.
+/// Nothing is promised of what is remembered, but that it is true. It has 24 bytes a place of the heap, and none of the
+/// stack.
 #[derive(Drop)]
 pub struct Memo {
     places: Vec<Solved>,
-    ghost full: { vec_len places ≡ 4096 },
+    // The greatest place.
+    last: usize,
+    ghost full: { last < vec_len places },
 }
 
 impl Memo {
-    /// Nothing is remembered. Refused where there is no memory for it.
-    pub fn new(alloc: Global) -> Result<Memo, AllocError> {
-        let places = vec![in alloc; blank(); PLACES]?;
-        Ok(Memo { places })
+    /// Nothing is remembered. For the search of a board with so many empty squares: up to 13 it has 4,096 places, and
+    /// else 16,384. Refused where there is no memory for it.
+    pub fn below(alloc: Global, empties: u8) -> Result<Memo, AllocError> {
+        Memo::with_last(alloc, last_below(empties))
+    }
+
+    /// The same for boards with more than a few empty squares: 65,536 places up to 19, 262,144 for 20 and 21, and else
+    /// 1,048,576, which are 24 MB.
+    pub fn large_below(alloc: Global, empties: u8) -> Result<Memo, AllocError> {
+        Memo::with_last(alloc, large_last_below(empties))
+    }
+
+    // With this greatest place.
+    fn with_last(alloc: Global, last: usize) -> Result<Memo, AllocError>
+        requires { last < 1048576 }
+    {
+        let places = vec![in alloc; blank(); last + 1]?;
+        Ok(Memo { places, last })
     }
 
     /// What is remembered of the board by this scoring.
     pub fn recall(&self, board: &Board, scoring: Scoring) -> Option<Solved>
         ensures asked { IfSome result (λ s. (s.board ≡ board.now) × (s.scoring ≡ scoring)) }
     {
-        told_by(&self.places[place(board)], board, scoring)
+        told_by(&self.places[place(board, self.last)], board, scoring)
     }
 
     /// Remembers these bounds, and forgets what was at their place.
     pub fn remember(&mut self, solved: &Solved) {
-        let place = place(&solved.board);
+        let place = place(&solved.board, self.last);
         self.places[place] = *solved;
+    }
+}
+
+// The greatest place of a memory for boards with few empty squares below a root with so many: one less than a power of
+// two.
+fn last_below(empties: u8) -> usize
+    ensures { result < 16384 }
+{
+    match empties {
+        0..=13 => 4_095,
+        _ => 16_383,
+    }
+}
+
+// The same for boards with more.
+fn large_last_below(empties: u8) -> usize
+    ensures { result < 1048576 }
+{
+    match empties {
+        0..=19 => 65_535,
+        20..=21 => 262_143,
+        _ => 1_048_575,
     }
 }
 
@@ -60,36 +100,28 @@ fn told_by(kept: &Solved, board: &Board, scoring: Scoring) -> Option<Solved>
     None
 }
 
-// The place of a board.
-fn place(board: &Board) -> usize
-    ensures { result < 4096 }
+// The place of a board, where the greatest one is one less than a power of two.
+#[tactic(auto, using(std::proofs::lemmas::Nat::and_le_r))]
+fn place(board: &Board, last: usize) -> usize
+    ensures { result ≤ last }
 {
     let own = board.own().wrapping_mul(0x9e37_79b9_7f4a_7c15);
     let opp = board.opp().wrapping_mul(0xc2b2_ae3d_27d4_eb4f);
-    (own.wrapping_add(opp) >> SHIFT) as usize
+    let hash = own.wrapping_add(opp);
+    ((hash ^ (hash >> FOLD)) >> SHIFT) as usize & last
 }
 
-/// Whether a memory pays where so many squares are empty at the root: it takes time to make.
-pub fn is_remembered(empties: u8) -> bool {
-    empties >= FEWEST_EMPTIES_REMEMBERED
-}
-
-/// Cells of one search without a table: they keep no entry, but remember boards of few empty squares, where that pays
-/// and there is memory.
+/// Cells of one search without a table: they keep no entry, but remember boards, where that pays and there is memory.
 #[derive(Drop)]
 pub struct MemoCells {
-    memo: Option<Memo>,
+    memories: Memories,
 }
 
 impl MemoCells {
     /// Nothing is remembered. The root has so many empty squares.
     pub fn of(alloc: Global, empties: u8) -> MemoCells {
         MemoCells {
-            memo: if is_remembered(empties) {
-                Memo::new(alloc).ok()
-            } else {
-                None
-            },
+            memories: Memories::of(alloc, empties, true),
         }
     }
 }
@@ -107,17 +139,16 @@ impl Cells for MemoCells {
 
     fn put(&mut self, _entry: &Entry) {}
 
+    fn remembers(&self, empties: u8) -> bool {
+        self.memories.remembers(empties)
+    }
+
     fn recall(&mut self, board: &Board, scoring: Scoring) -> Option<Solved> {
-        match &self.memo {
-            Some(memo) => memo.recall(board, scoring),
-            None => None,
-        }
+        self.memories.recall(board, scoring)
     }
 
     fn remember(&mut self, solved: &Solved) {
-        if let Some(memo) = &mut self.memo {
-            memo.remember(solved);
-        }
+        self.memories.remember(solved);
     }
 }
 
@@ -150,11 +181,11 @@ impl Cells for StackCells {
     fn put(&mut self, _entry: &Entry) {}
 
     fn recall(&mut self, board: &Board, scoring: Scoring) -> Option<Solved> {
-        told_by(&self.places[place(board)], board, scoring)
+        told_by(&self.places[place(board, PLACES - 1)], board, scoring)
     }
 
     fn remember(&mut self, solved: &Solved) {
-        let place = place(&solved.board);
+        let place = place(&solved.board, PLACES - 1);
         self.places[place] = *solved;
     }
 }

@@ -6,7 +6,7 @@ use crate::asking::wider;
 use crate::cells::Cells;
 use crate::combining::known_of;
 use crate::guess::guess;
-use crate::interval::{Interval, lesser};
+use crate::interval::{Interval, greater, lesser};
 use crate::observer::Observer;
 use crate::ordering::order;
 use crate::solved::Solved;
@@ -19,11 +19,14 @@ const FEWEST_EMPTIES_GUESSED: u8 = 12;
 // So often a start that no move reaches is lowered: first to the most that the root may still have, and then further.
 const ROUNDS: u8 = 6;
 
+// Each question of a value leaves fewer of the 129 scores.
+const MOST_QUESTIONS: u8 = 128;
+
 /// The boards after the root's moves, each with bounds of its value. One with the best score is searched to its value,
 /// and each other so far that it is exact or worse. Where `known` tells as much of a board, it is not searched. The
 /// observer hears of each search of one of them; it hears nothing of a guess of the score, which comes first where many
 /// squares are empty, and settles nothing.
-pub fn settle_moves<C: Cells, O: Observer>(
+pub fn settle_moves<C: Cells, O: Observer<C>>(
     root: &Solved,
     known: &[Solved],
     cells: &mut C,
@@ -65,7 +68,7 @@ pub fn guessed_score<C: Cells>(root: &Board, cells: &mut C, scoring: Scoring) ->
 
 // Narrows what is known of the replies, one of which is known to have at most the value `limit`. They are first asked
 // for `start`.
-fn settle<C: Cells, O: Observer>(
+fn settle<C: Cells, O: Observer<C>>(
     replies: &mut [Solved],
     start: i8,
     limit: i8,
@@ -82,13 +85,16 @@ fn settle<C: Cells, O: Observer>(
         let Some(place) = leader else {
             return;
         };
+        if observer.is_over(cells) {
+            return;
+        }
         let value = exact_at(replies, place, cells, observer);
         leader = better(replies, value, cells, observer);
     }
 }
 
 /// The value of the reply at this place.
-pub(crate) fn exact_at<C: Cells, O: Observer>(
+pub(crate) fn exact_at<C: Cells, O: Observer<C>>(
     replies: &mut [Solved],
     place: usize,
     cells: &mut C,
@@ -105,7 +111,7 @@ pub(crate) fn exact_at<C: Cells, O: Observer>(
         return upper;
     }
     observer.before(&known.board);
-    let exact = known.exact(cells);
+    let exact = exact(&known, cells, observer);
     let value = exact.interval.upper;
     replies[place] = exact;
     observer.after(&known.board, &*replies);
@@ -133,7 +139,7 @@ pub(crate) fn start<C: Cells>(replies: &mut [Solved], limit: i8, empties: u8, ce
 }
 
 /// The place of a reply with at most the least value that is found to be reached, from `start` up to `limit`.
-pub(crate) fn leader<C: Cells, O: Observer>(
+pub(crate) fn leader<C: Cells, O: Observer<C>>(
     replies: &mut [Solved],
     start: i8,
     limit: i8,
@@ -149,7 +155,7 @@ pub(crate) fn leader<C: Cells, O: Observer>(
     let mut step = 1;
     for _ in 0..ROUNDS {
         let found = reaching(replies, most, cells, observer);
-        if found.is_some() {
+        if found.is_some() || observer.is_over(cells) {
             return found;
         }
         most = lowered(least_lower(replies), step - 1, limit);
@@ -182,7 +188,7 @@ fn least_lower(replies: &[Solved]) -> i8
 }
 
 // The place of a reply whose value is at most `most`: one that is known, or else the first that is found.
-fn reaching<C: Cells, O: Observer>(
+fn reaching<C: Cells, O: Observer<C>>(
     replies: &mut [Solved],
     most: i8,
     cells: &mut C,
@@ -203,19 +209,22 @@ fn reaching<C: Cells, O: Observer>(
             continue;
         }
         observer.before(&known.board);
-        let reply = known.decided_at(most, cells);
+        let reply = observer.decide(&known, most, cells);
         let upper = reply.interval.upper;
         replies[place] = reply;
         observer.after(&known.board, &*replies);
         if upper <= most {
             return Some(place);
         }
+        if observer.is_over(cells) {
+            return None;
+        }
     }
     None
 }
 
 // The place of a reply whose value is below `most`. Where there is none, each is exact or above `most`.
-fn better<C: Cells, O: Observer>(
+fn better<C: Cells, O: Observer<C>>(
     replies: &mut [Solved],
     most: i8,
     cells: &mut C,
@@ -229,12 +238,60 @@ fn better<C: Cells, O: Observer>(
         let known = replies[place];
         if !known.interval.decides(most - 1, most + 1) {
             observer.before(&known.board);
-            replies[place] = known.against(most, cells);
+            replies[place] = against(&known, most, cells, observer);
             observer.after(&known.board, &*replies);
         }
         if replies[place].interval.upper < most {
             return Some(place);
         }
+        if observer.is_over(cells) {
+            return None;
+        }
     }
     None
+}
+
+// The board with bounds that tell whether its value is above `most`, below it, or which number it is, unless the search
+// is over before.
+fn against<C: Cells, O: Observer<C>>(
+    known: &Solved,
+    most: i8,
+    cells: &mut C,
+    observer: &mut O,
+) -> Solved
+    requires { IsScore most }
+    ensures board { result.board ≡ known.now.board }
+    ensures scoring { result.scoring ≡ known.now.scoring }
+    ensures fixed { C.fixed cells.new ≡ C.fixed cells.old }
+{
+    let reply = observer.decide(known, most, cells);
+    if reply.interval.lower > most || observer.is_over(cells) {
+        return reply;
+    }
+    observer.decide(&reply, most - 1, cells)
+}
+
+// The board with its value, by questions ever further below what it is known to reach, unless the search is over
+// before.
+fn exact<C: Cells, O: Observer<C>>(known: &Solved, cells: &mut C, observer: &mut O) -> Solved
+    ensures board { result.board ≡ known.now.board }
+    ensures scoring { result.scoring ≡ known.now.scoring }
+    ensures fixed { C.fixed cells.new ≡ C.fixed cells.old }
+{
+    let mut reply = *known;
+    let mut step = 1;
+    for _ in 0..MOST_QUESTIONS {
+        let Interval { lower, upper } = reply.interval;
+        if lower == upper || observer.is_over(cells) {
+            return reply;
+        }
+        let alpha = greater(lower, upper - step);
+        reply = observer.decide(&reply, alpha, cells);
+        step = if reply.interval.upper <= alpha {
+            wider(step)
+        } else {
+            1
+        };
+    }
+    reply
 }

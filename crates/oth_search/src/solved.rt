@@ -187,6 +187,17 @@ impl Solved {
         }
     }
 
+    /// The same of the board after a forced pass, where there is one.
+    pub(crate) fn awake(&self) -> Solved
+        ensures scoring { result.scoring ≡ self.now.scoring }
+    {
+        if !self.board.can_move() && self.board.pass().can_move() {
+            self.passed()
+        } else {
+            *self
+        }
+    }
+
     /// Of a board whose mover must pass, what is known of the one after the pass.
     pub fn before_pass(&self, board: &Board) -> Solved
         requires passed { self.now.board ≡ pass board.now }

@@ -13,7 +13,8 @@ use crate::cells::{Cells, NoCells};
 use crate::combining::known_of;
 use crate::interval::Interval;
 use crate::kind::Kind;
-use crate::memo::{StackCells, is_remembered};
+use crate::memo::StackCells;
+use crate::memories::is_remembered;
 use crate::observer::{Observer, Unobserved};
 use crate::ordering::order;
 use crate::root::settle_moves;
@@ -130,7 +131,7 @@ pub fn before_pass(board: Board, passed: Answer) -> Answer
 /// The answer of a root whose mover has a move. `known` may tell of the boards after the root's moves: such a board is
 /// searched only where that leaves open whether its move is exact or worse than the score. The observer hears of each
 /// search of such a board.
-pub fn solve_moves<C: Cells, O: Observer>(
+pub fn solve_moves<C: Cells, O: Observer<C>>(
     root: Solved,
     known: &[Solved],
     cells: &mut C,

@@ -12,30 +12,19 @@ use arrayvec::ArrayVec;
 /// The board with its value, by what is known of it and a search. Of the boards after its moves one is searched to its
 /// value, and each other only so far that it is no better for the mover. The observer hears of each search of one of
 /// them.
-pub fn value_of<C: Cells, O: Observer>(known: &Solved, cells: &mut C, observer: &mut O) -> Solved
+pub fn value_of<C: Cells, O: Observer<C>>(known: &Solved, cells: &mut C, observer: &mut O) -> Solved
     ensures board { result.board ≡ known.now.board }
     ensures scoring { result.scoring ≡ known.now.scoring }
     ensures exact { result.interval.lower ≡ result.interval.upper }
     ensures fixed { C.fixed cells.new ≡ C.fixed cells.old }
 {
-    let replies = settled_replies(&awake(known), cells, observer);
+    let replies = settled_replies(&known.awake(), cells, observer);
     let told = known_below(known.board, 1, replies.as_slice(), known.scoring);
     known.joined(&told).exact(cells)
 }
 
-// The same, or where the mover has no move the board after a pass, of which nothing is known.
-fn awake(known: &Solved) -> Solved
-    ensures scoring { result.scoring ≡ known.now.scoring }
-{
-    if known.board.moves() != 0 {
-        *known
-    } else {
-        Solved::unknown(known.board.pass(), known.scoring)
-    }
-}
-
 // The boards after the root's moves, with bounds that tell the root's value.
-fn settled_replies<C: Cells, O: Observer>(
+fn settled_replies<C: Cells, O: Observer<C>>(
     root: &Solved,
     cells: &mut C,
     observer: &mut O,
@@ -51,7 +40,7 @@ fn settled_replies<C: Cells, O: Observer>(
 
 // Narrows what is known of the replies, one of which is known to have at most the value `limit`, until the least value
 // is known. They are first asked for `start`.
-fn settle_value<C: Cells, O: Observer>(
+fn settle_value<C: Cells, O: Observer<C>>(
     replies: &mut [Solved],
     start: i8,
     limit: i8,
@@ -74,7 +63,7 @@ fn settle_value<C: Cells, O: Observer>(
 }
 
 // The place of a reply whose value is below `most`. Where there is none, each is at least `most`.
-fn lesser_than<C: Cells, O: Observer>(
+fn lesser_than<C: Cells, O: Observer<C>>(
     replies: &mut [Solved],
     most: i8,
     cells: &mut C,
@@ -88,7 +77,7 @@ fn lesser_than<C: Cells, O: Observer>(
         let known = replies[place];
         if !known.interval.decides(most - 1, most) {
             observer.before(&known.board);
-            replies[place] = known.decided_at(most - 1, cells);
+            replies[place] = observer.decide(&known, most - 1, cells);
             observer.after(&known.board, &*replies);
         }
         if replies[place].interval.upper < most {

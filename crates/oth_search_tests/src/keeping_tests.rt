@@ -223,7 +223,7 @@ fn comes_to_few_boards(rt: HostRuntime) -> Result<(), Fail> {
     };
     check_counts(
         &rt,
-        Memo::new(rt.alloc())?,
+        Memo::below(rt.alloc(), 13)?,
         board,
         MOST_LOOKED,
         MOST_RECALLED,
@@ -243,7 +243,7 @@ fn ends_where_stable_discs_leave_too_little(rt: HostRuntime) -> Result<(), Fail>
     let Some(board) = sample([0x1fff_442a_1d20_0000, 0x6000_bad4_e21d_7ae0]) else {
         panic!(rt; "no board")
     };
-    let memo = Memo::new(rt.alloc())?;
+    let memo = Memo::below(rt.alloc(), 13)?;
     let score = check_counts(&rt, memo, board, MOST_LOOKED_WON, MOST_RECALLED_WON);
     assert!(rt; score == 42);
     Ok(())

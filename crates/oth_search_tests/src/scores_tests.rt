@@ -1,4 +1,5 @@
 //! The scores of all moves of worked boards.
+ghost use Rattle.std.specs.Prelude.{◌<◌};
 
 use crate::tests::board_of;
 use oth_rules::samples::after_least_moves;

@@ -4,8 +4,8 @@ ghost use Rattle.std.specs.Prelude.{◌≡◌, IfSome};
 use oth_rules::samples::after_least_moves;
 use oth_rules::{Board, Scoring};
 use oth_search::{
-    Cells, Entry, Interval, Kind, Memo, NoCells, Solved, TooManyEmpties, known_below, search,
-    seeming_value, solve_alone, solve_with,
+    Cells, Entry, Interval, Kind, Memo, Memories, NoCells, Solved, TooManyEmpties, known_below,
+    search, seeming_value, solve_alone, solve_with,
 };
 use std::process::Abort;
 use std::test::Fail;
@@ -208,7 +208,7 @@ fn check_forgotten(rt: &impl Abort, memo: &Memo, board: &Board, scoring: Scoring
 #[test]
 fn recalls_what_it_remembers(rt: HostRuntime) -> Result<(), Fail> {
     let board = board_of(&rt, A);
-    let mut memo = Memo::new(rt.alloc())?;
+    let mut memo = Memo::below(rt.alloc(), 13)?;
     check_forgotten(&rt, &memo, &board, Scoring::Winner);
     memo.remember(&Solved::by_search(&board, -65, 65, &mut NoCells, Scoring::Winner));
     let Some(told) = memo.recall(&board, Scoring::Winner) else {
@@ -220,11 +220,56 @@ fn recalls_what_it_remembers(rt: HostRuntime) -> Result<(), Fail> {
     Ok(())
 }
 
+/// Boards of 9 to 14 empty squares are remembered from 18 at the root on, by a search that is alone.
+#[test]
+fn remembers_more_where_that_pays(rt: HostRuntime) {
+    for (root, is_alone, empties, wanted) in [
+        (18, true, 9, true),
+        (30, true, 14, true),
+        (30, true, 15, false),
+        (17, true, 9, false),
+        (30, false, 9, false),
+    ] {
+        let memories = Memories::of(rt.alloc(), root, is_alone);
+        assert!(rt;
+            memories.remembers(empties) == wanted,
+            "{empties} below {root}"
+        );
+    }
+}
+
+/// What these memories recall of a board of so many empty squares when they have remembered its value.
+fn recalled_value(rt: &impl Abort, memories: &mut Memories, empties: u8) -> Option<Interval> {
+    let Some(board) = after_least_moves(empties) else {
+        panic!(rt; "no line")
+    };
+    let solved = Solved::by_search(&board, -65, 65, &mut NoCells, Scoring::Winner);
+    assert!(rt; memories.recall(&board, Scoring::Winner).is_none());
+    memories.remember(&solved);
+    let told = memories.recall(&board, Scoring::Winner)?;
+    assert!(rt; told.interval == solved.interval);
+    Some(told.interval)
+}
+
+#[test]
+fn recalls_boards_of_few_and_of_more_empty_squares(rt: HostRuntime) {
+    let mut both = Memories::of(rt.alloc(), 18, true);
+    assert!(rt; recalled_value(&rt, &mut both, 8).is_some());
+    assert!(rt; recalled_value(&rt, &mut both, 9).is_some());
+    let mut few = Memories::of(rt.alloc(), 17, true);
+    assert!(rt; recalled_value(&rt, &mut few, 8).is_some());
+    assert!(rt; recalled_value(&rt, &mut few, 9).is_none());
+    let mut none = Memories::of(rt.alloc(), 9, true);
+    assert!(rt; recalled_value(&rt, &mut none, 8).is_none());
+}
+
 /// Keeps no entries, and remembers.
 #[derive(Drop)]
 struct Remembering {
     memo: Memo,
     recalled: u32,
+    // Whether all boards are remembered, and none looked up.
+    is_for_all: bool,
 }
 
 impl Cells for Remembering {
@@ -237,6 +282,10 @@ impl Cells for Remembering {
     }
 
     fn put(&mut self, _entry: &Entry) {}
+
+    fn remembers(&self, _empties: u8) -> bool {
+        self.is_for_all
+    }
 
     fn recall(&mut self, board: &Board, scoring: Scoring) -> Option<Solved> {
         let told = self.memo.recall(board, scoring)?;
@@ -254,14 +303,17 @@ fn agrees_with_the_whole_tree_while_it_remembers(rt: HostRuntime) -> Result<(), 
     let Some(board) = after_least_moves(10) else {
         panic!(rt; "no line")
     };
-    let mut cells = Remembering {
-        memo: Memo::new(rt.alloc())?,
-        recalled: 0,
-    };
-    for scoring in [Scoring::Winner, Scoring::Discs] {
-        let answer = solve_with(board, &mut cells, scoring);
-        assert!(rt; answer.score == board.plain_score(scoring));
+    for is_for_all in [false, true] {
+        let mut cells = Remembering {
+            memo: Memo::below(rt.alloc(), 14)?,
+            recalled: 0,
+            is_for_all,
+        };
+        for scoring in [Scoring::Winner, Scoring::Discs] {
+            let answer = solve_with(board, &mut cells, scoring);
+            assert!(rt; answer.score == board.plain_score(scoring));
+        }
+        assert!(rt; cells.recalled > 0);
     }
-    assert!(rt; cells.recalled > 0);
     Ok(())
 }

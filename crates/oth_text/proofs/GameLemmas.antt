@@ -140,8 +140,3 @@ alone_refused line f has is = reads_alone line has ∙ ap (λ (x : Result Positi
 
 pub game_is : (line : List ℕ) (p : Position) → IsGame line p → game_reading line ≡ Ok p
 game_is line p h = moves_read line h.from (Ok p) (reading_line (board_part line) h.from h.board) (reading_transcript (with_forced_pass h.from) (moves_part line) p h.moves)
-
-pub game_fault_is : (line : List ℕ) (f : GameFault) → IsGameFault line f → game_reading line ≡ Err f
-game_fault_is line (Board f) h = reads_behind line (Err f) (reading_fault (board_part line) f h)
-game_fault_is line (Moves f) h =
-    moves_read line h.from (Err f) (reading_line (board_part line) h.from h.board) (reading_transcript_fault (with_forced_pass h.from) (moves_part line) f h.moves)

@@ -1,7 +1,8 @@
 //! Each caller once, on boards whose answers are known.
 
 use crate::{
-    Unsolved, best_moves, board_after, bounds_about, kept_report, solve_both, solve_by_book,
+    Unsolved, best_moves, board_after, bounds_about, bounds_in_time, kept_report, solve_both,
+    solve_by_book,
 };
 use oth_rules::{Board, Scoring};
 use oth_table::{SharedTable, TableCells};
@@ -59,6 +60,21 @@ fn an_engine_asks_a_table(rt: HostRuntime) {
         let found = bounds_about(&mut cells, &board, alpha, Scoring::Winner);
         assert!(rt; (found.interval.lower > alpha) == (alpha < -50));
     }
+}
+
+#[test]
+fn an_engine_has_to_move(rt: HostRuntime) {
+    let Ok(board) = Board::of(A[0], A[1]) else {
+        panic!(rt; "no board")
+    };
+    let Ok((table, seat)) = SharedTable::new(rt.alloc(), 64, Scoring::Winner) else {
+        panic!(rt; "no table")
+    };
+    let cells = TableCells::of(&table, seat);
+    let (cells, early) = bounds_in_time(rt.alloc(), cells, &board, 0, Scoring::Winner);
+    assert!(rt; early.interval.lower <= -50 && -50 <= early.interval.upper);
+    let (_, whole) = bounds_in_time(rt.alloc(), cells, &board, u64::MAX, Scoring::Winner);
+    assert!(rt; whole.interval.lower == -50 && whole.interval.upper == -50);
 }
 
 #[test]

@@ -6,7 +6,7 @@ ghost use Rattle.oth_walk.specs.Lending.{LendsSeat, LendsTable};
 
 use crate::scene::Plan;
 use oth_rules::{Board, Scoring};
-use oth_search::{Cells, Entry, Memo, Solved};
+use oth_search::{Cells, Entry, Memories, Solved};
 use oth_table::{SharedTable, TableCells, TableSeat};
 use std::alloc::Global;
 use std::marker::Model;
@@ -59,12 +59,11 @@ impl<'t> TableAccess<'t> {
     }
 }
 
-/// What one worker keeps entries in: cells of the table where there is one, and a memory of its own for boards with few
-/// empty squares where that pays.
+/// What one worker keeps entries in: cells of the table where there is one, and memories of its own.
 #[derive(Drop)]
 pub struct WorkerCells<'t> {
     cells: Option<TableCells<'t>>,
-    memory: Memory,
+    memories: Memories,
 }
 
 impl<'t> WorkerCells<'t> {
@@ -72,64 +71,16 @@ impl<'t> WorkerCells<'t> {
     pub fn of(alloc: Global, plan: Plan, access: &mut Option<TableAccess<'t>>) -> WorkerCells<'t>
         ensures lends { LendsTable access.old access.new }
     {
-        let memory = Memory::of(alloc, plan);
+        let memories = Memories::of(alloc, plan.root, plan.is_alone);
         match access {
             Some(access) => WorkerCells {
                 cells: access.cells(alloc),
-                memory,
+                memories,
             },
             None => WorkerCells {
                 cells: None,
-                memory,
+                memories,
             },
-        }
-    }
-}
-
-// A worker's own memory. It is made when the first board is to be remembered, so by the worker's own thread.
-#[derive(Drop)]
-struct Memory {
-    alloc: Global,
-    memo: Option<Memo>,
-    // Whether it is still to be made.
-    is_wanted: bool,
-}
-
-impl Memory {
-    // Nothing is remembered yet.
-    fn of(alloc: Global, plan: Plan) -> Memory {
-        Memory {
-            alloc,
-            memo: None,
-            is_wanted: plan.remembers,
-        }
-    }
-
-    // What is remembered of the board by this scoring.
-    fn recall(&self, board: &Board, scoring: Scoring) -> Option<Solved>
-        ensures asked { IfSome result (λ s. (s.board ≡ board.now) × (s.scoring ≡ scoring)) }
-    {
-        match &self.memo {
-            Some(memo) => memo.recall(board, scoring),
-            None => None,
-        }
-    }
-
-    // Makes the memory, if there is room for it.
-    #[cold]
-    #[inline(never)]
-    fn make(&mut self) {
-        self.is_wanted = false;
-        self.memo = Memo::new(self.alloc).ok();
-    }
-
-    // Remembers these bounds, if there is room for a memory.
-    fn remember(&mut self, solved: &Solved) {
-        if self.is_wanted {
-            self.make();
-        }
-        if let Some(memo) = &mut self.memo {
-            memo.remember(solved);
         }
     }
 }
@@ -152,11 +103,15 @@ impl<'t> Cells for WorkerCells<'t> {
         }
     }
 
+    fn remembers(&self, empties: u8) -> bool {
+        self.memories.remembers(empties)
+    }
+
     fn recall(&mut self, board: &Board, scoring: Scoring) -> Option<Solved> {
-        self.memory.recall(board, scoring)
+        self.memories.recall(board, scoring)
     }
 
     fn remember(&mut self, solved: &Solved) {
-        self.memory.remember(solved);
+        self.memories.remember(solved);
     }
 }

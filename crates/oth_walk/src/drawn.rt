@@ -6,7 +6,7 @@ use crate::leading::{lead, moves_of};
 use crate::root_move::RootMove;
 use crate::scene::Scene;
 use crate::walk::Walk;
-use oth_pieces::{Item, can_move};
+use oth_pieces::Item;
 use oth_rules::{Board, Square};
 use oth_search::{Cells, Solved};
 
@@ -82,7 +82,7 @@ fn search_drawn<G: Gate, C: Cells>(
 
 // Whether the item comes after a reply to the move, with no forced pass on the way.
 fn is_reply(item: &Item, root_move: &RootMove) -> bool {
-    item.same_mover && can_move(&item.board) && can_move(&root_move.child)
+    item.same_mover && item.board.can_move() && root_move.child.can_move()
 }
 
 // Settles the move, unless another worker is at it of which nothing could be learnt on the way.
@@ -116,7 +116,7 @@ fn search_eldest<C: Cells>(root_move: &RootMove, board: &Board, walk: &mut Walk<
     let Some(eldest) = root_move.child.play(*square) else {
         return;
     };
-    if eldest != *board && can_move(&eldest) {
+    if eldest != *board && eldest.can_move() {
         root_move.search_reply(eldest, walk);
     }
 }

@@ -4,10 +4,8 @@ ghost use Rattle.std.specs.Prelude.{pos, negsuc, ◌≤ℤ◌};
 
 use crate::move_order::beginning_with;
 use crate::walk::Walk;
-use crate::window::Window;
-use oth_pieces::can_move;
 use oth_rules::{Board, Square};
-use oth_search::{Cells, seeming_value};
+use oth_search::{Cells, NullWindow, seeming_value};
 
 // The most scores that are asked for.
 const ROUNDS: u8 = 12;
@@ -198,7 +196,7 @@ fn seems_reached<C: Cells>(child: &Board, score: i8, walk: &mut Walk<C>) -> bool
         return told;
     }
     walk.begin(child);
-    let found = if can_move(child) {
+    let found = if child.can_move() {
         all_leave(child, score, walk)
     } else {
         leaves(&child.pass(), score, walk)
@@ -242,7 +240,7 @@ fn leaves<C: Cells>(reply: &Board, score: i8, walk: &mut Walk<C>) -> bool
         return told;
     }
     walk.begin(reply);
-    let window = Window::at(score);
+    let window = NullWindow::at(score);
     let value = seeming_value(*reply, window.alpha, &mut walk.cells, walk.plan.scoring);
     let found = window.is_reached(value);
     walk.tell_seen(reply, score, found);

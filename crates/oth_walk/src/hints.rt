@@ -75,22 +75,28 @@ fn zeros(alloc: Global, count: usize) -> Option<Vec<u64>> {
     vec![in alloc; 0u64; count].ok()
 }
 
-/// A worker's access to the hints.
+// A worker's seat of the words.
 #[derive(Drop)]
-pub struct HintSeat<'h> {
+struct Place<'h> {
     hints: &'h Hints,
     seat: Seat<u8, ()>,
     ghost sits: { seat.table_id ≡ hints.now },
 }
 
-impl<'h> HintSeat<'h> {
-    /// A further access. It takes no memory.
-    pub fn of(hints: &'h Hints) -> Option<HintSeat<'h>> {
+impl<'h> Place<'h> {
+    // A further seat. It takes no memory.
+    fn of(hints: &'h Hints) -> Option<Place<'h>> {
         if hints.table.word_count() == 0 {
             return None;
         }
         let (_, seat) = hints.table.shared.load_new_seat::<Step>(0);
-        Some(HintSeat { hints, seat })
+        Some(Place { hints, seat })
+    }
+
+    // For so many boards an order can be kept.
+    fn orders(&self) -> u16 {
+        let hints = self.hints;
+        hints.orders
     }
 
     // The word at this place, and 0 behind the last.
@@ -121,6 +127,51 @@ impl<'h> HintSeat<'h> {
                 .table
                 .shared
                 .compare_exchange::<Step>(&mut self.seat, word, old, new);
+        }
+    }
+}
+
+/// A worker's access to the hints, or to none: then nobody has told anything, and what it tells is forgotten.
+#[derive(Drop)]
+pub struct HintSeat<'h> {
+    place: Option<Place<'h>>,
+}
+
+impl<'h> HintSeat<'h> {
+    /// A further access to the hints, if there are any. It takes no memory.
+    pub fn of(hints: &'h Option<Hints>) -> HintSeat<'h> {
+        HintSeat {
+            place: match hints {
+                Some(hints) => Place::of(hints),
+                None => None,
+            },
+        }
+    }
+
+    /// No hints.
+    pub fn none() -> HintSeat<'h> {
+        HintSeat { place: None }
+    }
+
+    // The word at this place, and 0 where there is none.
+    fn load(&mut self, word: usize) -> u64 {
+        match &mut self.place {
+            Some(place) => place.load(word),
+            None => 0,
+        }
+    }
+
+    // Stores a word, if its place is there.
+    fn store(&mut self, word: usize, value: u64) {
+        if let Some(place) = &mut self.place {
+            place.store(word, value);
+        }
+    }
+
+    // Writes the new value where the old one stands.
+    fn exchange(&mut self, word: usize, old: u64, new: u64) {
+        if let Some(place) = &mut self.place {
+            place.exchange(word, old, new);
         }
     }
 
@@ -226,11 +277,14 @@ impl<'h> HintSeat<'h> {
     fn order_place(&self, key: u64) -> Option<usize>
         ensures { IfSome result (λ place. place < 200000) }
     {
-        let hints = self.hints;
-        if hints.orders == 0 {
+        let orders = match &self.place {
+            Some(place) => place.orders(),
+            None => 0,
+        };
+        if orders == 0 {
             return None;
         }
-        let slot = (key >> 16) % u64::from(hints.orders);
+        let slot = (key >> 16) % u64::from(orders);
         Some(ORDERS + 2 * slot as usize)
     }
 }

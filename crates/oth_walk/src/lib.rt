@@ -10,10 +10,10 @@ mod height;
 mod hints;
 mod leading;
 mod move_order;
-mod narrowing;
 mod root_move;
 mod scene;
 mod walk;
+mod way;
 mod window;
 
 pub use access::{TableAccess, WorkerCells};

@@ -1,11 +1,10 @@
 //! A move of the root, searched until it needs no further search.
 ghost use Rattle.std.specs.Prelude.{◌≡◌, pos, negsuc, ◌≤ℤ◌};
 
-use crate::narrowing::narrow;
-use crate::walk::{MOST_PLIES, Walk};
-use crate::window::{Pace, Window, is_settled, shared_window};
+use crate::walk::Walk;
+use crate::window::{Pace, is_settled, shared_window};
 use oth_rules::{Board, Square};
-use oth_search::{Cells, Interval, Solved, known_below};
+use oth_search::{Cells, Interval, NullWindow, Solved, known_below};
 
 // How often the window is set anew, by a risen floor or a closer bound.
 const MOST_WINDOWS: u32 = 256;
@@ -56,12 +55,11 @@ impl RootMove {
         }
         walk.go_on(self.square, -64);
         walk.begin(&self.child);
-        let window = Window::at(1 - score);
-        let found = known.joined(&narrow(self.child, window, MOST_PLIES, walk));
+        let found = walk.narrow(&known, NullWindow::at(1 - score));
         walk.put(&found);
         walk.raise_by(&self.root, self.square, &found);
         walk.end(&self.child);
-        -found.interval.lower
+        -lower_of(&found)
     }
 
     // What is found of the board after the move, until it is settled by this worker or another. The others learn it by
@@ -78,7 +76,7 @@ impl RootMove {
             walk.go_on(self.square, least);
             let before = found.interval;
             let window = self.window(before, least, pace, walk);
-            found = found.joined(&narrow(self.child, window, MOST_PLIES, walk));
+            found = walk.narrow(&found, window);
             walk.put(&found);
             walk.raise_by(&self.root, self.square, &found);
             pace = pace.after(before, found.interval);
@@ -91,19 +89,25 @@ impl RootMove {
 
     // The window that comes next: at first a null one at the floor, where there is one, and then what tells most of the
     // value.
-    fn window<C: Cells>(&self, found: Interval, least: i8, pace: Pace, walk: &mut Walk<C>) -> Window
+    fn window<C: Cells>(
+        &self,
+        found: Interval,
+        least: i8,
+        pace: Pace,
+        walk: &mut Walk<C>,
+    ) -> NullWindow
         requires low { negsuc 63 ≤ℤ least }
         requires high { least ≤ℤ pos 64 }
     {
         if least > -64 && found.upper > -least {
-            return Window::at(1 - least);
+            return NullWindow::at(1 - least);
         }
         let guess = walk.guess(&self.root);
         if walk.plan.guesses {
             return shared_window(found, -guess.score);
         }
         if found == Interval::all() {
-            return Window::at(1 - guess.score);
+            return NullWindow::at(1 - guess.score);
         }
         pace.window(found)
     }
@@ -121,7 +125,7 @@ impl RootMove {
             return walk.look_up(&board);
         }
         walk.begin(&board);
-        let found = narrow(board, Window::at(aim), MOST_PLIES, walk);
+        let found = walk.narrow(&walk.unknown(board), NullWindow::at(aim));
         walk.end(&board);
         self.share(&found, walk);
         found
@@ -138,4 +142,12 @@ impl RootMove {
         walk.raise_by(&self.root, self.square, &known);
         walk.keep(self.square, known);
     }
+}
+
+// The lower bound.
+fn lower_of(solved: &Solved) -> i8
+    ensures low { negsuc 63 ≤ℤ result }
+    ensures high { result ≤ℤ pos 64 }
+{
+    solved.interval.lower
 }

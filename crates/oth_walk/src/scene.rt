@@ -7,9 +7,6 @@ use oth_rules::{Board, Scoring, Square};
 // From so many empty squares on a guess that workers make pays.
 const FEWEST_EMPTIES_GUESSED: u8 = 14;
 
-// From so many empty squares on a memory for boards with few empty squares pays: it takes time to make.
-const FEWEST_EMPTIES_REMEMBERED: u8 = 10;
-
 /// The board that is solved, its frontier, its moves in the order in which they are searched, and how the search is
 /// made.
 #[derive(Clone, Copy)]
@@ -33,8 +30,10 @@ pub struct Plan {
     pub shares: bool,
     /// Whether they make a guess together of where the search for the root's value starts.
     pub guesses: bool,
-    /// Whether each worker remembers boards with few empty squares.
-    pub remembers: bool,
+    /// How many squares of the root are empty: what a worker remembers of its own rests on it.
+    pub root: u8,
+    /// Whether there is one worker alone, and so none to learn from the table what it finds.
+    pub is_alone: bool,
 }
 
 impl Plan {
@@ -52,7 +51,18 @@ impl Plan {
             dealt,
             shares: has_table,
             guesses: has_table && empties >= FEWEST_EMPTIES_GUESSED,
-            remembers: empties >= FEWEST_EMPTIES_REMEMBERED,
+            root: empties,
+            is_alone: false,
+        }
+    }
+
+    /// The same for one worker alone.
+    pub fn for_one(self) -> Plan
+        ensures { result.scoring ≡ self.scoring }
+    {
+        Plan {
+            is_alone: true,
+            ..self
         }
     }
 }

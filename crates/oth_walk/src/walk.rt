@@ -4,30 +4,13 @@ ghost use Rattle.std.specs.Prelude.{◌≡◌, pos, negsuc, ◌≤ℤ◌};
 use crate::glance::{Guess, glance};
 use crate::height::Height;
 use crate::hints::HintSeat;
-use crate::move_order::MoveOrder;
 use crate::scene::Plan;
-use crate::window::{Window, is_settled};
+use crate::way::Way;
+use crate::window::is_settled;
 use arrayvec::ArrayVec;
 use oth_rules::{Board, Square};
-use oth_search::{Cells, Entry, Solved, guessed_score, known_below, known_of, order};
+use oth_search::{Cells, NullWindow, Solved, guessed_score, known_below, known_of, put};
 use std::alloc::Global;
-
-/// No search that workers share is deeper.
-pub(crate) const MOST_PLIES: u8 = 30;
-
-// Boards with fewer empty squares are ordered anew each time.
-const FEWEST_EMPTIES_KEPT: u8 = 12;
-
-// Boards with fewer empty squares than this, beyond those of the smallest that workers share, are small: see
-// `goals_after`.
-const SMALL: u8 = 2;
-
-// A search under way: the canonical image of its board, and what it is to decide.
-#[derive(Clone, Copy)]
-struct Goal {
-    image: Board,
-    window: Window,
-}
 
 /// What a worker searches over and with, and what it found.
 #[derive(Drop)]
@@ -35,15 +18,7 @@ pub struct Walk<'w, C> {
     pub alloc: Global,
     pub(crate) plan: Plan,
     pub(crate) cells: C,
-    height: Height<'w>,
-    hints: Option<HintSeat<'w>>,
-    // The root's move below which it searches, and the floor at which it does.
-    square: Square,
-    least: i8,
-    // The boards from there on whose searches are under way.
-    goals: Vec<Goal>,
-    // The root's moves that it has settled itself.
-    settled: u64,
+    pub(crate) way: Way<'w>,
     // A score that the root seems to have, and its move.
     guess: Option<Guess>,
     /// What it found of boards after the root's moves.
@@ -57,18 +32,13 @@ impl<'w, C: Cells> Walk<'w, C> {
         plan: Plan,
         cells: C,
         height: Height<'w>,
-        hints: Option<HintSeat<'w>>,
+        hints: HintSeat<'w>,
     ) -> Walk<'w, C> {
         Walk {
             alloc,
             plan,
             cells,
-            height,
-            hints,
-            square: Square::numbered(0),
-            least: 64,
-            goals: Vec::new(alloc),
-            settled: 0,
+            way: Way::of(alloc, plan, height, hints),
             guess: None,
             found: Vec::new(alloc),
         }
@@ -79,20 +49,34 @@ impl<'w, C: Cells> Walk<'w, C> {
         ensures low { negsuc 63 ≤ℤ result }
         ensures high { result ≤ℤ pos 64 }
     {
-        self.height.least()
+        self.way.floor()
     }
 
     /// Raises the floor by what a move of the root alone tells of it.
     pub fn raise_by(&mut self, root: &Board, square: Square, child: &Solved) {
         if let Ok(bound) = Solved::lift(root, square, child) {
-            self.height.raise(&bound);
+            self.way.raise(&bound);
         }
+    }
+
+    // A board of which nothing is known.
+    pub(crate) fn unknown(&self, board: Board) -> Solved
+        ensures board { result.board ≡ board }
+    {
+        Solved::unknown(board, self.plan.scoring)
+    }
+
+    /// The board with closer bounds, by a search that the workers share. They decide the window unless it is given up.
+    pub(crate) fn narrow(&mut self, known: &Solved, window: NullWindow) -> Solved
+        ensures board { result.board ≡ known.now.board }
+    {
+        known.narrowed_in(window, &mut self.cells, &mut self.way)
     }
 
     /// What is known of the root: the floor, and what the cells and this worker's own searches tell of the boards after
     /// these moves.
     pub(crate) fn known_of_root(&mut self, squares: &[Square]) -> Solved {
-        let root = self.height.root();
+        let root = self.way.root();
         let mut children = Vec::new(self.alloc);
         for square in squares {
             if let Some(child) = root.board.play(*square) {
@@ -105,7 +89,7 @@ impl<'w, C: Cells> Walk<'w, C> {
 
     /// What the floor tells of the root.
     pub fn root(&mut self) -> Solved {
-        self.height.root()
+        self.way.root()
     }
 
     /// A score that the root seems to have, and its move.
@@ -132,9 +116,7 @@ impl<'w, C: Cells> Walk<'w, C> {
     // Tells the others the guess.
     fn tell_guess(&mut self) {
         if let Some(guess) = self.guess {
-            if let Some(hints) = &mut self.hints {
-                hints.tell_guess(guess);
-            }
+            self.way.hints.tell_guess(guess);
         }
     }
 
@@ -160,25 +142,17 @@ impl<'w, C: Cells> Walk<'w, C> {
 
     /// The guess that another worker has told.
     pub(crate) fn told_guess(&mut self) -> Option<Guess> {
-        match &mut self.hints {
-            Some(hints) => hints.guess(),
-            None => None,
-        }
+        self.way.hints.guess()
     }
 
     /// Whether the board seems to have at least this score, if another worker has told it.
     pub(crate) fn seen(&mut self, board: &Board, score: i8) -> Option<bool> {
-        match &mut self.hints {
-            Some(hints) => hints.seen(board, score),
-            None => None,
-        }
+        self.way.hints.seen(board, score)
     }
 
     /// Tells whether the board seems to have at least this score.
     pub(crate) fn tell_seen(&mut self, board: &Board, score: i8, is_reached: bool) {
-        if let Some(hints) = &mut self.hints {
-            hints.tell_seen(board, score, is_reached);
-        }
+        self.way.hints.tell_seen(board, score, is_reached);
     }
 
     /// The root's move that seems best, if there is a guess.
@@ -209,38 +183,24 @@ impl<'w, C: Cells> Walk<'w, C> {
 
     /// It goes on below this move of the root, at this floor.
     pub(crate) fn go_on(&mut self, square: Square, least: i8) {
-        self.square = square;
-        self.least = least;
+        self.way.go_on(square, least);
     }
 
     /// Whether the root's move needs no further search.
     pub fn is_settled(&mut self, square: Square) -> bool {
-        if self.settled & square.word() != 0 {
-            return true;
-        }
-        match &mut self.hints {
-            Some(hints) => hints.is_settled(square),
-            None => false,
-        }
+        self.way.is_settled(square)
     }
 
     /// How many of the root's moves need no further search.
     pub fn settled(&mut self) -> u64 {
-        match &mut self.hints {
-            Some(hints) => hints.settled(),
-            None => u64::from(self.settled.count_ones()),
-        }
+        self.way.settled()
     }
 
     /// Keeps what was found of the board after a root's move, and tells where the move needs no further search.
     pub(crate) fn keep(&mut self, square: Square, child: Solved) {
         let least = self.floor();
-        if !is_settled(&child, least) || self.found.push(child).is_err() {
-            return;
-        }
-        self.settled |= square.word();
-        if let Some(hints) = &mut self.hints {
-            hints.settle(square);
+        if is_settled(&child, least) && self.found.push(child).is_ok() {
+            self.way.settle(square);
         }
     }
 
@@ -254,17 +214,12 @@ impl<'w, C: Cells> Walk<'w, C> {
 
     /// Puts what was found into the cells, if that is anything.
     pub(crate) fn put(&mut self, solved: &Solved) {
-        if solved.interval.lower > -64 || solved.interval.upper < 64 {
-            self.cells.put(&Entry::of(solved));
-        }
+        put(solved, &mut self.cells);
     }
 
     /// Whether another worker seems to search the board.
     pub(crate) fn is_taken(&mut self, board: &Board) -> bool {
-        match &mut self.hints {
-            Some(hints) => hints.is_searched(board),
-            None => false,
-        }
+        self.way.hints.is_searched(board)
     }
 
     /// Whether another worker seems to search the board, of which this one could learn what it finds.
@@ -274,96 +229,16 @@ impl<'w, C: Cells> Walk<'w, C> {
 
     /// Marks the board as one that is being searched.
     pub(crate) fn begin(&mut self, board: &Board) {
-        if let Some(hints) = &mut self.hints {
-            hints.begin(board);
-        }
+        self.way.hints.begin(board);
     }
 
     /// Takes the mark of the board away.
     pub(crate) fn end(&mut self, board: &Board) {
-        if let Some(hints) = &mut self.hints {
-            hints.end(board);
-        }
-    }
-
-    /// One search more is under way. How many were before.
-    pub(crate) fn enter(&mut self, board: &Board, window: Window) -> usize {
-        let depth = self.goals.len();
-        if self.plan.shares {
-            let (image, _) = board.canonical();
-            let _ = self.goals.push(Goal { image, window });
-        }
-        depth
-    }
-
-    /// Only so many are under way.
-    pub(crate) fn leave(&mut self, depth: usize) {
-        self.goals.truncate(depth);
-    }
-
-    /// Whether what it searches is of no more use after this board was searched: the floor has risen, the root's move
-    /// is settled, or the cells tell what one of the searches under way is to decide.
-    pub(crate) fn gives_up(&mut self, searched: &Board) -> bool {
-        let most = self.goals_after(searched.empties());
-        self.floor() > self.least || self.is_settled(self.square) || self.is_any_decided(most)
-    }
-
-    // So many of the last searches under way are looked up after a board with so many empty squares was searched: all
-    // only where that takes little beside the search.
-    fn goals_after(&self, empties: u8) -> usize {
-        let fewest = self.plan.fewest;
-        if empties < fewest {
-            1
-        } else if empties < fewest.saturating_add(SMALL) {
-            2
-        } else {
-            usize::MAX
-        }
-    }
-
-    // Whether the cells tell what one of so many of the last searches under way is to decide.
-    fn is_any_decided(&mut self, most: usize) -> bool {
-        let goals = self.goals.as_slice();
-        let first = goals.len().saturating_sub(most);
-        for place in first..goals.len() {
-            if is_decided(&goals[place], &mut self.cells, self.plan) {
-                return true;
-            }
-        }
-        false
+        self.way.hints.end(board);
     }
 
     /// Each legal move of the board once, in the order in which it is searched: the one that is kept, where one is.
     pub(crate) fn order(&mut self, board: &Board) -> ArrayVec<Square, 64> {
-        if board.empties() < FEWEST_EMPTIES_KEPT {
-            return order(board);
-        }
-        let Some(hints) = &mut self.hints else {
-            return order(board);
-        };
-        if let Some(kept) = hints.order_of(board) {
-            return kept.of_moves(board.moves());
-        }
-        let squares = order(board);
-        hints.keep_order(board, MoveOrder::of(squares.as_slice()));
-        squares
+        self.way.order_of(board)
     }
-
-    /// The move comes first when the board's moves are searched again.
-    pub(crate) fn prefer(&mut self, board: &Board, square: Square) {
-        if board.empties() < FEWEST_EMPTIES_KEPT {
-            return;
-        }
-        if let Some(hints) = &mut self.hints {
-            if let Some(kept) = hints.order_of(board) {
-                hints.keep_order(board, kept.with_first(square));
-            }
-        }
-    }
-}
-
-// Whether the cells tell what the search is to decide.
-fn is_decided<C: Cells>(goal: &Goal, cells: &mut C, plan: Plan) -> bool {
-    let known = Solved::looked_up(&goal.image, cells, plan.scoring);
-    goal.window.is_decided(known.interval)
 }

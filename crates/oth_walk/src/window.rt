@@ -1,52 +1,7 @@
-//! The window of a search.
-ghost use Rattle.std.specs.Prelude.{◌≡◌, pos, negsuc, ◌≤ℤ◌, ◌+ℤ◌};
-ghost use Rattle.oth_search.specs.Bound.{IsThreshold, Decides};
+//! The null windows by which workers narrow what is known of the board after a root's move.
+ghost use Rattle.std.specs.Prelude.{pos, negsuc, ◌≤ℤ◌};
 
-use oth_rules::{Board, Scoring};
-use oth_search::{Cells, Interval, Solved};
-
-/// What a search is to decide: whether a value is above `alpha` or not. No window is wider: each is a null window.
-#[derive(Clone, Copy)]
-pub(crate) struct Window {
-    pub alpha: i8,
-    ghost is_threshold: { IsThreshold alpha },
-}
-
-impl Window {
-    /// The window that tells whether a value is at least this score.
-    pub fn at(score: i8) -> Window
-        requires low { negsuc 62 ≤ℤ score }
-        requires high { score ≤ℤ pos 64 }
-    {
-        Window { alpha: score - 1 }
-    }
-
-    /// The same window as the opponent sees it.
-    pub fn turned(self) -> Window {
-        Window {
-            alpha: -self.alpha - 1,
-        }
-    }
-
-    /// Whether a value of at least this score is above it.
-    pub fn is_reached(self, score: i8) -> bool {
-        score > self.alpha
-    }
-
-    /// Whether these bounds decide it.
-    pub fn is_decided(self, bounds: Interval) -> bool {
-        bounds.decides(self.alpha, self.alpha + 1)
-    }
-
-    /// Bounds of the board's value that decide it, by a search of this worker alone.
-    pub fn search<C: Cells>(self, board: &Board, cells: &mut C, scoring: Scoring) -> Solved
-        ensures board { result.board ≡ board.now }
-        ensures scoring { result.scoring ≡ scoring }
-        ensures decides { Decides result.interval.lower result.interval.upper self.alpha (self.alpha +ℤ pos 1) }
-    {
-        Solved::by_probe(board, self.alpha, cells, scoring)
-    }
-}
+use oth_search::{Interval, NullWindow, Solved};
 
 /// Whether the value of the board after a root's move is known, or that the root gets less than so much by it.
 pub fn is_settled(child: &Solved, least: i8) -> bool
@@ -87,20 +42,20 @@ impl Pace {
 
     /// The null window that is asked next of a value between these bounds: a step below the upper one, or above the
     /// lower one where that is all that is known.
-    pub fn window(self, bounds: Interval) -> Window {
+    pub fn window(self, bounds: Interval) -> NullWindow {
         let alpha = if bounds.upper == 64 {
             bounds.lower + self.step
         } else {
             bounds.lower.max(bounds.upper - self.step)
         };
-        Window::at(threshold(alpha) + 1)
+        NullWindow::at(threshold(alpha) + 1)
     }
 }
 
 /// The null window that is asked next of a value between these bounds, which seems to be the guess, where workers share
 /// what they find: all who know the same bounds ask the same. It is the one next to the upper bound, or further below
 /// that as the guess is far off. Where only a lower bound is known it is as far above that as that is above the guess.
-pub(crate) fn shared_window(bounds: Interval, guess: i8) -> Window {
+pub(crate) fn shared_window(bounds: Interval, guess: i8) -> NullWindow {
     let Interval { lower, upper } = bounds;
     let alpha = if upper < 64 {
         let off = guess.saturating_sub(upper).saturating_sub(OFF).max(0);
@@ -111,7 +66,7 @@ pub(crate) fn shared_window(bounds: Interval, guess: i8) -> Window {
         let off = lower.saturating_sub(guess);
         lower.saturating_add(off).saturating_add(1)
     };
-    Window::at(threshold(alpha) + 1)
+    NullWindow::at(threshold(alpha) + 1)
 }
 
 // The nearest number that a null window can ask of.

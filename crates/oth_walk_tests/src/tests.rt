@@ -44,7 +44,6 @@ fn check_settled<R: AllocGlobal + Abort>(rt: &R, words: [u64; 2]) {
     let plan = Plan {
         fewest: 12,
         dealt: 64,
-        remembers: false,
         ..Plan::of(Scoring::Winner, root.empties(), false)
     };
     let scene = Scene {
@@ -53,7 +52,13 @@ fn check_settled<R: AllocGlobal + Abort>(rt: &R, words: [u64; 2]) {
         squares: squares.as_slice(),
         plan,
     };
-    let mut walk = Walk::of(rt.alloc(), plan, NoCells, Height::of(&floor, seat), None);
+    let mut walk = Walk::of(
+        rt.alloc(),
+        plan,
+        NoCells,
+        Height::of(&floor, seat),
+        HintSeat::none(),
+    );
     settle_all(&scene, &Open, &mut walk);
     assert!(rt; walk.settled() == squares.len() as u64);
     assert!(rt; walk.floor() == answer.score);
@@ -74,19 +79,11 @@ fn one_worker_settles_each_move_before_a_pass(rt: HostRuntime) {
     }
 }
 
-fn hint_seat<'h>(hints: &'h Option<Hints>) -> Option<HintSeat<'h>> {
-    match hints {
-        Some(hints) => HintSeat::of(hints),
-        None => None,
-    }
-}
-
 #[test]
 fn a_marked_board_is_searched_until_its_mark_is_gone(rt: HostRuntime) -> Result<(), Fail> {
     let hints = Hints::new(rt.alloc(), 1);
-    let (Some(mut mine), Some(mut theirs)) = (hint_seat(&hints), hint_seat(&hints)) else {
-        panic!(rt; "no hints")
-    };
+    assert!(rt; hints.is_some());
+    let (mut mine, mut theirs) = (HintSeat::of(&hints), HintSeat::of(&hints));
     let (Ok(one), Ok(other)) = (
         Board::of(BOARDS[0][0], BOARDS[0][1]),
         Board::of(BOARDS[1][0], BOARDS[1][1]),
@@ -106,9 +103,8 @@ fn a_marked_board_is_searched_until_its_mark_is_gone(rt: HostRuntime) -> Result<
 #[test]
 fn moves_are_settled_one_by_one(rt: HostRuntime) {
     let hints = Hints::new(rt.alloc(), 1);
-    let (Some(mut mine), Some(mut theirs)) = (hint_seat(&hints), hint_seat(&hints)) else {
-        panic!(rt; "no hints")
-    };
+    assert!(rt; hints.is_some());
+    let (mut mine, mut theirs) = (HintSeat::of(&hints), HintSeat::of(&hints));
     assert!(rt; theirs.settled() == 0);
     for number in 0..64 {
         let square = Square::numbered(number);
@@ -120,11 +116,26 @@ fn moves_are_settled_one_by_one(rt: HostRuntime) {
 }
 
 #[test]
+fn without_hints_nothing_is_told(rt: HostRuntime) -> Result<(), Fail> {
+    let mut seat = HintSeat::none();
+    let Ok(board) = Board::of(BOARDS[0][0], BOARDS[0][1]) else {
+        panic!(rt; "no board")
+    };
+    let square = Square::numbered(3);
+    seat.begin(&board);
+    seat.settle(square);
+    seat.keep_order(&board, MoveOrder::of(&[square]));
+    assert!(rt; !seat.is_searched(&board));
+    assert!(rt; !seat.is_settled(square) && seat.settled() == 0);
+    assert!(rt; seat.order_of(&board).is_none());
+    Ok(())
+}
+
+#[test]
 fn an_order_is_kept_for_its_board(rt: HostRuntime) {
     let hints = Hints::new(rt.alloc(), 64);
-    let (Some(mut mine), Some(mut theirs)) = (hint_seat(&hints), hint_seat(&hints)) else {
-        panic!(rt; "no hints")
-    };
+    assert!(rt; hints.is_some());
+    let (mut mine, mut theirs) = (HintSeat::of(&hints), HintSeat::of(&hints));
     let (Ok(board), Ok(other)) = (
         Board::of(BOARDS[0][0], BOARDS[0][1]),
         Board::of(BOARDS[1][0], BOARDS[1][1]),

@@ -2,7 +2,7 @@
 
 use super::{NO_FAILURE, by_two_workers, settings};
 use oth_book::Book;
-use oth_main::{Command, Errors, Settings, book_add, book_verify, open_book, run};
+use oth_main::{Command, Errors, MOST_BOOK_BYTES, Settings, book_add, book_verify, open_book, run};
 use oth_pool::Gate;
 use oth_rules::Scoring;
 use oth_text::fakes::{BrokenSource, ByteSink};
@@ -240,11 +240,13 @@ fn a_verdict_ends_with_its_status_where_a_device_fails(rt: HostRuntime) {
     let mut writer = ByteSink::<64>::new(4);
     let mut errors = Errors::new(ByteSink::<64>::new(NO_FAILURE), false);
     assert!(rt; book_verify(&rt, rt.alloc(), EMPTY_BOOK, &mut writer, &mut errors) == 1);
+    assert!(rt; writer.calls() == 5 && errors.sink.calls() == 12);
     assert!(rt;
         writer.taken() == b"book".as_slice() && errors.sink.taken() == b"run error 2\n".as_slice()
     );
     let mut errors = Errors::new(ByteSink::<64>::new(4), false);
     assert!(rt; book_verify(&rt, rt.alloc(), b"", &mut writer, &mut errors) == 3);
+    assert!(rt; writer.calls() == 5 && errors.sink.calls() == 5);
 }
 
 // What an addition wrote on standard output and on standard error, how often it read, and its status.
@@ -395,7 +397,7 @@ const ONE_TOO_MANY: &[u8] =
 #[test]
 fn a_full_book_is_verified_and_takes_no_more(rt: HostRuntime) -> Result<(), Fail> {
     let file = full_book(rt.alloc())?;
-    assert!(rt; file.len() == 9_000_020);
+    assert!(rt; file.len() == 9_000_020 && MOST_BOOK_BYTES == file.len() + 1);
     let mut writer = ByteSink::<64>::new(NO_FAILURE);
     let mut errors = Errors::new(ByteSink::<64>::new(NO_FAILURE), false);
     assert!(rt; book_verify(&rt, rt.alloc(), file.as_slice(), &mut writer, &mut errors) == 0);

@@ -32,7 +32,8 @@ const FOLLOWED: &[u8] = b"------------------XO------XXX------OXX-----O----------
       ---------------------------OX------XO--------------------------- X\nerror 2 at 1\n";
 
 // Boards with moves in its place: 73, 68 and 66 bytes.
-const THREE_PLAYED: &[u8] = b"---------------------------OX------XO--------------------------- X f5d6c3\n\
+const THREE_PLAYED: &[u8] =
+    b"---------------------------OX------XO--------------------------- X f5d6c3\n\
       ---------------------------OX------XO--------------------------- X \n\
       --OXXXXXOOOOOOOOOOOOOOOOOOOOOOOOOOOOOOOOOOOOOOOOOOOOOOOOOOOOOOOO O";
 

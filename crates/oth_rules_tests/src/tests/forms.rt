@@ -59,11 +59,11 @@ fn check_two_plies(rt: &impl Abort, board: &Board) -> u32 {
             continue
         };
         check_images(rt, &child);
-        count += 1;
+        count = u32::saturating_add(count, 1);
         for second in 0..64 {
             if let Some(grandchild) = item(&child, Square::numbered(second)) {
                 check_images(rt, &grandchild);
-                count += 1;
+                count = u32::saturating_add(count, 1);
             }
         }
     }

@@ -4,8 +4,8 @@ use Rattle.oth_search.proofs.deep.recorded.Goals as goal
 pub known-requires : goal.known-requires
 known-requires g c = IsCanonical-canonical c.args.board.now c.canonical.result.0 c.canonical.ensures.board
 
-pub returns-then-empties-lt-FEWEST_EMPTIES_KEPT-clause-value : goal.returns-then-empties-lt-FEWEST_EMPTIES_KEPT-clause-value
-returns-then-empties-lt-FEWEST_EMPTIES_KEPT-clause-value g c =
+pub returns-then-is_remembered-clause-value : goal.returns-then-is_remembered-clause-value
+returns-then-is_remembered-clause-value g c =
     let k = c.recalled.result in
     Encloses-same c.args.scoring k.scoring c.args.board.now k.board _ _ c.recalled.ensures.board c.recalled.ensures.scoring k.encloses
 

@@ -1,5 +1,5 @@
-use Rattle.std.proofs.Common.{◌+◌, ◌*◌}
-use Rattle.oth_walk.proofs.narrowing.+narrowing.Given as goal
+use Rattle.std.proofs.Common.{◌≡◌, ◌+◌, ◌*◌}
+use Rattle.oth_search.proofs.narrowing.+narrowing.Given as goal
 
 abbrev pub decreases-narrow : goal.decreases-narrow
 decreases-narrow g l = 5 * l.plies
@@ -15,3 +15,9 @@ decreases-visit_all g l = 5 * l.plies + 3
 
 abbrev pub decreases-visit : goal.decreases-visit
 decreases-visit g l = 5 * l.plies + 2
+
+abbrev pub invariant-narrow_moves-loop-round : goal.invariant-narrow_moves-loop-round
+invariant-narrow_moves-loop-round g l = g.C.Cells.fixed l.cells ≡ g.C.Cells.fixed l.fn.cells
+
+abbrev pub invariant-visit_all-loop-square : goal.invariant-visit_all-loop-square
+invariant-visit_all-loop-square g l = g.C.Cells.fixed l.cells ≡ g.C.Cells.fixed l.fn.cells

@@ -1,0 +1,10 @@
+use Rattle.std.proofs.Common.{ap, arith}
+use Rattle.oth_rules.specs.Position.{empty_count}
+use Rattle.oth_rules.specs.Laws.{IsLegal}
+use Rattle.oth_rules.proofs.SearchLaws.{empty_count-after}
+use Rattle.oth_pool.proofs.scoring_moves.replies_alone.Goals as goal
+
+pub valued_alone-requires-after_bounds : goal.valued_alone-requires-after_bounds
+valued_alone-requires-after_bounds g c κs within =
+    let legal : IsLegal c.args.board.now _ = record { on_board = c.play.ensures.valid; legal = c.in-Some.ensures.moved.0 } in
+    omega (arith, c.requires, ap empty_count c.bounds_in-by_book.ensures.board, ap empty_count c.in-Some.ensures.moved.1, empty_count-after c.args.board.now _ legal)

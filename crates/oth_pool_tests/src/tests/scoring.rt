@@ -1,0 +1,91 @@
+//! The scores of all moves by every crew and table.
+
+use super::{A, B, C, CORNERS, answered};
+use oth_pool::{Open, SolveError, scores};
+use oth_rules::samples::{after_least_moves, board};
+use oth_rules::{Board, Scoring};
+use oth_search::solve_alone;
+use std::process::Abort;
+use std::thread::Threads;
+
+// A board whose mover must pass, and one that is over.
+const PASSES: [u64; 2] = [0xffff_ffff_ffff_ff74, 8];
+
+const FULL: [u64; 2] = [u64::MAX, 0];
+
+// Each move is there once with the score that one thread alone gives the board after it; the answer is that of `solve`.
+fn check_scores<R: Threads + Sync + AllocGlobal + Abort>(
+    rt: &R,
+    root: &Board,
+    workers: u8,
+    cells: u32,
+    scoring: Scoring,
+) {
+    let Ok(found) = scores(rt, rt.alloc(), root, workers, cells, &Open, None, scoring) else {
+        panic!(rt; "no scores")
+    };
+    let answer = answered(rt, rt.alloc(), root, workers, cells, scoring);
+    assert!(rt; answer == Ok(found.answer()));
+    assert!(rt; found.moves().len() == root.moves().count_ones() as usize);
+    for scored in found.moves() {
+        let Some(child) = root.play(scored.square) else {
+            panic!(rt; "no move")
+        };
+        match solve_alone(&child, scoring) {
+            Ok(after) => assert!(rt; after.score == scored.score.wrapping_neg()),
+            Err(_) => panic!(rt; "not solved"),
+        }
+    }
+}
+
+#[test]
+fn all_crews_score_each_move_of_the_rows(rt: HostRuntime) {
+    for words in [A, B, C, CORNERS, PASSES, FULL] {
+        let Some(root) = board(words) else {
+            panic!(rt; "no board")
+        };
+        for workers in [1, 2, 16] {
+            for cells in [0, 1, 1024] {
+                check_scores(&rt, &root, workers, cells, Scoring::Winner);
+                check_scores(&rt, &root, workers, cells, Scoring::Discs);
+            }
+        }
+    }
+}
+
+#[test]
+fn crews_score_a_board_of_eleven_empty_squares(rt: HostRuntime) {
+    let Some(root) = after_least_moves(11) else {
+        panic!(rt; "no line")
+    };
+    for workers in [1, 2, 7] {
+        check_scores(&rt, &root, workers, 4_096, Scoring::Winner);
+    }
+}
+
+#[test]
+fn scores_are_refused_as_answers_are(rt: HostRuntime) {
+    let (Some(root), Ok(open)) = (board(A), Board::of(0x1_ffff_ffff, 0)) else {
+        panic!(rt; "no boards")
+    };
+    for (root, workers, cells, refusal) in [
+        (root, 0, 0, SolveError::Workers),
+        (root, 1, 3, SolveError::Cells),
+        (open, 17, 3, SolveError::TooManyEmpties(31)),
+    ] {
+        let found = scores(
+            &rt,
+            rt.alloc(),
+            &root,
+            workers,
+            cells,
+            &Open,
+            None,
+            Scoring::Winner,
+        );
+        match found {
+            Ok(_) => panic!(rt; "scored"),
+            Err(error) => assert!(rt; error == refusal),
+        }
+    }
+}

@@ -1,0 +1,300 @@
+//! Searches of many plies by null windows, each of which asks its company at each board: a board that another worker is
+//! at is left to it at first, as in ABDADA (J.-C. Weill, The ABDADA distributed minimax search algorithm, 1996), and
+//! what is of no more use is given up.
+ghost use Rattle.std.specs.Prelude.{◌≡◌, pos, negsuc, ◌≤ℤ◌, false};
+ghost use Rattle.oth_rules.specs.Move.{can_move};
+
+use crate::cells::Cells;
+use crate::combining::known_below;
+use crate::company::Company;
+use crate::entry::Entry;
+use crate::interval::Interval;
+use crate::null_window::NullWindow;
+use crate::solved::Solved;
+use crate::squares::{first, without};
+use oth_rules::{Board, Scoring, Square};
+use std::alloc::Global;
+
+// No such search is deeper.
+const MOST_PLIES: u8 = 30;
+
+// How often the moves of a board are gone through. A board that others are at is left to them but in the last round.
+const ROUNDS: u32 = 3;
+
+// In this round no board is left to another worker.
+const LAST_ROUND: u32 = 2;
+
+impl Solved {
+    /// The board with closer bounds, by a search over its moves. They decide the window unless the search is given up.
+    pub fn narrowed_in<C: Cells, H: Company<C>>(
+        &self,
+        window: NullWindow,
+        cells: &mut C,
+        company: &mut H,
+    ) -> Solved
+        ensures board { result.board ≡ self.now.board }
+        ensures scoring { result.scoring ≡ self.now.scoring }
+        ensures lower { self.now.interval.lower ≤ℤ result.interval.lower }
+        ensures upper { result.interval.upper ≤ℤ self.now.interval.upper }
+        ensures fixed { C.fixed cells.new ≡ C.fixed cells.old }
+    {
+        if window.is_decided(self.interval) {
+            return *self;
+        }
+        let unknown = Solved::unknown(self.board, self.scoring);
+        self.joined(&narrow(&unknown, window, MOST_PLIES, cells, company))
+    }
+}
+
+// Bounds of the board's value, by a search of at most so many plies. They decide the window unless it is given up.
+#[cycle(narrowing)]
+fn narrow<C: Cells, H: Company<C>>(
+    asked: &Solved,
+    window: NullWindow,
+    plies: u8,
+    cells: &mut C,
+    company: &mut H,
+) -> Solved
+    ensures board { result.board ≡ asked.now.board }
+    ensures scoring { result.scoring ≡ asked.now.scoring }
+    ensures fixed { C.fixed cells.new ≡ C.fixed cells.old }
+{
+    let board = asked.board;
+    if plies == 0 || board.empties() < company.fewest() {
+        return window.search(&board, cells, asked.scoring);
+    }
+    if !board.can_move() {
+        return narrow_past(asked, window, plies - 1, cells, company);
+    }
+    let known = Solved::looked_up(&board, cells, asked.scoring);
+    if window.is_decided(known.interval) {
+        return known;
+    }
+    let depth = company.enter(&board, window);
+    let found = narrow_moves(asked, window, plies - 1, cells, company);
+    company.leave(depth);
+    if window.is_decided(found.interval) {
+        return found;
+    }
+    found.joined(&Solved::looked_up(&board, cells, asked.scoring))
+}
+
+// The same of a board whose mover has no move.
+#[cycle(narrowing)]
+fn narrow_past<C: Cells, H: Company<C>>(
+    asked: &Solved,
+    window: NullWindow,
+    plies: u8,
+    cells: &mut C,
+    company: &mut H,
+) -> Solved
+    requires { can_move asked.now.board ≡ false }
+    ensures board { result.board ≡ asked.now.board }
+    ensures scoring { result.scoring ≡ asked.now.scoring }
+    ensures fixed { C.fixed cells.new ≡ C.fixed cells.old }
+{
+    let board = asked.board;
+    let passed = board.pass();
+    if !passed.can_move() {
+        return window.search(&board, cells, asked.scoring);
+    }
+    let after = Solved::unknown(passed, asked.scoring);
+    narrow(&after, window.turned(), plies, cells, company).before_pass(&board)
+}
+
+// A board while its moves are searched.
+#[derive(Drop)]
+struct Node {
+    board: Board,
+    scoring: Scoring,
+    window: NullWindow,
+    // How many of the moves are searched whether or not another worker is at them, and whether others may be left.
+    together: usize,
+    leaves: bool,
+    // The moves that are searched, the first of the best, and the score that it gives.
+    searched: u64,
+    best: Square,
+    score: i8,
+    // What is known of the boards after them, or after a forced pass there.
+    children: Vec<Solved>,
+}
+
+impl Node {
+    // A board whose moves are about to be searched.
+    fn of(asked: &Solved, window: NullWindow, together: usize, alloc: Global) -> Node
+        ensures board { result.board ≡ asked.now.board }
+        ensures scoring { result.scoring ≡ asked.now.scoring }
+    {
+        Node {
+            board: asked.board,
+            scoring: asked.scoring,
+            window,
+            together,
+            leaves: true,
+            searched: 0,
+            best: Square::numbered(0),
+            score: -65,
+            children: Vec::new(alloc),
+        }
+    }
+
+    // Whether a board after a move may be left to another worker.
+    fn may_leave(&self, child: &Board, fewest: u8) -> bool {
+        self.leaves && (child.empties() < fewest || self.children.len() >= self.together)
+    }
+
+    // Takes in what was found of the board after a move.
+    fn take(&mut self, square: Square, solved: Solved)
+        ensures board { self.new.board ≡ self.old.board }
+        ensures scoring { self.new.scoring ≡ self.old.scoring }
+    {
+        let score = -upper_of(&solved);
+        if score > self.score {
+            self.score = score;
+            self.best = square;
+        }
+        let _ = self.children.push(solved.awake());
+    }
+
+    // The board, of which nothing is known.
+    fn unknown(&self) -> Solved
+        ensures board { result.board ≡ self.now.board }
+        ensures scoring { result.scoring ≡ self.now.scoring }
+    {
+        Solved::unknown(self.board, self.scoring)
+    }
+}
+
+// Bounds of the board's value by its moves, below which so many plies are searched.
+#[cycle(narrowing)]
+fn narrow_moves<C: Cells, H: Company<C>>(
+    asked: &Solved,
+    window: NullWindow,
+    plies: u8,
+    cells: &mut C,
+    company: &mut H,
+) -> Solved
+    ensures board { result.board ≡ asked.now.board }
+    ensures scoring { result.scoring ≡ asked.now.scoring }
+    ensures fixed { C.fixed cells.new ≡ C.fixed cells.old }
+{
+    let board = asked.board;
+    if let Some(found) = decided_by_child(asked, window, cells) {
+        return asked.joined(&found);
+    }
+    let squares = company.order(&board);
+    let together = company.together(board.empties());
+    let mut node = Node::of(asked, window, together, company.alloc());
+    for round in 0..ROUNDS {
+        node.leaves = round < LAST_ROUND;
+        if let Some(found) = visit_all(&mut node, squares.as_slice(), plies, cells, company) {
+            return asked.joined(&found);
+        }
+    }
+    let solved = known_below(board, 1, node.children.as_slice(), asked.scoring);
+    put(&solved, cells);
+    if solved.interval.lower == solved.interval.upper {
+        company.prefer(&board, node.best);
+    }
+    solved
+}
+
+// What the cells tell of the board by one of the boards after its moves, if that decides the window.
+fn decided_by_child<C: Cells>(asked: &Solved, window: NullWindow, cells: &mut C) -> Option<Solved>
+    ensures fixed { C.fixed cells.new ≡ C.fixed cells.old }
+{
+    let mut rest = asked.board.moves();
+    while rest != 0 {
+        let square = first(rest);
+        rest = without(rest, square);
+        let child = asked.board.play(square)?;
+        let reply = Solved::looked_up(&child, cells, asked.scoring);
+        if window.is_reached(-upper_of(&reply)) {
+            return Some(lifted(&asked.board, square, &reply, cells));
+        }
+    }
+    None
+}
+
+// One round through the moves. What is found of the board, if no further move is to be searched.
+#[cycle(narrowing)]
+fn visit_all<C: Cells, H: Company<C>>(
+    node: &mut Node,
+    squares: &[Square],
+    plies: u8,
+    cells: &mut C,
+    company: &mut H,
+) -> Option<Solved>
+    ensures fixed { C.fixed cells.new ≡ C.fixed cells.old }
+{
+    for square in squares {
+        if node.searched & square.word() == 0 {
+            let found = visit(node, *square, plies, cells, company);
+            if found.is_some() {
+                return found;
+            }
+        }
+    }
+    None
+}
+
+// Searches one move, unless it is left to another worker.
+#[cycle(narrowing)]
+fn visit<C: Cells, H: Company<C>>(
+    node: &mut Node,
+    square: Square,
+    plies: u8,
+    cells: &mut C,
+    company: &mut H,
+) -> Option<Solved>
+    ensures fixed { C.fixed cells.new ≡ C.fixed cells.old }
+{
+    let child = node.board.play(square)?;
+    if node.may_leave(&child, company.fewest()) && company.is_left(&child) {
+        return None;
+    }
+    company.begin(&child);
+    let asked = Solved::unknown(child, node.scoring);
+    let solved = narrow(&asked, node.window.turned(), plies, cells, company);
+    company.end(&child);
+    node.searched |= square.word();
+    if node.window.is_reached(-upper_of(&solved)) {
+        company.prefer(&node.board, square);
+        return Some(lifted(&node.board, square, &solved, cells));
+    }
+    node.take(square, solved);
+    if company.gives_up(&child, cells) {
+        return Some(node.unknown());
+    }
+    None
+}
+
+// The upper bound.
+fn upper_of(solved: &Solved) -> i8
+    ensures low { negsuc 63 ≤ℤ result }
+    ensures high { result ≤ℤ pos 64 }
+{
+    solved.interval.upper
+}
+
+// What a reply that is good enough tells of the board, which is put into the cells.
+fn lifted<C: Cells>(board: &Board, square: Square, reply: &Solved, cells: &mut C) -> Solved
+    ensures fixed { C.fixed cells.new ≡ C.fixed cells.old }
+{
+    match Solved::lift(board, square, reply) {
+        Ok(bound) => {
+            put(&bound, cells);
+            bound
+        }
+        Err(_) => Solved::unknown(*board, reply.scoring),
+    }
+}
+
+/// Puts what was found into the cells, if that is anything.
+pub fn put<C: Cells>(solved: &Solved, cells: &mut C)
+    ensures fixed { C.fixed cells.new ≡ C.fixed cells.old }
+{
+    if solved.interval != Interval::all() {
+        cells.put(&Entry::of(solved));
+    }
+}

@@ -1,0 +1,219 @@
+//! One worker's way through the tree: which searches it has under way, and what it tells the others and hears from
+//! them.
+ghost use Rattle.std.specs.Prelude.{◌≡◌, pos, negsuc, ◌≤ℤ◌};
+
+use crate::height::Height;
+use crate::hints::HintSeat;
+use crate::move_order::MoveOrder;
+use crate::scene::Plan;
+use arrayvec::ArrayVec;
+use oth_rules::{Board, Square};
+use oth_search::{Cells, Company, NullWindow, Solved, order};
+use std::alloc::Global;
+
+// Boards with fewer empty squares are ordered anew each time.
+const FEWEST_EMPTIES_KEPT: u8 = 12;
+
+// Boards with fewer empty squares than this, beyond those of the smallest that workers share, are small: see
+// `goals_after`.
+const SMALL: u8 = 2;
+
+// The moves of a board with many empty squares that are searched whether or not another worker is at them, and of one
+// with few.
+const MOVES_TOGETHER: usize = 2;
+
+const FEW_TOGETHER: usize = 1;
+
+// A search under way: the canonical image of its board, and what it is to decide.
+#[derive(Clone, Copy)]
+struct Goal {
+    image: Board,
+    window: NullWindow,
+}
+
+/// The floor and the hints as one worker has them, and its searches that are under way.
+#[derive(Drop)]
+pub(crate) struct Way<'w> {
+    alloc: Global,
+    plan: Plan,
+    height: Height<'w>,
+    pub hints: HintSeat<'w>,
+    // The root's move below which it searches, and the floor at which it does.
+    square: Square,
+    least: i8,
+    // The boards from there on whose searches are under way.
+    goals: Vec<Goal>,
+    // The root's moves that it has settled itself.
+    settled: u64,
+}
+
+impl<'w> Way<'w> {
+    /// Nothing is under way.
+    pub fn of(alloc: Global, plan: Plan, height: Height<'w>, hints: HintSeat<'w>) -> Way<'w> {
+        Way {
+            alloc,
+            plan,
+            height,
+            hints,
+            square: Square::numbered(0),
+            least: 64,
+            goals: Vec::new(alloc),
+            settled: 0,
+        }
+    }
+
+    /// What the root reaches by all that is known.
+    pub fn floor(&mut self) -> i8
+        ensures low { negsuc 63 ≤ℤ result }
+        ensures high { result ≤ℤ pos 64 }
+    {
+        self.height.least()
+    }
+
+    /// What the floor tells of the root.
+    pub fn root(&mut self) -> Solved {
+        self.height.root()
+    }
+
+    /// Tells bounds of the root.
+    pub fn raise(&mut self, bound: &Solved) {
+        self.height.raise(bound);
+    }
+
+    /// It goes on below this move of the root, at this floor.
+    pub fn go_on(&mut self, square: Square, least: i8) {
+        self.square = square;
+        self.least = least;
+    }
+
+    /// Whether the root's move needs no further search.
+    pub fn is_settled(&mut self, square: Square) -> bool {
+        self.settled & square.word() != 0 || self.hints.is_settled(square)
+    }
+
+    /// Tells that the root's move needs no further search.
+    pub fn settle(&mut self, square: Square) {
+        self.settled |= square.word();
+        self.hints.settle(square);
+    }
+
+    /// How many of the root's moves need no further search.
+    pub fn settled(&mut self) -> u64 {
+        u64::from(self.settled.count_ones()).max(self.hints.settled())
+    }
+
+    /// Each legal move of the board once, in the order in which it is searched: the one that is kept, where one is.
+    pub fn order_of(&mut self, board: &Board) -> ArrayVec<Square, 64> {
+        if board.empties() < FEWEST_EMPTIES_KEPT {
+            return order(board);
+        }
+        if let Some(kept) = self.hints.order_of(board) {
+            return kept.of_moves(board.moves());
+        }
+        let squares = order(board);
+        self.hints
+            .keep_order(board, MoveOrder::of(squares.as_slice()));
+        squares
+    }
+
+    // So many of the last searches under way are looked up after a board with so many empty squares was searched: all
+    // only where that takes little beside the search.
+    fn goals_after(&self, empties: u8) -> usize {
+        let fewest = self.plan.fewest;
+        if empties < fewest {
+            1
+        } else if empties < fewest.saturating_add(SMALL) {
+            2
+        } else {
+            usize::MAX
+        }
+    }
+
+    // Whether the cells tell what one of so many of the last searches under way is to decide.
+    fn is_any_decided<C: Cells>(&self, most: usize, cells: &mut C) -> bool
+        ensures fixed { C.fixed cells.new ≡ C.fixed cells.old }
+    {
+        let goals = self.goals.as_slice();
+        let first = goals.len().saturating_sub(most);
+        for place in first..goals.len() {
+            if is_decided(&goals[place], cells, self.plan) {
+                return true;
+            }
+        }
+        false
+    }
+}
+
+// Whether the cells tell what the search is to decide.
+fn is_decided<C: Cells>(goal: &Goal, cells: &mut C, plan: Plan) -> bool
+    ensures fixed { C.fixed cells.new ≡ C.fixed cells.old }
+{
+    let known = Solved::looked_up(&goal.image, cells, plan.scoring);
+    goal.window.is_decided(known.interval)
+}
+
+impl<'w, C: Cells> Company<C> for Way<'w> {
+    fn alloc(&self) -> Global {
+        self.alloc
+    }
+
+    fn fewest(&self) -> u8 {
+        self.plan.fewest
+    }
+
+    fn together(&self, empties: u8) -> usize {
+        if empties <= self.plan.dealt {
+            FEW_TOGETHER
+        } else {
+            MOVES_TOGETHER
+        }
+    }
+
+    // Another worker seems to search the board, of which this one could learn what it finds.
+    fn is_left(&mut self, board: &Board) -> bool {
+        self.plan.shares && self.hints.is_searched(board)
+    }
+
+    fn begin(&mut self, board: &Board) {
+        self.hints.begin(board);
+    }
+
+    fn end(&mut self, board: &Board) {
+        self.hints.end(board);
+    }
+
+    fn enter(&mut self, board: &Board, window: NullWindow) -> usize {
+        let depth = self.goals.len();
+        if self.plan.shares {
+            let (image, _) = board.canonical();
+            let _ = self.goals.push(Goal { image, window });
+        }
+        depth
+    }
+
+    fn leave(&mut self, depth: usize) {
+        self.goals.truncate(depth);
+    }
+
+    // The floor has risen, the root's move is settled, or the cells tell what one of the searches under way is to
+    // decide.
+    fn gives_up(&mut self, searched: &Board, cells: &mut C) -> bool {
+        let most = self.goals_after(searched.empties());
+        self.floor() > self.least
+            || self.is_settled(self.square)
+            || self.is_any_decided(most, cells)
+    }
+
+    fn order(&mut self, board: &Board) -> ArrayVec<Square, 64> {
+        self.order_of(board)
+    }
+
+    fn prefer(&mut self, board: &Board, square: Square) {
+        if board.empties() < FEWEST_EMPTIES_KEPT {
+            return;
+        }
+        if let Some(kept) = self.hints.order_of(board) {
+            self.hints.keep_order(board, kept.with_first(square));
+        }
+    }
+}
