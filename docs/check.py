@@ -14,7 +14,9 @@ It tests, in each document and, where it says so, in the code:
 - of docs/THEOREM.md: that below each such heading the calls, types and definitions name nothing in a contract, a model or a definition
   that isn't listed there or above, a definition nothing that stands below it, and that each definition is one that is named;
 - that each board line has 64 cells;
-- that in each row `| `CONSTANT` | `PATH` | `VALUE` |` of a table the file gives the constant that value;
+- that in each row `| `CONSTANT` | `PATH` | `VALUE` |` of a table the file gives the constant that value, and that in each row
+  `| `EXPRESSION` | `PATH` |` the file has this text;
+- of docs/GLOSSARY.md: that each identifier of the column `In the code` is a word of the code or of `specs/`;
 - of docs/ARCHITECTURE.md: that the lemmas which it lists for a crate are those that proofs of other crates import;
 - that each lemma and each definition is named somewhere else than at its own statement, but those of `Examples`;
 - of docs/DECISIONS.md: that its entries are numbered one after the other, from 1;
@@ -40,6 +42,7 @@ WIDTH = 120
 FOLDERS = r"crates|docs|bench|examples|hostile|completions|include|\.ci"
 ROW = re.compile(r"^\| `([^`]+)` \| \[?`([^`:]+):(\d+)`(?:\]\(([^)]*)\))? \|")
 VALUE = re.compile(r"^\| `([A-Z_]+)` \| `([^`]+)` \| `([^`]+)` \|")
+PART = re.compile(r"^\| `([^`]*[^`A-Z_][^`]*)` \| `(crates/[^`]+\.rt)` \|")
 HEADING = re.compile(r"^(#+) (.*)$")
 COUNT = re.compile(r"\b(\d+) (?:further )?definitions\b")
 SPEC = re.compile(r"^ *(?:(?:unfoldable|abbrev) +(?:pub +)?|pub +(?=data|record))(?:data +|record +)?([^\s:(){}]+)")
@@ -147,6 +150,10 @@ def test_values(document, number, line):
         text = (ROOT / path).read_text(encoding="utf-8") if (ROOT / path).exists() else ""
         found = re.findall(rf"\bconst {name}: \w+ = (.*);", text)
         test(found == [value], f"{shown(document)}:{number}: {name} of {path} isn't {value}")
+    part = PART.match(line)
+    if part:
+        text = (ROOT / part.group(2)).read_text(encoding="utf-8") if (ROOT / part.group(2)).exists() else ""
+        test(part.group(1) in text, f"{shown(document)}:{number}: {part.group(2)} has no {part.group(1)}")
 
 
 def test_boards(document, number, line):
@@ -468,6 +475,16 @@ def test_dead():
                 test((file.module, name) in imported or file.names.count(name) > own, f"crates/{file.module.replace('.', '/')}.antt: nothing names {name}")
 
 
+def test_glossary():
+    document = ROOT / "docs/GLOSSARY.md"
+    files = [path for kind in ("src/**/*.rt", "specs/**/*.antt") for path in ROOT.glob(f"crates/*/{kind}")]
+    words = set().union(*(re.findall(r"\w+", path.read_text(encoding="utf-8")) for path in files))
+    for number, line in enumerate(lines_of(document), 1):
+        cells = line.split(" | ")
+        for name in re.findall(r"`(\w+)`", cells[1]) if len(cells) == 3 else ():
+            test(name in words, f"{shown(document)}:{number}: the code has no word {name}")
+
+
 def test_names():
     known = crates()
     test_tested(known)
@@ -530,6 +547,7 @@ def main():
             test_values(document, number, line)
     test_counts()
     test_names()
+    test_glossary()
     test_lemmas()
     test_dead()
     test_decisions()
