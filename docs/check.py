@@ -19,7 +19,7 @@ It tests, in each document and, where it says so, in the code:
 - of docs/GLOSSARY.md: that each identifier of the column `In the code` is a word of the code or of `specs/`;
 - of docs/ARCHITECTURE.md: that the lemmas which it lists for a crate are those that proofs of other crates import;
 - that each lemma and each definition is named somewhere else than at its own statement, but those of `Examples`;
-- of docs/DECISIONS.md: that its entries are numbered one after the other, from 1;
+- of docs/DECISIONS.md: that each number from 1 to the last is that of one entry, or of one row of its table;
 - of docs/TESTED.md: that each test stands in the crate and the module that are named with it;
 - of docs/WRONG_BODIES.md: that each `CRATE/NAME` is an edit of that crate's must-fail/, each name that follows it one too or a test of that
   crate, and each other name with an underscore an edit, a function or a part of a crate;
@@ -399,8 +399,14 @@ def test_wrong_bodies(known):
 
 
 def test_decisions():
-    found = [int(match) for match in re.findall(r"(?m)^### (\d+)\. ", (ROOT / "docs/DECISIONS.md").read_text(encoding="utf-8"))]
-    test(found == list(range(1, len(found) + 1)), "docs/DECISIONS.md: its entries aren't numbered one after the other")
+    text = (ROOT / "docs/DECISIONS.md").read_text(encoding="utf-8")
+    found = [int(number) for number in re.findall(r"(?m)^### (\d+)\. ", text)]
+    for row in re.findall(r"(?m)^\| (\d+(?:, \d+)*) \|", text):
+        found += [int(number) for number in row.split(", ")]
+    missing = sorted(set(range(1, max(found) + 1)) - set(found))
+    twice = sorted({number for number in found if found.count(number) > 1})
+    test(not missing, f"docs/DECISIONS.md: there is no entry {missing}")
+    test(not twice, f"docs/DECISIONS.md: more than one entry {twice}")
 
 
 IMPORT = re.compile(r"\bRattle\.(oth_\w+)\.proofs\.([A-Z]\w*)")
