@@ -23,7 +23,7 @@ It tests, in each document and, where it says so, in the code:
 - of docs/TESTED.md: that each test stands in the crate and the module that are named with it;
 - of docs/WRONG_BODIES.md: that each `CRATE/NAME` is an edit of that crate's must-fail/, each name that follows it one too or a test of that
   crate, and each other name with an underscore an edit, a function or a part of a crate;
-- that the headline is word for word the same wherever it stands, and that the README has at most 120 lines;
+- that the headline is word for word the same wherever it stands, and that the README has at most 110 lines;
 - of each file of code: that its first line is a head (`//!`), and that no line is longer than 120 characters;
 - that the tables and the plot of the measured figures are those of bench/figures.txt (`bench/plot.py --check`), and that a plain Rust
   copy of the search can be made (`bench/plain.py --check`);
@@ -513,7 +513,7 @@ def test_headline():
     said = {line for document in documents() for line in lines_of(document) if line.startswith("**For every board")}
     test(len(said) == 1, f"the headline is said in {len(said)} ways")
     length = len(lines_of(ROOT / "README.md")) - 1
-    test(length <= 120, f"README.md has {length} lines")
+    test(length <= 110, f"README.md has {length} lines")
 
 
 def test_version():
