@@ -16,6 +16,7 @@ It tests, in each document and, where it says so, in the code:
 - that each board line has 64 cells;
 - that in each row `| `CONSTANT` | `PATH` | `VALUE` |` of a table the file gives the constant that value, and that in each row
   `| `EXPRESSION` | `PATH` |` the file has this text;
+- that no page (but those of bench, hostile and examples) says one of the phrases that docs/GLOSSARY.md replaces;
 - of docs/GLOSSARY.md: that each identifier of the column `In the code` is a word of the code or of `specs/`;
 - of docs/ARCHITECTURE.md: that the lemmas which it lists for a crate are those that proofs of other crates import;
 - that each lemma and each definition is named somewhere else than at its own statement, but those of `Examples`;
@@ -433,6 +434,20 @@ DECLARED = re.compile(r" *(?:(?:pub|abbrev|unfoldable|data|record) +)*([^\s:(){}
 USE = re.compile(r"(?m)^ *(?:ghost )?(?:pub )?use Rattle\.([^\s{};]+?)(?:\.\{([^}]*)\})?(?: as (\w+))?;?$")
 NAME = re.compile(r"(?<![^\s(){}\[\],;`⟦⟧])[^\s(){}\[\],;.`⟦⟧]+")
 
+# What the documents said before, or said of themselves, and what docs/GLOSSARY.md says for it. A pattern is of a line without `code`.
+OLD = {
+    r"[Ww]ant of memory": "out of memory",
+    r"by the clock": "wall-clock",
+    r"processor time": "CPU time",
+    r"waits for nobody": "non-blocking",
+    r"does nothing undefined": "has no undefined behaviour",
+    r"comes? to (?:no more|few|fewer|the same) boards": "visits .. nodes",
+    r"work done twice": "search overhead",
+    r"eldest": "elder brother, or first",
+    r"(?<!table )\bprob(?:e|es|ed|ing)\b": "null-window search; a look into the table is a table probe",
+    r"some hours before|within the hour|in an earlier run|was learned": "a line of bench/log.csv",
+}
+
 
 class Logic:
     """A file of specs, proofs or code: its lines with neither imports nor comments, and the words that it imports, with their modules."""
@@ -479,6 +494,15 @@ def test_dead():
             for name, at, end in file.statements():
                 own = NAME.findall("\n".join(file.lines[at:end])).count(name)
                 test((file.module, name) in imported or file.names.count(name) > own, f"crates/{file.module.replace('.', '/')}.antt: nothing names {name}")
+
+
+def test_phrases():
+    pages = [path for pattern in ("*.md", "docs/*.md", "crates/*/*.md") for path in sorted(ROOT.glob(pattern))]
+    for page in pages:
+        text = [re.sub(r"`[^`]*`|\]\([^)]*\)", "``", line) for line in lines_of(page)]
+        for old, new in OLD.items():
+            found = [str(number) for number, line in enumerate(text, 1) if re.search(old, line)]
+            test(not found, f"{shown(page)}: line {', '.join(found)} says {old}: {new}")
 
 
 def test_glossary():
@@ -554,6 +578,7 @@ def main():
     test_counts()
     test_names()
     test_glossary()
+    test_phrases()
     test_lemmas()
     test_dead()
     test_decisions()
