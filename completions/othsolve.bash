@@ -4,6 +4,7 @@
 # _othsolve_values too, since each takes a value.
 _othsolve_commands='
 solve --workers --cells --scoring --book
+scores --workers --cells --scoring
 moves
 transcript
 play

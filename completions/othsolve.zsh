@@ -4,6 +4,7 @@
 # The commands, and what each is for. One with options or a FILE has a case below too.
 local -a commands=(
     'solve:write the score and all best moves of each board line of standard input'
+    'scores:write the score of every move of each board line of standard input'
     'moves:write all legal moves of each board line of standard input'
     'transcript:write the board line that each transcript of standard input leads to'
     'play:write the board line that moves on each board line of standard input lead to'
@@ -26,6 +27,7 @@ case $state in
     argument)
         case $words[1] in
             solve) _arguments $help $search $scoring $book ;;
+            scores) _arguments $help $search $scoring ;;
             book-verify) _arguments $help '1:book:_files' ;;
             book-add) _arguments $help $search '1:book:_files' ;;
             help) _describe command commands ;;

@@ -531,6 +531,18 @@ def test_code():
         test(not long, f"{shown(path)}: more than {WIDTH} characters in line {', '.join(long)}")
 
 
+def test_constants():
+    """Whether each constant of the code has a name of its own; crates of tests, and associated constants of types, have theirs."""
+    homes = {}
+    for path in sorted(ROOT.glob("crates/*/src/**/*.rt")):
+        if not path.relative_to(ROOT / "crates").parts[0].endswith("_tests"):
+            text = path.read_text(encoding="utf-8")
+            for name in re.findall(r"(?m)^(?:pub(?:\([a-z]+\))? )?const ([A-Z][A-Z0-9_]*):", text):
+                homes.setdefault(name, []).append(shown(path))
+    for name, files in homes.items():
+        test(len(files) == 1, f"{' and '.join(files)}: constants of the name {name}")
+
+
 # ---- what is said more than once, and what is made
 
 def test_headline():
@@ -584,6 +596,7 @@ def main():
     test_decisions()
     test_theorem()
     test_code()
+    test_constants()
     test_headline()
     test_version()
     test_made()

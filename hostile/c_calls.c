@@ -1,10 +1,12 @@
 /* Calls the C library as a program would, and prints what `othsolve` prints, so that both can be compared byte by byte.
  *     c_calls refusals                          each refusal by its name; prints the names of those that do not come, or that write something
- *     c_calls moves | transcript                each line of standard input
+ *     c_calls moves | transcript | play         each line of standard input
  *     c_calls solve SCORING CELLS THREADS       so many threads at once solve all lines, with 1 MB of stack each; prints what all of them found
  *     c_calls share SCORING CELLS THREADS       the same over one table, each thread from a seat of its own
  *     c_calls within SCORING CELLS THREADS      the same, each line by calls that may look up 1, 2, 4, .. boards until one is done; 1 where bounds of an ended call
  *                                               do not enclose the score, or none was ended
+ *     c_calls scores | share-scores SCORING CELLS THREADS      as solve and share: the moves of each line with their scores, the greatest first; 1 where they
+ *                                               do not fit the answer
  * Linked with -Wl,--wrap=malloc it refuses, in each call, the request for memory whose number the environment's REFUSED gives. */
 #include "othsolve.h"
 
@@ -47,14 +49,18 @@ static int empties(oth_board board) {
     return 64 - __builtin_popcountll(board.own | board.opp);
 }
 
+/* Whether moves are played on boards: then faults of moves are printed by the numbers of this library. */
+static int is_play;
+
 /* The line of a refusal, by the numbers of docs/FORMATS.md. */
 static void print_refusal(FILE *file, uint32_t code, uint8_t place, int count) {
+    uint32_t number = is_play && code >= OTH_GAME_LENGTH ? code : code % 10;
     if (code == OTH_EMPTIES) {
         fprintf(file, "error 5 %d", count);
     } else if (place != 0) {
-        fprintf(file, "error %u at %u", code % 10, place);
+        fprintf(file, "error %u at %u", number, place);
     } else {
-        fprintf(file, "error %u", code % 10);
+        fprintf(file, "error %u", number);
     }
 }
 
@@ -131,11 +137,82 @@ static void transcript_line(FILE *file, const char *line) {
     fputc('\n', file);
 }
 
-static void each_line(FILE *file, void (*reply)(FILE *, const char *)) {
-    for (int at = 0; at < line_count; at++) {
-        reply(file, lines[at]);
+static void play_line(FILE *file, const char *line) {
+    uint8_t buffer[OTH_BOARD_LINE], place;
+    size_t length = strlen(line), board = length > OTH_BOARD_LINE && line[OTH_BOARD_LINE] == ' ' ? OTH_BOARD_LINE : length;
+    const char *moves = line + (board < length ? board + 1 : length);
+    oth_position position;
+    uint32_t code = oth_read_board((const uint8_t *)line, board, &position, &place);
+    if (code == OTH_DONE) {
+        code = oth_play_game(position, (const uint8_t *)moves, strlen(moves), &position, &place);
+    }
+    if (code == OTH_DONE) {
+        code = oth_print_board(position, buffer, sizeof buffer);
+    }
+    if (code == OTH_DONE) {
+        fwrite(buffer, 1, sizeof buffer, file);
+    } else {
+        print_refusal(file, code, place, 0);
+    }
+    fputc('\n', file);
+}
+
+static _Atomic long unfit_scores;
+
+/* Whether the best moves are those with the greatest score, which is the answer's, and no other square has one. */
+static int do_fit(oth_move_scores found) {
+    uint64_t best = 0;
+    int fit = (found.moves != 0) == (found.answer.kind == OTH_KIND_MOVE);
+    for (int square = 0; square < 64; square++) {
+        int is_move = found.moves >> square & 1, score = found.scores[square];
+        fit = fit && (is_move ? -64 <= score && score <= found.answer.score : score == OTH_NO_SCORE);
+        best |= (uint64_t)(is_move && score == found.answer.score) << square;
+    }
+    return fit && best == found.answer.best;
+}
+
+static void print_scores(FILE *file, oth_move_scores found) {
+    static const char *const words[] = {"", " pass", " end"};
+    const char *space = "";
+    if (found.moves == 0) {
+        fprintf(file, "%c%d%s", found.answer.score < 0 ? '-' : '+', abs(found.answer.score), words[found.answer.kind]);
+    }
+    for (int score = 64; score >= -64; score--) {
+        for (int square = 0; square < 64; square++) {
+            if (found.scores[square] == score) {
+                fprintf(file, "%s%c%d %c%c", space, score < 0 ? '-' : '+', abs(score), 'a' + square % 8, '1' + square / 8);
+                space = " ";
+            }
+        }
     }
 }
+
+static void scores_line(FILE *file, const char *line) {
+    oth_position position = {{0, 0}, 0};
+    oth_move_scores found;
+    uint8_t place;
+    uint32_t code = oth_read_board((const uint8_t *)line, strlen(line), &position, &place);
+    asked = 0;
+    if (code == OTH_DONE) {
+        code = seat == NULL ? oth_scores(position.board, scoring, cells, &found) : oth_scores_over(seat, position.board, &found);
+    }
+    if (code == OTH_DONE) {
+        print_scores(file, found);
+        unfit_scores += !do_fit(found);
+    } else {
+        print_refusal(file, code, place, empties(position.board));
+    }
+    fputc('\n', file);
+}
+
+static void each_line(FILE *file, void (*answer)(FILE *, const char *)) {
+    for (int at = 0; at < line_count; at++) {
+        answer(file, lines[at]);
+    }
+}
+
+/* What is answered to each line by threads. */
+static void (*reply)(FILE *, const char *) = solve_line;
 
 struct report {
     char *text;
@@ -147,7 +224,7 @@ static void *solve_all(void *given) {
     struct report *report = given;
     seat = report->seat.at == NULL ? NULL : &report->seat;
     FILE *file = open_memstream(&report->text, &report->length);
-    each_line(file, solve_line);
+    each_line(file, reply);
     fclose(file);
     oth_seat_free(&report->seat);
     return NULL;
@@ -232,6 +309,30 @@ static void refusals_of_solving(void) {
     want("solve: the table takes memory", asked > 2);
 }
 
+static int keeps_scores(uint32_t code, uint32_t wanted, oth_move_scores scores) {
+    return code == wanted && scores.moves == 7 && scores.answer.best == 7 && scores.scores[0] == 7 && scores.scores[63] == 7;
+}
+
+static oth_move_scores sevens(void) {
+    oth_move_scores scores;
+    memset(&scores, 7, sizeof scores);
+    scores.moves = scores.answer.best = 7;
+    return scores;
+}
+
+static void refusals_of_scores(void) {
+    oth_move_scores scores = sevens();
+    want("scores: overlap", keeps_scores(oth_scores(both, 2, 3, &scores), OTH_OVERLAP, scores));
+    want("scores: scoring", keeps_scores(oth_scores(open_board, 2, 3, &scores), OTH_SCORING, scores));
+    want("scores: empties", keeps_scores(oth_scores(open_board, 1, 3, &scores), OTH_EMPTIES, scores));
+    want("scores: three cells", keeps_scores(oth_scores(full, 1, 3, &scores), OTH_CELLS, scores));
+    want("scores: too many cells", keeps_scores(oth_scores(full, 1, 524288, &scores), OTH_CELLS, scores));
+    asked = 0;
+    want("scores", oth_scores(full, 1, 64, &scores) == OTH_DONE && scores.answer.score == 64 && scores.answer.kind == OTH_KIND_END);
+    want("scores: the table takes memory", asked > 2);
+    want("scores: no move", scores.moves == 0 && scores.scores[0] == OTH_NO_SCORE && scores.scores[63] == OTH_NO_SCORE);
+}
+
 /* Makes a table of 64 cells; where `more` is given, a further seat of the table. */
 static uint32_t made(oth_seat *first, oth_seat *more) {
     asked = 0;
@@ -257,6 +358,7 @@ static int is_made_at_last(oth_seat *first, oth_seat *more) {
 static void refusals_of_seats(void) {
     oth_answer answer = {7, 7, 7};
     oth_bounds bounds = {7, 7};
+    oth_move_scores scores = sevens();
     oth_seat first = {NULL}, more = {NULL};
     want("seat: no table", oth_seat_new(&first, &more) == OTH_NO_SEAT && first.at == NULL && more.at == NULL);
     want("over: overlap", keeps(oth_solve_over(&first, both, &answer), OTH_OVERLAP, answer));
@@ -265,6 +367,9 @@ static void refusals_of_seats(void) {
     want("within: overlap", keeps(oth_solve_within(&first, both, 0, &answer, &bounds), OTH_OVERLAP, answer) && bounds.lower == 7);
     want("within: empties", keeps(oth_solve_within(&first, open_board, 0, &answer, &bounds), OTH_EMPTIES, answer) && bounds.lower == 7);
     want("within: no seat", keeps(oth_solve_within(&first, full, 0, &answer, &bounds), OTH_NO_SEAT, answer) && bounds.upper == 7);
+    want("scores over: overlap", keeps_scores(oth_scores_over(&first, both, &scores), OTH_OVERLAP, scores));
+    want("scores over: empties", keeps_scores(oth_scores_over(&first, open_board, &scores), OTH_EMPTIES, scores));
+    want("scores over: no seat", keeps_scores(oth_scores_over(&first, full, &scores), OTH_NO_SEAT, scores) && first.at == NULL);
     want("table: scoring", oth_table_new(3, 2, &first) == OTH_SCORING && first.at == NULL);
     want("table: no cells", oth_table_new(0, 1, &first) == OTH_CELLS && first.at == NULL);
     want("table: three cells", oth_table_new(3, 1, &first) == OTH_CELLS && first.at == NULL);
@@ -278,6 +383,7 @@ static void refusals_of_seats(void) {
     want("over: refused", keeps(oth_solve_over(&first, full, &answer), OTH_NO_SEAT, answer));
     want("within: done", oth_solve_within(&more, full, 0, &answer, &bounds) == OTH_DONE && answer.score == 64 && bounds.lower == 7);
     want("over: the other", oth_solve_over(&more, full, &answer) == OTH_DONE && answer.score == 64 && answer.kind == OTH_KIND_END);
+    want("scores over: the other", oth_scores_over(&more, full, &scores) == OTH_DONE && scores.moves == 0 && scores.answer.score == 64);
     oth_seat_free(&more);
     oth_seat_free(&more);
     want("free: the last", more.at == NULL);
@@ -300,6 +406,24 @@ static void refusals_of_texts(void) {
     want("transcript: empty", oth_read_transcript(buffer, 0, &position, &place) == OTH_DONE && position.board.own == open_board.own);
 }
 
+static int keeps_position(uint32_t code, uint32_t wanted, oth_position position) {
+    return code == wanted && position.board.own == 7 && position.board.opp == 8 && position.mover == 7;
+}
+
+static void refusals_of_games(void) {
+    const uint8_t *moves = (const uint8_t *)"f5d6a1";
+    uint8_t place = 7;
+    oth_position start = {open_board, OTH_BLACK}, side = {open_board, 2}, shared = {both, 2}, next = {{7, 8}, 7};
+    want("play: overlap", keeps_position(oth_play_game(shared, moves, 3, &next, &place), OTH_OVERLAP, next) && place == 0);
+    place = 7;
+    want("play: mover", keeps_position(oth_play_game(side, moves, 3, &next, &place), OTH_MOVER, next) && place == 0);
+    place = 7;
+    want("play: length", keeps_position(oth_play_game(start, moves, 3, &next, &place), OTH_GAME_LENGTH, next) && place == 0);
+    want("play: move", keeps_position(oth_play_game(start, moves, 6, &next, &place), OTH_GAME_ILLEGAL, next) && place == 3);
+    want("play", oth_play_game(start, moves, 2, &next, &place) == OTH_DONE && place == 0 && next.mover == OTH_WHITE);
+    want("play: no move", oth_play_game(start, moves, 0, &start, &place) == OTH_DONE && start.board.own == open_board.own);
+}
+
 static void read_lines(void) {
     while (line_count < MOST_LINES && fgets(lines[line_count], LINE, stdin) != NULL) {
         lines[line_count][strcspn(lines[line_count], "\n")] = 0;
@@ -313,19 +437,23 @@ int main(int count, char **words) {
     if (strcmp(command, "refusals") == 0) {
         refusals_of_rules();
         refusals_of_solving();
+        refusals_of_scores();
         refusals_of_seats();
         refusals_of_texts();
+        refusals_of_games();
         return wrong;
     }
     read_lines();
     by_parts = strcmp(command, "within") == 0;
-    int shares = by_parts || strcmp(command, "share") == 0;
-    if ((shares || strcmp(command, "solve") == 0) && count == 5) {
+    int shares = by_parts || strncmp(command, "share", 5) == 0;
+    reply = strstr(command, "scores") == NULL ? solve_line : scores_line;
+    if (count == 5) {
         scoring = strcmp(words[2], "discs") == 0;
         cells = (uint32_t)strtoul(words[3], NULL, 10);
         int same = solve(atoi(words[4]), shares);
-        return !same || (by_parts && (untrue_bounds != 0 || ended_calls == 0));
+        return !same || unfit_scores != 0 || (by_parts && (untrue_bounds != 0 || ended_calls == 0));
     }
-    each_line(stdout, strcmp(command, "moves") == 0 ? moves_line : transcript_line);
+    is_play = strcmp(command, "play") == 0;
+    each_line(stdout, is_play ? play_line : strcmp(command, "moves") == 0 ? moves_line : transcript_line);
     return 0;
 }

@@ -7,13 +7,17 @@ import random
 import shutil
 import subprocess
 import tempfile
+import textwrap
 
+import differential
 import minimax
 
 SEED = 20261124
 BOARDS = 1000
 MOST_EMPTIES = 12
 GAMES = 200
+PLAYED = 500
+SCORED, MOST_EMPTIES_SCORED = 300, 6
 PATIENCE = 300
 BUILD_PATIENCE = 1_800
 MOST_REQUESTS = 6
@@ -35,6 +39,7 @@ def steps(crates):
         if unmade:
             return
         yield from example(folder)
+        yield from shown(folder)
         shutil.copy(f"{TOP}/hostile/c_calls.c", tests)
         for name in ("othsolve.h", "libothsolve.a"):
             shutil.copy(f"{folder}/{name}", tests)
@@ -47,6 +52,8 @@ def steps(crates):
         yield "each refusal of a C call", ran_wrong([calls, "refusals"])
         lines = board_lines()
         yield from against_program(program, calls, lines)
+        yield from scores(program, calls)
+        yield from moves_on_boards(calls)
         yield from without_memory(program, calls, lines[:100])
         if shutil.which("valgrind"):
             yield from under_valgrind(program, calls, lines[:50])
@@ -91,6 +98,18 @@ def example(folder):
             yield f"the worked boards in C: {scoring}, {cells} cells", ran_wrong(words, boards, text_of(rows.split("|")))
 
 
+def shown(folder):
+    """The program that docs/LIBRARY.md shows, by the line that it shows, writes what the page says."""
+    with open(f"{TOP}/docs/LIBRARY.md", encoding="utf-8") as file:
+        page = file.read().split("### The score of every move\n")[1].split("\n### ")[0]
+    code, told = page.split("```c\n")[1].split("```\n\n")
+    with open(f"{folder}/scores.c", "w", encoding="ascii") as file:
+        file.write(code)
+    build, run = told.split("`")[1].split(" && ")
+    yield f"the program that docs/LIBRARY.md shows is built: {build}", ran_wrong([*build.split(), *FLAGS], cwd=folder)
+    yield "what it writes", ran_wrong([f"{folder}/{run}"], wanted=textwrap.dedent(told.split(" prints\n\n")[1]))
+
+
 def build_line(source):
     """The words behind `Build line:` in the example."""
     with open(source, encoding="ascii") as file:
@@ -120,6 +139,58 @@ def against_program(program, calls, lines):
     yield f"the moves of {BOARDS} boards in C as by the program", ran_wrong([calls, "moves"], text, printed([program, "moves"], text))
     games = text_of(transcripts())
     yield f"{GAMES} games in C as by the program", ran_wrong([calls, "transcript"], games, printed([program, "transcript"], games))
+
+
+def scores(program, calls):
+    """The scores of all moves: as a small solver tells them, and as the program answers the boards after the moves."""
+    few = minimax.boards(SEED + 1, SCORED, MOST_EMPTIES_SCORED)
+    values = [[minimax.value(*child) for _, child in boards_after(board)] for board in few]
+    many = minimax.boards(SEED, BOARDS, MOST_EMPTIES)
+    faulty = text_of(faulty_lines())
+    for at, scoring in enumerate(("winner", "discs")):
+        wanted = [scores_line(board, [value[at] for value in each]) for board, each in zip(few, values)]
+        told = by_children(program, many, scoring)
+        refused = printed([program, "solve"], faulty)
+        for cells in ("0", "64"):
+            text = text_of(minimax.board_line(*board) for board in few)
+            name = f"the score of every move of {SCORED} boards in C as by a small solver: {scoring}, {cells} cells"
+            yield name, ran_wrong([calls, "scores", scoring, cells, "1"], text, text_of(wanted))
+            text = text_of(minimax.board_line(*board) for board in many)
+            name = f"the score of every move of {BOARDS} boards in C as the program answers the boards after them: {scoring}, {cells} cells"
+            yield name, ran_wrong([calls, "scores", scoring, cells, "4"], text + faulty, text_of(told) + refused)
+        name = f"the same by eight threads over one table: {scoring}"
+        yield name, ran_wrong([calls, "share-scores", scoring, "4096", "8"], text + faulty, text_of(told) + refused)
+
+
+def boards_after(board):
+    """The legal squares of a board with the boards after a move there, by rising squares; where there is none no square, and the board itself."""
+    cells, side = board
+    moves = [(square, (minimax.after(cells, side, square, turned), minimax.other(side))) for square, turned in minimax.moves(cells, side)]
+    return moves or [(None, board)]
+
+
+def scores_line(board, scores):
+    """The moves with their scores, the greatest first and equal ones by rising squares; else the score, and `pass` or `end`.
+
+    Given are the scores of the boards behind the moves, in their order and for who is to move there."""
+    found = [(score, square) if square is None else (-score, square) for (square, _), score in zip(boards_after(board), scores)]
+    word = "pass" if minimax.moves(board[0], minimax.other(board[1])) else "end"
+    return " ".join(minimax.report(score, word if square is None else minimax.name(square)) for score, square in sorted(found, key=lambda each: -each[0]))
+
+
+def by_children(program, boards, scoring):
+    """The same line of each board, by what the program answers of the boards after its moves."""
+    lines = text_of(minimax.board_line(*child) for board in boards for _, child in boards_after(board))
+    told = (int(line.split()[0]) for line in printed([program, "solve", "--scoring", scoring], lines).splitlines())
+    return [scores_line(board, [next(told) for _ in boards_after(board)]) for board in boards]
+
+
+def moves_on_boards(calls):
+    """Random moves on boards lead to the boards, or have the faults, that the small solver's rules give."""
+    draw = random.Random(SEED)
+    games = [differential.some_moves(draw, *board) for board in minimax.boards(SEED, PLAYED, differential.MOST_EMPTIES_PLAYED)]
+    lines, wanted = zip(*games)
+    yield f"moves on {PLAYED} boards in C as by the small solver's rules", ran_wrong([calls, "play"], text_of(lines), text_of(wanted))
 
 
 def deeper_lines():
@@ -157,6 +228,10 @@ def without_memory(program, calls, lines):
         for request in range(1, MOST_REQUESTS + 1):
             name = f"{len(lines)} boards in C where request {request} of a call for memory is refused, {cells} cells"
             yield name, ran_wrong([calls, "solve", "winner", cells, "1"], text, wanted, env={**os.environ, "REFUSED": str(request)})
+        scored = printed([calls, "scores", "winner", cells, "1"], text)
+        for request in range(1, MOST_REQUESTS + 1):
+            name = f"the scores of {len(lines)} boards in C where request {request} of a call for memory is refused, {cells} cells"
+            yield name, ran_wrong([calls, "scores", "winner", cells, "1"], text, scored, env={**os.environ, "REFUSED": str(request)})
     for request in (1, 2):
         name = f"{len(lines)} boards in C over one table where request {request} of a solving call for memory is refused"
         yield name, ran_wrong([calls, "share", "winner", "64", "4"], text, wanted, env={**os.environ, "REFUSED": str(request)})
@@ -172,6 +247,9 @@ def under_valgrind(program, calls, lines):
     wanted = printed([program, "solve"], text)
     yield f"valgrind: {len(lines)} boards by calls that are ended, over one table", ran_wrong([*VALGRIND, calls, "within", "winner", "64", "1"], text, wanted)
     yield f"valgrind: {len(lines)} boards, four threads over one table", ran_wrong([*VALGRIND, calls, "share", "winner", "64", "4"], text, wanted)
+    scored = printed([calls, "scores", "winner", "64", "1"], text)
+    for command in ("scores", "share-scores"):
+        yield f"valgrind: {command} of {len(lines)} boards", ran_wrong([*VALGRIND, calls, command, "winner", "64", "4"], text, scored)
     yield "valgrind: moves", ran_wrong([*VALGRIND, calls, "moves"], text, printed([program, "moves"], text))
     games = text_of(transcripts()[:50])
     yield "valgrind: games", ran_wrong([*VALGRIND, calls, "transcript"], games, printed([program, "transcript"], games))

@@ -1,5 +1,5 @@
-"""Compares the built program with the small solver: the same answers by both scorings, any number of workers, any table, and from a book,
-and the same boards after moves."""
+"""Compares the built program with the small solver: the same answers and scores by both scorings, any number of workers, any table, answers
+from a book too, and the same boards after moves."""
 import random
 import tempfile
 
@@ -27,6 +27,7 @@ def steps(program):
     boards = minimax.boards(SEED, BOARDS, MOST_EMPTIES)
     lines = [minimax.board_line(*board) for board in boards]
     wanted = [minimax.reports(*board) for board in boards]
+    scored = [minimax.scores(*board) for board in boards]
     for at, scoring in enumerate(SCORINGS):
         for workers in WORKERS:
             for cells in CELLS:
@@ -35,6 +36,10 @@ def steps(program):
                     f"{BOARDS} boards of 0 to {MOST_EMPTIES} empty squares: {' '.join(words[1:])}",
                     difference(words, lines, [line[at] for line in wanted]),
                 )
+        for workers in WORKERS:
+            words = [program, "scores", "--workers", str(workers), "--scoring", scoring]
+            name = f"every move of {BOARDS} boards of 0 to {MOST_EMPTIES} empty squares: {' '.join(words[1:])}"
+            yield name, difference(words, lines, [line[at] for line in scored])
         name = f"a book of {BOOKED} boards, added to, verified and asked: {scoring}"
         yield name, by_book(program, scoring, lines, [line[at] for line in wanted])
     yield moves_on_boards(program)
@@ -70,14 +75,15 @@ def some_moves(draw, cells, side):
 
 
 def side_by_side(program):
-    """Boards that are solved side by side by several workers have the answers that one worker gives."""
+    """Boards that are searched side by side by several workers have the answers and the scores that one worker gives."""
     boards = minimax.boards(SEED + 1, WAITING, MOST_EMPTIES_WAITING)
     lines = [minimax.board_line(*board) for board in boards]
     text = "".join(f"{line}\n" for line in lines)
-    alone = printed([program, "solve"], text)[1]
-    for workers in ("2", "4", "16"):
-        name = f"{WAITING} boards of 0 to {MOST_EMPTIES_WAITING} empty squares side by side by {workers} workers as by one"
-        yield name, difference([program, "solve", "--workers", workers], lines, alone)
+    for command in ("solve", "scores"):
+        alone = printed([program, command], text)[1]
+        for workers in ("2", "4", "16"):
+            name = f"{WAITING} boards of 0 to {MOST_EMPTIES_WAITING} empty squares side by side by {workers} workers as by one, {command}"
+            yield name, difference([program, command, "--workers", workers], lines, alone)
 
 
 def together(program):

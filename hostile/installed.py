@@ -109,6 +109,17 @@ Board.of_line(A).solve() | Answer(score=-50, best=('h1',), kind=<Kind.MOVE: 0>)
 Board.of_line(A).solve(Scoring.DISCS, cells=0) | Answer(score=-49, best=('h1',), kind=<Kind.MOVE: 0>)
 str(Board.of_line(PASSES).solve()) | '+50 pass'
 Board.of_line(PASSES).pass_turn() == Board.of_line(A) | True
+Board.of_line(A).scores() | {'b1': -64, 'h1': -50}
+Board.of_line(A).scores(Scoring.DISCS, cells=0) | {'b1': -63, 'h1': -49}
+Board.of_line(PASSES).scores() | {}
+Board.start().scores() | Refused: more than 30 squares are empty
+Table(64, Scoring.DISCS).scores(Board.of_line(A)) | {'b1': -63, 'h1': -49}
+Board.of_line(A).scores(cells=3) | Refused: the cells are neither 0 nor one of 1, 2, 4 .. 262144
+Board.start().play_game("f5d6c3d3c4") == Board.of_transcript("f5d6c3d3c4") | True
+Board.of_transcript("f5d6").play_game("c3d3c4") == Board.of_transcript("f5d6c3d3c4") | True
+Board.of_line(PASSES).play_game("") == Board.of_line(A) | True
+Board.of_line(A).play_game("a1") | Refused: the move of pair 1 is illegal
+Board.of_line(A).play_game("b") | Refused: the number of bytes is odd
 Board.of_line(A).kind() | <Kind.MOVE: 0>
 Board.of_line(PASSES).kind() | <Kind.PASS: 1>
 Board.of_line("X" * 64 + " O").kind() | <Kind.END: 2>
@@ -150,8 +161,10 @@ COMPLETES = {
     "othsolve b": "book-add book-verify",
     "othsolve help m": "moves",
     "othsolve p": "play",
+    "othsolve s": "scores solve",
     "othsolve solve --scoring ": "discs winner",
     "othsolve solve --scoring = d": "discs",
+    "othsolve scores --s": "--scoring",
     "othsolve solve --workers 1": "1 10 11 12 13 14 15 16",
     "othsolve solve --cells 13": "131072",
     "othsolve solve --book on": "one.book",

@@ -78,6 +78,8 @@ def walks(program, fine):
     with tempfile.TemporaryDirectory() as folder:
         book = book_of(program, folder, given)
         commands = {
+            "scores": (["scores"], given),
+            "scores by 4 workers": (["scores", "--workers", "4"], given),
             "moves": (["moves"], given),
             "transcript": (["transcript"], b"f5d6c3d3c4\n" * BOARDS),
             "play": (["play"], b"---------------------------OX------XO--------------------------- X f5d6c3d3c4\n" * BOARDS),

@@ -105,6 +105,16 @@ def reports(cells, side):
     return tuple(lines)
 
 
+def scores(cells, side):
+    """The scores lines of a board, by winner and by discs: of equal moves that of the lesser square comes first."""
+    legal = moves(cells, side)
+    if not legal:
+        return reports(cells, side)
+    values = [(square, value(after(cells, side, square, turned), other(side))) for square, turned in legal]
+    ranked = [sorted(values, key=lambda move: move[1][scoring]) for scoring in (0, 1)]
+    return tuple(" ".join(report(-found[scoring], name(square)) for square, found in ranked[scoring]) for scoring in (0, 1))
+
+
 def board_line(cells, side):
     return f"{''.join(cells)} {side}"
 

@@ -20,6 +20,11 @@ LONG = "--O--------O-X--OOOOOO-OOOXXO-OX-XOXOOXOXXOOOXO--XXOXO-O--XXX--- X"
 LONG_EMPTIES = LONG.count("-")
 BOARDS = f"{QUICK}\n{LONG}\n{QUICK}\n".encode()
 SHOWN = re.compile(rf"line 2: {LONG_EMPTIES} empty squares(?:, (\d+) of (\d+) moves settled, ([+-]\d+) to ([+-]\d+))?, (\d+) s")
+# A board whose moves take some seconds together, and the line that tells how far the search of one of them is.
+SCORED = "-O-XX--O--XXXXOX-XOOXOXX---OOXXO--OOOXOO-OXOXOXOO-XXOO-O--XX---O X"
+SCORED_BOARDS = f"{QUICK}\n{SCORED}\n{QUICK}\n".encode()
+MOVE = r", ([a-h][1-8]): (\d+) of (\d+) replies settled(?:, ([+-]\d+) to ([+-]\d+))?"
+SHOWN_MOVE = re.compile(rf"line 2: {SCORED.count('-')} empty squares(?:{MOVE})?, \d+ s")
 
 
 class Said:
@@ -61,12 +66,12 @@ def read_all(terminal, started):
     return said
 
 
-def on_terminal(words, output_too):
+def on_terminal(words, output_too, given=BOARDS):
     """The status of a run whose standard error is a terminal, what it wrote to standard output where that is a pipe, and what it said."""
     terminal, end = pty.openpty()
     output = end if output_too else subprocess.PIPE
     with subprocess.Popen(words, stdin=subprocess.PIPE, stdout=output, stderr=end) as started:
-        started.stdin.write(BOARDS)
+        started.stdin.write(given)
         started.stdin.close()
         os.close(end)
         said = read_all(terminal, started)
@@ -94,6 +99,32 @@ def wrong_line(said, score):
     return None
 
 
+def wrong_moves(said, scores):
+    """What is wrong with the lines of a run that scores moves, if anything: each is of the board, and encloses the score of a move of it."""
+    lines = [moment for moment in said.moments if moment.startswith("line ")]
+    told = 0
+    for line in lines:
+        found = SHOWN_MOVE.fullmatch(line)
+        if not found:
+            return f"showed {line!r}"
+        move, settled, replies, lower, upper = found.groups()
+        if move and (int(settled) > int(replies) or lower and not int(lower) <= scores[move] <= int(upper)):
+            return f"showed {line!r} of a move whose score is {scores[move]:+}"
+        told += bool(move)
+    return None if told and len(set(lines)) > 1 else f"was not renewed, or never told how far the search is: {lines!r}"
+
+
+def scoring(program):
+    """A step: by `scores` the line shows which move is searched."""
+    words = [program, "scores"]
+    plain = ran(words, SCORED_BOARDS, PATIENCE)
+    status, wrote, said = on_terminal(words, False, SCORED_BOARDS)
+    wrong = None if (plain.status, status, wrote) == (0, 0, plain.wrote) else f"status {status}, wrote {wrote!r}"
+    fields = plain.wrote.decode("ascii").splitlines()[1].split() if wrong is None else []
+    wrong = wrong or wrong_moves(said, dict(zip(fields[1::2], map(int, fields[0::2]))))
+    yield "the line of progress comes by scores, and tells of its moves", wrong or (None if said.left() == [""] else f"left {said.left()!r}")
+
+
 def steps(program):
     """A step for each way to run it: its name, and what is wrong with it, if anything."""
     words = [program, "solve", "--workers", "4", "--cells", "262144"]
@@ -111,3 +142,4 @@ def steps(program):
     status, _, said = on_terminal([program, "solve", "--cells", "262144"], True)
     wrong = None if (status, said.left()) == (0, [*answers, ""]) else f"status {status}, left {said.left()!r}"
     yield "the line of progress comes by one worker, and leaves only the answers on their terminal", wrong or wrong_line(said, score)
+    yield from scoring(program)

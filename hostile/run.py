@@ -4,7 +4,7 @@
     hostile/run.py [CRATES] [WORD ..]
 
 CRATES is the folder of the crates, `crates` if not given. Each step is a line, `ok` or `FAILED` and its name, and after a failure what is
-wrong. With words only the steps are run whose part is one of them: `statuses`, `flow`, `limits`, `seen`, `terminal`, `progress`,
+wrong. With words only the steps are run whose part is one of them: `statuses`, `texts`, `flow`, `limits`, `seen`, `terminal`, `progress`,
 `differential`, `recipes`, `refusals`, `c_library`, `installed`. The last line is `N passed, M failed`; the exit status is 1 where a step failed.
 """
 import os
@@ -22,6 +22,7 @@ import refusals
 import seen
 import statuses
 import terminal
+import texts
 
 
 def steps(crates, parts):
@@ -29,6 +30,7 @@ def steps(crates, parts):
     program = os.path.abspath(f"{crates}/othsolve/out/othsolve")
     every = {
         "statuses": lambda: statuses.steps(program),
+        "texts": lambda: texts.steps(program),
         "flow": lambda: flow.steps(program),
         "limits": lambda: limits.steps(program),
         "seen": lambda: seen.steps(program),

@@ -11,6 +11,7 @@ from running import EMPTY_BOOK, file_of, ran
 START = "---------------------------OX------XO--------------------------- X"
 FIVE_MOVES = "------------------XO------XXX------OXX-----O-------------------- O"
 FULL_BOARD = "X" * 64 + " X"
+EDGE = "--OXOOO-" + "O" * 56 + " X"
 CORNERS = "X" * 60 + "OOO- X"
 TWO_CORNERS = "-OXXXXO-" + "X" * 56 + " X"
 VERSION = b"othsolve 0.1.0\n"
@@ -18,7 +19,7 @@ MEGABYTE = 1 << 20
 LITTLE = 64
 AT_ONCE = 5
 FAULTY_WORDS = re.compile(rb"^error: .+\n")
-COMMANDS = ("solve", "moves", "transcript", "play", "book-verify", "book-add")
+COMMANDS = ("solve", "scores", "moves", "transcript", "play", "book-verify", "book-add")
 
 
 class Case:
@@ -55,6 +56,9 @@ def done(folder):
     lines = f"{START}\n{CORNERS}\n{FULL_BOARD}\n".encode()
     yield Case("no input", ["solve"], wrote=b"", said=b"")
     yield Case("solve", ["solve"], lines, wrote=b"error 5 60\n+64 h8\n+64 end\n", said=b"")
+    yield Case("scores", ["scores"], lines, wrote=b"error 5 60\n+64 h8\n+64 end\n", said=b"")
+    words = ["scores", "--workers", "2", "--cells", "0", "--scoring", "discs"]
+    yield Case("scores by discs", words, f"{EDGE}\n{EDGE[:-1]}O\n".encode(), wrote=b"-49 h1 -63 b1\n+49 pass\n", said=b"")
     yield Case("moves", ["moves"], lines, wrote=b"d3 c4 f5 e6\nh8\nend\n", said=b"")
     yield Case("transcript", ["transcript"], b"\n", wrote=f"{START}\n".encode(), said=b"")
     yield Case("play", ["play"], f"{START} f5d6c3d3c4\n{START}".encode(), wrote=f"{FIVE_MOVES}\n{START}\n".encode(), said=b"")
@@ -81,8 +85,8 @@ def lines_of_every_kind():
     yield Case("every byte", ["solve"], bytes(at for at in range(256) if at != 10) + b"\n" + good, wrote=b"error 1\n+64 end\n")
     yield Case("empty lines", ["moves"], b"\n\n" + good + b"\n\n", wrote=b"error 1\nerror 1\nend\nerror 1\n")
     long_line = b"X" * (10 * MEGABYTE) + b"\n" + good + b"\n"
-    for command in ("solve", "moves"):
-        wrote = b"error 1\n" + (b"+64 end\n" if command == "solve" else b"end\n")
+    for command in ("solve", "scores", "moves"):
+        wrote = b"error 1\n" + (b"end\n" if command == "moves" else b"+64 end\n")
         yield Case(f"a line of 10 MB in {LITTLE} MB of memory, {command}", [command], long_line, wrote=wrote, preexec_fn=little_memory)
     endless = START.encode() + b" " + b"f5" * (5 * MEGABYTE) + b"\n" + good + b" \n"
     wrote = b"error 23 at 2\n" + good + b"\n"
@@ -111,6 +115,8 @@ def command_line(folder):
         ["solve", "--scoring", "best"],
         ["solve", "--book"],
         ["solve", "board"],
+        ["scores", "--workers", "17"],
+        ["scores", "--book", book],
         ["moves", "--workers", "1"],
         ["solve", "--version"],
         ["nothing"],
@@ -140,7 +146,15 @@ def devices(folder):
         yield Case(f"{name}: no such file", [*words, f"{folder}/nowhere"], status=1, wrote=b"", said=read)
         yield Case(f"{name}: a directory", [*words, folder], status=1, wrote=b"", said=read)
     yield Case("standard input is a directory", ["solve"], status=1, wrote=b"", said=read, stdin=os.open(folder, os.O_RDONLY))
-    for words in (["solve"], ["moves"], ["book-verify", f"{folder}/empty.book"], ["book-add", f"{folder}/empty.book"], ["--help"], ["--version"]):
+    for words in (
+        ["solve"],
+        ["scores"],
+        ["moves"],
+        ["book-verify", f"{folder}/empty.book"],
+        ["book-add", f"{folder}/empty.book"],
+        ["--help"],
+        ["--version"],
+    ):
         said = b"" if words[0].startswith("--") else write
         yield Case(f"{words[0]}: a full device", words, line, status=1, said=said, stdout=os.open("/dev/full", os.O_WRONLY))
         yield Case(f"{words[0]}: a broken pipe", words, line, status=1, said=said, stdout=broken_pipe())
@@ -205,6 +219,7 @@ def is_answered_at_once(program, words, lines):
 def lines_one_by_one(program):
     """A step for each command that answers lines."""
     boards = [(FULL_BOARD, "+64 end"), (TWO_CORNERS, "+64 a1 h1"), ("X", "error 1"), (FULL_BOARD, "+64 end")]
+    scores = [(FULL_BOARD, "+64 end"), (TWO_CORNERS, "+64 a1 +64 h1"), ("X", "error 1"), (EDGE, "-50 h1 -64 b1")]
     moves = [(START, "d3 c4 f5 e6"), ("X", "error 1"), (FULL_BOARD, "end")]
     games = [("", START), ("f5d", "error 1"), ("", START)]
     played = [(f"{START} f5d6c3d3c4", FIVE_MOVES), (f"{START} f5d", "error 21"), (START, START)]
@@ -212,6 +227,8 @@ def lines_one_by_one(program):
         (["solve"], boards),
         (["solve", "--workers", "4"], boards),
         (["solve", "--workers", "16", "--cells", "0"], boards),
+        (["scores"], scores),
+        (["scores", "--workers", "4"], scores),
         (["moves"], moves),
         (["transcript"], games),
         (["play"], played),

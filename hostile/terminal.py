@@ -86,6 +86,7 @@ def silent_pipe():
 USAGES = (
     (["solve", "boards.txt"], "othsolve solve [OPTIONS] < BOARDS"),
     (["solve", "-"], "othsolve solve [OPTIONS] < BOARDS"),
+    (["scores", "boards.txt"], "othsolve scores [OPTIONS] < BOARDS"),
     (["moves", "boards.txt"], "othsolve moves < BOARDS"),
     (["transcript", "games.txt"], "othsolve transcript < GAMES"),
     (["play", "games.txt"], "othsolve play < GAMES"),

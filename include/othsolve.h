@@ -8,8 +8,7 @@
  * Score     What the mover gets if both sides play best, -64 to 64: its discs less the opponent's where the game is over.
  *           By OTH_SCORING_WINNER the squares that stay empty go to the winner, by OTH_SCORING_DISCS to nobody.
  * Answers   Each call but oth_seat_free returns OTH_DONE, which is 0, or the number of a refusal (oth_solve_within also
- *           OTH_STOPPED, which is none). A refused call writes
- *           nothing, but for `place` of the two readers.
+ *           OTH_STOPPED, which is none). A refused call writes nothing, but for `place` of the calls that have it.
  *
  * Proved of each call is the contract beside it in crates/oth_c/src: what it writes is exactly what the rules over single
  * squares say, scores and best moves are those of full minimax, and a refusal comes exactly where it is named here.
@@ -20,10 +19,11 @@
  *    and the number of its bytes, which the call may write, and which hold some value before. No text ends with a NUL.
  * 2. What a call may write, no other pointer of that call leads to, and no other thread reads or writes meanwhile. Boards
  *    and positions go by value: oth_play(x, square, &x) is allowed, and writes the board after the move over x.
- * 3. The program's malloc, realloc and free are of one allocator, which aligns as C asks. Only oth_solve_alone and the calls
- *    of a seat use them.
+ * 3. The program's malloc, realloc and free are of one allocator, which aligns as C asks. Only oth_solve_alone, oth_scores
+ *    and the calls of a seat use them.
  * 4. No call is made from a signal handler, or from the forked child of a process with threads.
- * 5. A thread that calls oth_solve_alone, oth_solve_over or oth_solve_within has 1 MB of stack. The other calls need a few kilobytes.
+ * 5. A thread that solves (oth_solve_alone, oth_solve_over, oth_solve_within, oth_scores, oth_scores_over) has 1 MB of
+ *    stack. The other calls need a few kilobytes.
  * 6. An oth_seat is {NULL} before its first call. After that only calls change it, one call at a time; it isn't copied, and
  *    no copy is used. It may be handed to another thread where that comes after the call before (a thread's start or join,
  *    a lock). At last oth_seat_free has each seat.
@@ -84,6 +84,7 @@ enum { OTH_SCORING_WINNER = 0, OTH_SCORING_DISCS = 1 };
 enum { OTH_KIND_MOVE = 0, OTH_KIND_PASS = 1, OTH_KIND_END = 2 };
 enum { OTH_BLACK = 0, OTH_WHITE = 1 };
 enum { OTH_BOARD_LINE = 66, OTH_MOVES_LINE = 191 };
+enum { OTH_NO_SCORE = -128 };
 
 /* The discs of the mover and of the opponent. */
 typedef struct {
@@ -104,6 +105,14 @@ typedef struct {
     int8_t score;
     uint8_t kind;
 } oth_answer;
+
+/* The answer of a board, its legal squares, and the score of each move at the number of its square: the value of the board
+ * after it, for who moves. At a square that is no legal move stands OTH_NO_SCORE, which is less than each score. */
+typedef struct {
+    oth_answer answer;
+    uint64_t moves;
+    int8_t scores[64];
+} oth_move_scores;
 
 /* Bounds of a board's value for the mover: it is neither less than `lower` nor more than `upper`. */
 typedef struct {
@@ -136,6 +145,11 @@ uint32_t oth_play(oth_board board, uint8_t square, oth_board *next);
  * Refusals, the first that holds: OTH_OVERLAP, OTH_SCORING, OTH_EMPTIES, OTH_CELLS. */
 uint32_t oth_solve_alone(oth_board board, uint8_t scoring, uint32_t cells, oth_answer *answer);
 
+/* The same, and the score of every move: the best moves are those with the greatest score. It takes longer, since each of
+ * them is exact, but less than oth_solve_alone on each board after a move: some 0.8 of it at 14 and 16 empty squares.
+ * Refusals, the first that holds: OTH_OVERLAP, OTH_SCORING, OTH_EMPTIES, OTH_CELLS. */
+uint32_t oth_scores(oth_board board, uint8_t scoring, uint32_t cells, oth_move_scores *scores);
+
 /* A table for several threads and many boards. Each thread has a seat of it, makes its calls from there, and finds what all
  * threads have stored. Made with one seat, before the threads start:
  *
@@ -159,12 +173,16 @@ uint32_t oth_seat_new(oth_seat *seat, oth_seat *more);
  * Refusals, the first that holds: OTH_OVERLAP, OTH_EMPTIES, OTH_NO_SEAT. */
 uint32_t oth_solve_over(oth_seat *seat, oth_board board, oth_answer *answer);
 
-/* The same for a caller who can't wait: once about `most` boards were looked up, in the table and in a memory beside it, the
- * search is ended, and the call returns OTH_STOPPED, writes true bounds of the board's value, and no answer. What it found
- * stays in the table, and a further call from there goes on with it: so `most` may be small, and calls be made, each with
- * more, until there is no more time. It ends a little later than that: at the next board of 11 and more empty squares, and
- * not within the guess of the score with which each search begins. Where it returns OTH_DONE it has written the answer, and
- * no bounds.
+/* The same, and the score of every move, as oth_scores.
+ * Refusals, the first that holds: OTH_OVERLAP, OTH_EMPTIES, OTH_NO_SEAT. */
+uint32_t oth_scores_over(oth_seat *seat, oth_board board, oth_move_scores *scores);
+
+/* As oth_solve_over, for a caller who can't wait: once about `most` boards were looked up, in the table and in a memory
+ * beside it, the search is ended, and the call returns OTH_STOPPED, writes true bounds of the board's value, and no answer.
+ * What it found stays in the table, and a further call from there goes on with it: so `most` may be small, and calls be made,
+ * each with more, until there is no more time. It ends a little later than that: at the next board of 11 and more empty
+ * squares, and not within the guess of the score with which each search begins. Where it returns OTH_DONE it has written the
+ * answer, and no bounds.
  * Refusals, the first that holds: OTH_OVERLAP, OTH_EMPTIES, OTH_NO_SEAT. */
 uint32_t oth_solve_within(oth_seat *seat, oth_board board, uint64_t most, oth_answer *answer, oth_bounds *bounds);
 
@@ -181,6 +199,11 @@ uint32_t oth_read_board(const uint8_t *text, size_t length, oth_position *positi
  * Refusals: OTH_GAME_LENGTH, or else of the first faulty pair the first that holds: OTH_GAME_SQUARE, OTH_GAME_OVER,
  * OTH_GAME_ILLEGAL. */
 uint32_t oth_read_transcript(const uint8_t *text, size_t length, oth_position *position, uint8_t *place);
+
+/* The same from any position, whose mover moves first, or passes where it has no move and the other side has one. So the
+ * mover of `next` has a move unless the game is over. `next` may be where `position` was taken from, which goes by value.
+ * Refusals: OTH_OVERLAP, or else OTH_MOVER, or else those of oth_read_transcript. */
+uint32_t oth_play_game(oth_position position, const uint8_t *text, size_t length, oth_position *next, uint8_t *place);
 
 /* Prints the board line of a position, OTH_BOARD_LINE bytes, into the front of a buffer.
  * Refusals, the first that holds: OTH_OVERLAP, OTH_MOVER, OTH_ROOM. */

@@ -14,7 +14,7 @@ import sys
 from collections.abc import Iterator
 from dataclasses import dataclass
 
-from othsolve import MOST_EMPTIES, Answer, Board, Kind, Side, solve_all
+from othsolve import MOST_EMPTIES, Answer, Board, Side, solve_all
 
 
 @dataclass(frozen=True)
@@ -30,12 +30,10 @@ def plies(game: str, empties: int) -> Iterator[Ply]:
     """The moves of a game from so many empty squares on."""
     board = Board.start()
     for at in range(0, len(game), 2):
-        if board.kind() is Kind.PASS:
-            board = board.pass_turn()
-        after = board.play(game[at : at + 2])
+        move = game[at : at + 2]
         if board.empties <= empties:
-            yield Ply(board, game[at : at + 2], after)
-        board = after
+            yield Ply(board, move, board.play(move))
+        board = board.play_game(move)
 
 
 def ply_line(ply: Ply, best: Answer, worth: int) -> str:

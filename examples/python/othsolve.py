@@ -1,12 +1,12 @@
 """Othello's rules, its solver and its texts for Python, by `ctypes` over the shared object that `./install` makes. Nothing else is needed.
 
-    from othsolve import Board, solve_all
+    from othsolve import Board
 
     board = Board.of_line("--OXOOO-OOOOOOOOOOOOOOOOOOOOOOOOOOOOOOOOOOOOOOOOOOOOOOOOOOOOOOOO X")
     answer = board.solve()
     print(answer.score, answer.best)
-    for move, reply in zip(board.moves(), solve_all(board.play(move) for move in board.moves())):
-        print(move, -reply.score)
+    for move, score in board.scores().items():
+        print(move, score)
 
 This prints
 
@@ -115,6 +115,13 @@ class _Answer(ctypes.Structure):
     _fields_ = [("best", ctypes.c_uint64), ("score", ctypes.c_int8), ("kind", ctypes.c_uint8)]
 
 
+class _Scores(ctypes.Structure):
+    _fields_ = [("answer", _Answer), ("moves", ctypes.c_uint64), ("scores", ctypes.c_int8 * 64)]
+
+    def by_name(self) -> dict[str, int]:
+        return {move: self.scores[_number(move)] for move in _names(self.moves)}
+
+
 class _Bounds(ctypes.Structure):
     _fields_ = [("lower", ctypes.c_int8), ("upper", ctypes.c_int8)]
 
@@ -135,13 +142,16 @@ def _library() -> ctypes.CDLL:
         "oth_flips": [_Board, ctypes.c_uint8, words],
         "oth_play": [_Board, ctypes.c_uint8, ctypes.POINTER(_Board)],
         "oth_solve_alone": [_Board, ctypes.c_uint8, ctypes.c_uint32, ctypes.POINTER(_Answer)],
+        "oth_scores": [_Board, ctypes.c_uint8, ctypes.c_uint32, ctypes.POINTER(_Scores)],
         "oth_table_new": [ctypes.c_uint32, ctypes.c_uint8, seat],
         "oth_seat_new": [seat, seat],
         "oth_solve_over": [seat, _Board, ctypes.POINTER(_Answer)],
         "oth_solve_within": [seat, _Board, ctypes.c_uint64, ctypes.POINTER(_Answer), ctypes.POINTER(_Bounds)],
+        "oth_scores_over": [seat, _Board, ctypes.POINTER(_Scores)],
         "oth_seat_free": [seat],
         "oth_read_board": [ctypes.c_char_p, ctypes.c_size_t, ctypes.POINTER(_Position), place],
         "oth_read_transcript": [ctypes.c_char_p, ctypes.c_size_t, ctypes.POINTER(_Position), place],
+        "oth_play_game": [_Position, ctypes.c_char_p, ctypes.c_size_t, ctypes.POINTER(_Position), place],
         "oth_print_board": [_Position, ctypes.c_char_p, ctypes.c_size_t],
         "oth_print_moves": [_Board, ctypes.c_char_p, ctypes.c_size_t, ctypes.POINTER(ctypes.c_size_t)],
     }
@@ -157,6 +167,13 @@ _LIB = _library()
 def _done(code: int, place: int | None = None) -> None:
     if code:
         raise Refused(code, place)
+
+
+def _cells(cells: int) -> int:
+    """A number of cells that the library can be asked for."""
+    if not 0 <= cells < 1 << 32:
+        raise Refused(_CELLS)
+    return cells
 
 
 def _names(squares: int) -> tuple[str, ...]:
@@ -226,16 +243,20 @@ class Board:
         return cls._read(_LIB.oth_read_transcript, text.removesuffix("\n"))
 
     @classmethod
-    def _read(cls, call, text: str) -> Board:
+    def _read(cls, call, text: str, *given: _Position) -> Board:
         line = text.encode("utf-8", "replace")
         position, place = _Position(), ctypes.c_uint8()
-        code = call(line, len(line), ctypes.byref(position), ctypes.byref(place))
+        code = call(*given, line, len(line), ctypes.byref(position), ctypes.byref(place))
         _done(code, place.value)
         return cls(position.board.own, position.board.opp, Side(position.mover))
 
     @property
     def _words(self) -> _Board:
         return _Board(self.own, self.opp)
+
+    @property
+    def _position(self) -> _Position:
+        return _Position(self._words, self.mover)
 
     @property
     def empties(self) -> int:
@@ -266,6 +287,10 @@ class Board:
         _done(_LIB.oth_play(self._words, _number(square), ctypes.byref(after)))
         return Board(after.own, after.opp, self.mover.other)
 
+    def play_game(self, text: str) -> Board:
+        """The board that moves lead to from this one, as "f5d6c3". Forced passes are not written, and are put in, the first one too."""
+        return self._read(_LIB.oth_play_game, text.removesuffix("\n"), self._position)
+
     def pass_turn(self) -> Board:
         """The board after a pass. It is a ValueError where the side has a move, or the game is over."""
         kind = self.kind()
@@ -283,16 +308,23 @@ class Board:
         Nothing ends a search early, and Ctrl-C is heard when it is done. Some tenths of a second at 18 empty squares become five to six times as much
         with every two more.
         """
-        if not 0 <= cells < 1 << 32:
-            raise Refused(_CELLS)
         answer = _Answer()
-        _done(_LIB.oth_solve_alone(self._words, Scoring(scoring), cells, ctypes.byref(answer)))
+        _done(_LIB.oth_solve_alone(self._words, Scoring(scoring), _cells(cells), ctypes.byref(answer)))
         return Answer(answer.score, _names(answer.best), Kind(answer.kind))
+
+    def scores(self, scoring: Scoring = Scoring.WINNER, cells: int = 65_536) -> dict[str, int]:
+        """The score of each legal move, rising: what the board after it is worth to the side that moves. The best moves have the greatest.
+
+        There are none where the side passes or the game is over. It takes longer than `solve`, and less than a `solve` for each move.
+        """
+        found = _Scores()
+        _done(_LIB.oth_scores(self._words, Scoring(scoring), _cells(cells), ctypes.byref(found)))
+        return found.by_name()
 
     def line(self) -> str:
         """The board line."""
         line = ctypes.create_string_buffer(_BOARD_LINE)
-        _done(_LIB.oth_print_board(_Position(self._words, self.mover), line, _BOARD_LINE))
+        _done(_LIB.oth_print_board(self._position, line, _BOARD_LINE))
         return line.raw.decode()
 
     def moves_line(self) -> str:
@@ -319,12 +351,10 @@ class Table:
     """
 
     def __init__(self, cells: int = 65_536, scoring: Scoring = Scoring.WINNER) -> None:
-        if not 0 <= cells < 1 << 32:
-            raise Refused(_CELLS)
         self._lock = threading.Lock()
         self._first = _Seat()
         self._free: list[_Seat] = []
-        _done(_LIB.oth_table_new(cells, Scoring(scoring), ctypes.byref(self._first)))
+        _done(_LIB.oth_table_new(_cells(cells), Scoring(scoring), ctypes.byref(self._first)))
 
     def solve(self, board: Board) -> Answer:
         """The score, all best moves and the kind of a board of at most MOST_EMPTIES empty squares, by the table's scoring."""
@@ -334,6 +364,15 @@ class Table:
         finally:
             self._leave(seat)
         return Answer(answer.score, _names(answer.best), Kind(answer.kind))
+
+    def scores(self, board: Board) -> dict[str, int]:
+        """The score of each legal move, rising, by the table's scoring, as `Board.scores`."""
+        seat, found = self._seat(), _Scores()
+        try:
+            _done(_LIB.oth_scores_over(ctypes.byref(seat), board._words, ctypes.byref(found)))
+        finally:
+            self._leave(seat)
+        return found.by_name()
 
     def solve_within(self, board: Board, most: int) -> Answer | Bounds:
         """As `solve`, where about `most` boards may be looked up; if these are too few, what is known by then.

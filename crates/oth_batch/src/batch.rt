@@ -2,12 +2,13 @@
 
 ghost use Rattle.std.specs.Prelude.{◌≡◌, All, Contains, IfSome};
 
+use crate::asked::{Asked, Found};
 use crate::boards::Boards;
 use crate::jobs::Jobs;
 use oth_book::Book;
-use oth_pool::{Gate, solve};
+use oth_pool::{Gate, scores, solve};
 use oth_rules::{Board, Scoring};
-use oth_search::Answer;
+use oth_search::{Answer, Scores};
 use std::alloc::Global;
 use std::thread::Threads;
 
@@ -39,7 +40,7 @@ impl<'b, R: Threads + Sync, G: Gate> Batch<'b, R, G> {
         ensures scoring { All (λ a. a.scoring ≡ self.now.scoring) result.items }
     {
         let boards = boards.as_slice();
-        let Some(jobs) = Jobs::of(&*self, boards) else {
+        let Some(jobs) = Jobs::of(&*self, Asked::Answer, boards) else {
             return Vec::new(self.alloc);
         };
         jobs.do_all();
@@ -65,7 +66,7 @@ impl<'b, R: Threads + Sync, G: Gate> Batch<'b, R, G> {
     }
 
     // The answer of the board by one worker, if it has at most 30 empty squares and the cells are a lawful number.
-    pub(crate) fn answer_of(&self, board: &Board) -> Option<Answer>
+    fn answer_of(&self, board: &Board) -> Option<Answer>
         ensures board { IfSome result (λ a. a.board ≡ board.now) }
         ensures scoring { IfSome result (λ a. a.scoring ≡ self.now.scoring) }
     {
@@ -80,6 +81,24 @@ impl<'b, R: Threads + Sync, G: Gate> Batch<'b, R, G> {
             self.scoring,
         );
         solved.ok()
+    }
+
+    // The scores of the board's moves by one worker, as for its answer.
+    fn scores_of(&self, board: &Board) -> Option<Scores>
+        ensures board { IfSome result (λ s. s.answer.board ≡ board.now) }
+        ensures scoring { IfSome result (λ s. s.answer.scoring ≡ self.now.scoring) }
+    {
+        let (rt, alloc) = (self.rt, self.alloc);
+        let (cells, book, scoring) = (self.cells, self.book, self.scoring);
+        scores(rt, alloc, board, 1, cells, self.gate, book, scoring).ok()
+    }
+
+    // What is asked of the board, by one worker.
+    pub(crate) fn find(&self, asked: Asked, board: &Board) -> Option<Found> {
+        match asked {
+            Asked::Answer => Some(Found::Answer(self.answer_of(board)?)),
+            Asked::Scores => Some(Found::Scores(self.scores_of(board)?)),
+        }
     }
 }
 

@@ -2,6 +2,7 @@
 
 ghost use Rattle.std.specs.Prelude.{◌≤◌};
 
+use crate::asked::Asked;
 use oth_rules::Board;
 
 // What starting a thread is worth, and a little more: some 0.3 milliseconds.
@@ -10,10 +11,17 @@ const EFFORT_OF_A_THREAD: u64 = 1 << 13;
 /// Boards of more empty squares are left to all workers together, so that answers don't wait long for each other.
 pub const MOST_EMPTIES_FOR_ONE: u8 = 18;
 
-/// How long a board takes to solve, in units of some 40 nanoseconds: with two more empty squares five to six times as
-/// long.
-pub fn effort(board: &Board) -> u64 {
-    1 << (board.empties() as u32 * 5 / 4).min(40)
+// The scores of all moves of a board take about as long as the answer of one with so many more empty squares.
+const EMPTIES_FOR_SCORES: u32 = 2;
+
+/// How long it takes to find what is asked of a board, in units of some 40 nanoseconds: with two more empty squares
+/// five to six times as long.
+pub fn effort(asked: Asked, board: &Board) -> u64 {
+    let empties = match asked {
+        Asked::Answer => board.empties() as u32,
+        Asked::Scores => board.empties() as u32 + EMPTIES_FOR_SCORES,
+    };
+    1 << (empties * 5 / 4).min(40)
 }
 
 /// Who solves which boards of a batch.
@@ -21,22 +29,24 @@ pub fn effort(board: &Board) -> u64 {
 pub struct Split {
     /// The number of workers for which there is work.
     pub crew: usize,
+    asked: Asked,
     most: u64,
 }
 
 impl Split {
     /// As many workers as pay, at most as many as are asked for, and no more than there are boards for one worker.
-    pub fn of(boards: &[Board], workers: u8) -> Split
+    pub fn of(asked: Asked, boards: &[Board], workers: u8) -> Split
         ensures { result.crew ≤ workers }
     {
         let mut total = 0u64;
         for board in boards {
-            total = total.saturating_add(effort(board));
+            total = total.saturating_add(effort(asked, board));
         }
         let crew = (total / EFFORT_OF_A_THREAD).min(workers as u64);
         let most = total / crew.max(1);
         Split {
-            crew: count_to(boards, most).min(crew as usize),
+            crew: count_to(asked, boards, most).min(crew as usize),
+            asked,
             most,
         }
     }
@@ -44,15 +54,15 @@ impl Split {
     /// Whether one worker solves this board. One that takes longer than a worker's share of the batch is left to all of
     /// them.
     pub fn is_for_one(&self, board: &Board) -> bool {
-        effort(board) <= self.most
+        effort(self.asked, board) <= self.most
     }
 }
 
 // How many of the boards take at most so long.
-fn count_to(boards: &[Board], most: u64) -> usize {
+fn count_to(asked: Asked, boards: &[Board], most: u64) -> usize {
     let mut count = 0usize;
     for board in boards {
-        if effort(board) <= most {
+        if effort(asked, board) <= most {
             count = count.saturating_add(1);
         }
     }

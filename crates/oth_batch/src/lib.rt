@@ -1,6 +1,8 @@
-//! Boards that wait together, solved side by side: each by one worker; and claims of a book that are tested so.
+//! Boards that wait together, solved or scored side by side: each by one worker; and claims of a book that are tested
+//! so.
 #![tactic(auto)]
 
+mod asked;
 mod batch;
 mod beside;
 mod boards;
@@ -9,6 +11,7 @@ mod found;
 mod jobs;
 mod verifying;
 
+pub use asked::Asked;
 pub use batch::Batch;
 pub use boards::{Boards, MOST_BOARDS};
 pub use effort::MOST_EMPTIES_FOR_ONE;

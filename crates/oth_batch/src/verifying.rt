@@ -17,7 +17,7 @@ use std::thread::Threads;
 
 // Boards of fewer empty squares that are not in a batch are left to the caller's thread alone: starting a thread takes
 // longer.
-const FEWEST_EMPTIES_SHARED: u8 = 13;
+const FEWEST_EMPTIES_TOGETHER: u8 = 13;
 
 /// The book of claims that are all true, or the first that isn't, as [`oth_book::verify`] gives it. Boards that one
 /// worker is enough for are solved side by side, larger ones one after the other by all workers, over tables of at most
@@ -75,7 +75,7 @@ impl<'b, R: Threads + Sync> ClaimSolver<'b, R> {
 
     // The answer of the board by all workers, where that pays.
     fn answer_by_all(&self, board: &Board) -> Option<Answer> {
-        if board.empties() < FEWEST_EMPTIES_SHARED || board.is_over() {
+        if board.empties() < FEWEST_EMPTIES_TOGETHER || board.is_over() {
             return None;
         }
         let batch = &self.batch;

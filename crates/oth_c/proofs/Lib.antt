@@ -1,2 +1,3 @@
+pub mod Scored
 pub mod Seats
 pub mod Values

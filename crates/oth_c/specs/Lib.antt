@@ -4,6 +4,7 @@ pub mod Codes
 pub mod Owned
 pub mod Positions
 pub mod Rules
+pub mod Scores
 pub mod Seats
 pub mod Solving
 pub mod Texts

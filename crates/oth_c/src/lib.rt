@@ -9,6 +9,7 @@ mod loose;
 mod position;
 mod refusal;
 mod rules;
+mod scores;
 mod seat;
 mod seated;
 mod sharing;

@@ -11,7 +11,9 @@ ghost use Rattle.oth_c.specs.declared.refusal.Refusal.TheVariants as refusal;
 use crate::cells::CallCells;
 use crate::refusal::Refusal;
 use oth_rules::{Board, Scoring};
-use oth_search::{Answer, Limited, Memories, Stopped, solve_until, solve_with};
+use oth_search::{
+    Answer, Limited, Memories, Scores, Stopped, scores_with, solve_until, solve_with,
+};
 use oth_table::{SharedTable, TableCells, TableError, TableSeat};
 use std::alloc::Global;
 use std::marker::Model;
@@ -88,6 +90,21 @@ impl Seated {
         let answer = solve_with(board, &mut cells, scoring);
         let seat = cells.into_seat();
         (Seated { table, seat }, answer)
+    }
+
+    /// The scores of a board's moves by the table's scoring, and the seat, as it then is.
+    pub fn scores(self, alloc: Global, board: Board) -> (Seated, Scores)
+        ensures kept { fixed_of result.0 ≡ fixed_of self }
+        ensures board { result.1.answer.board ≡ board }
+        ensures scoring { result.1.answer.scoring ≡ self.table.terms.scoring }
+    {
+        let Seated { table, seat } = self;
+        let scoring = table.scoring();
+        let memories = Memories::of(alloc, board.empties(), false);
+        let mut cells = CallCells::of(TableCells::of(&table, seat), memories);
+        let scores = scores_with(board, &mut cells, scoring);
+        let seat = cells.into_seat();
+        (Seated { table, seat }, scores)
     }
 
     /// The answer of a board by the table's scoring, or what is known of it when so many boards were looked up; and the

@@ -1,6 +1,6 @@
 //! The solver, by the caller's thread alone.
 
-ghost use Rattle.std.specs.Prelude.{◌≡◌, ◌≢◌, ◌≤◌, IfOk, IfErr};
+ghost use Rattle.std.specs.Prelude.{◌≡◌, ◌≢◌, ◌≤◌, IfOk, IfErr, IfSome};
 ghost use Rattle.oth_rules.specs.Position.{empty_count};
 ghost use Rattle.oth_search.specs.Full.{IsFullMinimax};
 ghost use Rattle.oth_table.specs.Calls.{IsSeatOf};
@@ -16,7 +16,7 @@ use crate::cells::CallCells;
 use crate::refusal::{DONE, Refusal};
 use oth_rules::{Board, Scoring};
 use oth_search::{Answer, MOST_EMPTIES, Memories, solve_alone, solve_with};
-use oth_table::{SharedTable, TableCells, TableError, TableSeat};
+use oth_table::{SharedTable, TableCells, TableSeat, is_size};
 use std::alloc::Global;
 
 /// Writes the score and all best moves of a board of at most 30 empty squares by full minimax, and what its mover does.
@@ -51,19 +51,36 @@ fn solved(alloc: Global, board: OthBoard, scoring: u8, cells: u32) -> Result<Ans
     ensures full { IfOk result (IsFullMinimax (position board) (scoring_of scoring)) }
     ensures err { IfErr result (Refuses board scoring cells) }
 {
+    let (board, scoring) = accepted(board, scoring, cells)?;
+    Ok(match own_table(alloc, cells, scoring) {
+        Some((table, seat)) => over(alloc, board, &table, seat, scoring),
+        None => without_table(&board, scoring),
+    })
+}
+
+/// The board of these words and the scoring of this number, where they are searched with so many cells; else the first
+/// refusal.
+pub fn accepted(board: OthBoard, scoring: u8, cells: u32) -> Result<(Board, Scoring), Refusal>
+    ensures accepted { IfOk result (λ x. Accepts board scoring cells) }
+    ensures given { IfOk result (λ x. (x.0 ≡ position board) × (x.1 ≡ scoring_of scoring)) }
+    ensures err { IfErr result (Refuses board scoring cells) }
+{
     let board = board.board()?;
     let scoring = scoring_of(scoring)?;
     if board.empties() > MOST_EMPTIES {
         return Err(Refusal::Empties);
     }
-    if cells == 0 {
-        return Ok(without_table(&board, scoring));
+    if cells != 0 && !is_size(cells) {
+        return Err(Refusal::Cells);
     }
-    match SharedTable::new(alloc, cells, scoring) {
-        Ok((table, seat)) => Ok(over(alloc, board, &table, seat, scoring)),
-        Err(TableError::Cells) => Err(Refusal::Cells),
-        Err(_) => Ok(without_table(&board, scoring)),
-    }
+    Ok((board, scoring))
+}
+
+/// A table of so many cells, and its first seat. There is none of 0 cells, or where there is no memory.
+pub fn own_table(alloc: Global, cells: u32, scoring: Scoring) -> Option<(SharedTable, TableSeat)>
+    ensures { IfSome result (λ x. IsSeatOf x.0 x.1) }
+{
+    SharedTable::new(alloc, cells, scoring).ok()
 }
 
 // The answer by a search without a table.

@@ -11,13 +11,16 @@ ghost use Rattle.oth_c.specs.Boards.{position};
 ghost use Rattle.oth_c.specs.Codes.{code_of};
 ghost use Rattle.oth_c.specs.Positions.{shown, words_of};
 ghost use Rattle.oth_c.specs.declared.refusal.Refusal.TheVariants as refusal;
-ghost use Rattle.oth_c.specs.Texts.{line_code, line_place, moves_line_code, print_code, transcript_code};
-ghost use Rattle.oth_c.specs.Texts.{transcript_place};
+ghost use Rattle.oth_c.specs.Texts.{game_code, game_place, game_reading, line_code, line_place};
+ghost use Rattle.oth_c.specs.Texts.{moves_line_code, print_code, transcript_code, transcript_place};
 
 use crate::board::OthBoard;
 use crate::position::OthPosition;
 use crate::refusal::{DONE, Refusal};
-use oth_text::{LineFault, TranscriptFault, moves_line, read_board, read_transcript, write_board};
+use oth_text::{
+    LineFault, Position, TranscriptFault, moves_line, play_transcript, read_board, read_transcript,
+    write_board,
+};
 
 /// Writes the position of a board line of 66 bytes. `place` gets the place, from 1, of the byte of refusal 12, and else
 /// 0. Refusals 11 to 14: the length, a cell, byte 65, byte 66.
@@ -78,7 +81,46 @@ pub extern "C" fn oth_read_transcript(
     ensures shown { (p : PositionShown) → transcript_reading text.now ≡ Ok p → position.new ≡ words_of p }
     ensures kept { (f : FaultOfTranscript) → transcript_reading text.now ≡ Err f → position.new ≡ position.old }
 {
-    match read_transcript(text) {
+    written(read_transcript(text), position, place)
+}
+
+/// Writes the position that a transcript leads to from another one, whose mover moves first, or passes where it must.
+/// `place` gets the number, from 1, of the pair of refusals 22 to 24, and else 0. Refusals 1 and 8 of the position,
+/// then 21 to 24 of the text, as for a transcript from the start.
+#[unsafe(no_mangle)]
+pub extern "C" fn oth_play_game(
+    position: OthPosition,
+    text: &[u8],
+    next: &mut OthPosition,
+    place: &mut u8,
+) -> u32
+    ensures code { result ≡ game_code position text.now }
+    ensures place { place.new ≡ game_place position text.now }
+    ensures shown { (p : PositionShown) → result ≡ DONE → game_reading position text.now ≡ Ok p
+        → next.new ≡ words_of p }
+    ensures kept { result ≢ DONE → next.new ≡ next.old }
+{
+    match position.position() {
+        Ok(from) => written(play_transcript(from, text), next, place),
+        Err(refusal) => {
+            *place = 0;
+            refusal.code()
+        }
+    }
+}
+
+// Writes the position of a reading, and the place of its fault.
+fn written(
+    reading: Result<Position, TranscriptFault>,
+    position: &mut OthPosition,
+    place: &mut u8,
+) -> u32
+    ensures code { result ≡ transcript_code reading }
+    ensures place { place.new ≡ transcript_place reading }
+    ensures shown { (p : PositionShown) → reading ≡ Ok p → position.new ≡ words_of p }
+    ensures kept { (f : FaultOfTranscript) → reading ≡ Err f → position.new ≡ position.old }
+{
+    match reading {
         Ok(read) => {
             *position = OthPosition::of(&read);
             *place = 0;

@@ -13,7 +13,7 @@ use std::{env, io};
 const BOARDS: u32 = 3_000_000;
 
 // How often a run goes over all boards.
-const ROUNDS: u32 = 10;
+const REPEATS: u32 = 10;
 
 // Where the random words begin.
 const SEED: u64 = 0x9e37_79b9_7f4a_7c15;
@@ -111,7 +111,7 @@ fn asked_form<R: Env + AllocGlobal>(rt: &R) -> io::Result<Option<Form>> {
 // The sum of what the form gives of all boards, in all rounds.
 fn sum(form: Form) -> u64 {
     let mut sum = 0u64;
-    for _ in 0..ROUNDS {
+    for _ in 0..REPEATS {
         sum = sum.wrapping_add(round(form));
     }
     sum

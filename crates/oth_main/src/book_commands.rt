@@ -36,8 +36,8 @@ use std::thread::{Threads, available_parallelism};
 // So many bytes are read at once.
 const BUFFER_LEN: usize = 16_384;
 
-// Status 0: all was done.
-const DONE: u8 = 0;
+/// Status 0: all was done.
+pub const STATUS_DONE: u8 = 0;
 
 // The workers where nobody asks for a number and nobody knows how many processors there are.
 const WORKERS: u8 = 4;
@@ -68,7 +68,7 @@ pub fn book_verify<T: Threads + Sync, W: Sink, E: Sink>(
         Ok(book) => {
             let ok = Message::of(b"book ok ").number(book.len() as u64);
             if !writer.failed() && ok.write_to(writer) && writer.flush().is_ok() {
-                DONE
+                STATUS_DONE
             } else {
                 print_run_fault(RunFault::Write, errors)
             }
@@ -186,7 +186,7 @@ fn add_lines<T: Wait + Threads + Sync, R: Source, W: Sink, E: Sink>(
 {
     let mut addition = addition;
     match addition.run(rt, reader, writer, &mut errors.sink) {
-        Ok(()) => DONE,
+        Ok(()) => STATUS_DONE,
         Err(Stop::Run(fault)) => print_run_fault(fault, errors),
         Err(Stop::Refused(line, error)) => {
             Message::of(b"line ")

@@ -8,12 +8,12 @@ use oth_text::{Sink, write_all};
 
 // More than the longest line has: `line `, a number of at most 20 digits, `: `, a fault line of at most 24 bytes, and
 // byte 10.
-const CAPACITY: usize = 80;
+const MESSAGE_LEN: usize = 80;
 
 /// A line of texts and numbers.
 #[derive(Drop)]
 pub struct Message {
-    bytes: ArrayVec<u8, CAPACITY>,
+    bytes: ArrayVec<u8, MESSAGE_LEN>,
 }
 
 impl Message {

@@ -2,7 +2,7 @@
 
 use crate::under_search::UnderSearch;
 use oth_pool::Gate;
-use oth_rules::Board;
+use oth_rules::{Board, Square};
 use oth_search::Solved;
 use std::fmt;
 use std::sync::{Condvar, Mutex, MutexGuard, Wait};
@@ -15,7 +15,7 @@ const TICK: u64 = 250;
 const PATIENCE: u64 = 1;
 
 // How often a gate's call tries to write down what it hears before it lets it go.
-const TRIES: u32 = 1_000;
+const LOCK_TRIES: u32 = 1_000;
 
 // Of so many boards under search is remembered how far they are: more than are ever searched at once.
 const MOST_SEARCHES: usize = 32;
@@ -71,6 +71,18 @@ impl State {
         }
         None
     }
+
+    // How far the search of a board after one of this board's moves is, of that which began last, and the move.
+    fn search_after_move(&self, board: &Board) -> Option<(Square, UnderSearch)> {
+        let next = self.place % MOST_SEARCHES;
+        for passed in 0..MOST_SEARCHES {
+            let search = &self.searches[(next + MOST_SEARCHES - 1 - passed) % MOST_SEARCHES];
+            if let Some(square) = search.move_of(board) {
+                return Some((square, *search));
+            }
+        }
+        None
+    }
 }
 
 /// Hears what a run is at: a gate of it, for the line that shows it. Its calls wait for nobody.
@@ -99,7 +111,7 @@ impl Progress {
 
     // What was heard, where nobody else keeps it for long.
     fn heard(&self) -> Option<MutexGuard<'_, State>> {
-        for _ in 0..TRIES {
+        for _ in 0..LOCK_TRIES {
             let state = self.state.try_lock();
             if state.is_some() {
                 return state;
@@ -144,6 +156,7 @@ pub(crate) struct Look {
     board: Board,
     count: u64,
     search: Option<UnderSearch>,
+    after_move: Option<(Square, UnderSearch)>,
 }
 
 impl Progress {
@@ -186,6 +199,7 @@ impl Progress {
             board,
             count: state.count,
             search: state.search_of(&board),
+            after_move: state.search_after_move(&board),
         })
     }
 }
@@ -221,7 +235,9 @@ impl Since {
 }
 
 /// The line: the number of the line whose board is searched, the board's empty squares, how many of its moves need no
-/// further search, what its score lies between by now, and for how many seconds it has been awaited.
+/// further search, what its score lies between by now, and for how many seconds it has been awaited. Where a score is
+/// asked of each move: which move is searched, how many replies to it need no further search, and what its score lies
+/// between.
 #[derive(Drop)]
 pub(crate) struct Shown {
     pub look: Look,
@@ -239,7 +255,30 @@ impl fmt::Display for Shown {
             if let Some(bounds) = search.bounds_of(board) {
                 write!(f, ", {:+} to {:+}", bounds.lower, bounds.upper)?;
             }
+        } else if let Some((square, search)) = &self.look.after_move {
+            write_move(f, board, *square, search)?;
         }
         write!(f, ", {} s", self.seconds)
     }
+}
+
+// The move whose score is asked, and how far its search is.
+fn write_move<W: fmt::Write>(
+    f: &mut fmt::Formatter<W>,
+    board: &Board,
+    square: Square,
+    search: &UnderSearch,
+) -> fmt::Result {
+    let number = square.number();
+    let (column, row) = ((b'a' + number % 8) as char, number / 8 + 1);
+    let replies = search.root.board.moves().count_ones();
+    write!(
+        f,
+        ", {column}{row}: {} of {replies} replies settled",
+        search.settled
+    )?;
+    if let Some(bounds) = search.bounds_after(board, square) {
+        write!(f, ", {:+} to {:+}", bounds.lower, bounds.upper)?;
+    }
+    Ok(())
 }

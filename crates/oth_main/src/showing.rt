@@ -11,7 +11,7 @@ use std::thread::{Threads, join_mut};
 use std::time::Clock;
 
 // No line is longer.
-const WIDEST: usize = 120;
+const MOST_COLUMNS: usize = 120;
 
 // A terminal, and how many bytes of its last line are taken.
 #[derive(Drop)]
@@ -45,8 +45,8 @@ impl<E: Sink> Screen<E> {
 
     // So many blanks.
     fn blank(&mut self, count: usize) {
-        let blanks = [b' '; WIDEST];
-        self.write(&blanks[..count.min(WIDEST)]);
+        let blanks = [b' '; MOST_COLUMNS];
+        self.write(&blanks[..count.min(MOST_COLUMNS)]);
     }
 
     // Writes the bytes. A terminal that fails is passed over.

@@ -4,6 +4,7 @@
 mod batches;
 mod books;
 mod devices;
+mod gates;
 mod reasons;
 mod refused;
 mod rows;

@@ -55,7 +55,7 @@ can_settle tasks hand thief hands all =
       record {
         owners_know = λ d w below.
             let k = all.each d hand (omega arith) in
-            let N : ℕ × Owner → Type 0 = λ q. ((worker_view q.1).knows ≡ true) × ((x : ℕ) → times x (worker_view q.1).put ≤ dealt_of (vec_len tasks.thieves) tasks.count q.0 x) in
+            let N : ℕ × Owner → Type 0 = λ q. ((worker_view q.1).knows ≡ true) × ((x : ℕ) → times x (worker_view q.1).put ≡ dealt_of (vec_len tasks.thieves) tasks.count q.0 x) in
             let own : N (d, slice_index_or owners d w) = subst N (λ j. (k.1 j, sym (owner_is d w below) j)) (k.0.fits.owner_knows) in (
               own.0,
               λ x. let a = own.1 x in let b = less_put (vec_len tasks.thieves) tasks.count d x in

@@ -60,7 +60,7 @@ took_below tasks deque v w x took knows =
     let t : times x w.taken ≡ times x v.taken + times x (x ∷ []) = took_times x v w (Some x) took in
     let fair : times x w.taken ≤ times x w.put = took.1 x in
     let same : times x w.put ≡ times x v.put = ap (λ (u : Share). times x u.put) took.0 in
-    let put : times x v.put ≤ dealt_of (vec_len tasks.thieves) tasks.count deque x = knows.1 x in
+    let put : times x v.put ≡ dealt_of (vec_len tasks.thieves) tasks.count deque x = knows.1 x in
     let one = times_one x in
     backed (vec_len tasks.thieves) tasks.count deque x (omega arith)
 

@@ -23,7 +23,7 @@ taken_with x p = let v : Share = view p in times x v.taken
 abbrev pub taken_by : ℕ → Hand → ℕ
 taken_by x h = times x (worker_view h.owner).taken + sum_by (taken_with x) h.passes.items
 
--- how often x may have been pushed into a deque of n: a number below the count goes into the deque of its remainder, once
+-- how often x is pushed into a deque of n: a number below the count goes into the deque of its remainder, once
 abbrev pub dealt_of : ℕ → ℕ → ℕ → ℕ → ℕ
 dealt_of n count deque x = if nat_lt x count && (x % n == deque) then 1 else 0
 
@@ -31,7 +31,7 @@ abbrev pub dealt : Tasks → ℕ → ℕ → ℕ
 dealt tasks deque x = dealt_of (vec_len tasks.thieves) tasks.count deque x
 
 abbrev pub Knows : Tasks → ℕ → Share → Type 0
-Knows tasks deque v = (v.knows ≡ true) × ((x : ℕ) → times x v.put ≤ dealt tasks deque x)
+Knows tasks deque v = (v.knows ≡ true) × ((x : ℕ) → times x v.put ≡ dealt tasks deque x)
 
 abbrev pub Thief : Type 0
 Thief = Stealer ℕ Global Share Deal
@@ -94,9 +94,9 @@ pub record Draws (tasks : Tasks) (old new : Hand) (found : Option ℕ) : Type 0 
 abbrev pub Owner : Type 0
 Owner = Worker ℕ Global Share Deal
 
--- a deque of n with its numbers, none of which is taken
+-- a deque of n with all its numbers, none of which is taken
 abbrev pub HasOnly : ℕ → ℕ → ℕ → Share → Type 0
-HasOnly n count deque v = (v.knows ≡ true) × (v.taken ≡ []) × ((x : ℕ) → times x v.put ≤ dealt_of n count deque x)
+HasOnly n count deque v = (v.knows ≡ true) × (v.taken ≡ []) × ((x : ℕ) → times x v.put ≡ dealt_of n count deque x)
 
 abbrev pub IsDealt : ℕ → ℕ → ℕ → Owner → Type 0
 IsDealt n count deque owner = HasOnly n count deque (worker_view owner)

@@ -1,4 +1,5 @@
-//! The greatest score that is known of a root, which threads raise together.
+//! The shared lower bound of a search: the greatest score that is known of a root, which threads raise together. Its
+//! calls stand in one sequential history (Herlihy and Wing, Linearizability, 1990).
 ghost use Rattle.std.specs.Prelude.{◌≡◌, ◌↔◌, OnOk, IfOk, OnErr, IsOk, [], ◌≤◌, pos, negsuc, ◌-ℤ◌, ◌≤ℤ◌};
 ghost use Rattle.oth_history.specs.History.{Begins};
 ghost use Rattle.oth_pieces.specs.History.{floor_after, root_value};

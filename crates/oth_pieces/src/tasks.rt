@@ -1,4 +1,5 @@
-//! The numbers of a frontier, dealt out to the hands of several threads.
+//! The numbers of a frontier, dealt out to the hands of several threads, by work stealing: each hand has the deque of
+//! Chase and Lev (Dynamic circular work-stealing deque, 2005), and takes from the others where its own is empty.
 ghost use Rattle.std.specs.Prelude.{◌≡◌, ◌<◌, ◌≤◌, true, false, IfNone, IfOk, IfSome, [], ◌∷◌, ◌++◌, MatchOption, map};
 ghost use Rattle.std.specs.Prelude.{length, vec_len};
 ghost use Rattle.crossbeam_deque.specs.Handles.{view, IsPassOf, stealer_deque};
@@ -30,7 +31,7 @@ use thiserror::Error;
 use turns::Turns;
 
 // How often a steal that must be tried again is tried.
-const TRIES: u32 = 64;
+const STEAL_TRIES: u32 = 64;
 
 /// There was no memory.
 #[derive(Debug, Drop, Error)]
@@ -44,9 +45,9 @@ impl From<AllocError> for TasksError {
 }
 
 impl Tasks {
-    /// Tasks of the numbers of the frontier, and so many hands, 1 to 16. Number `j` is pushed into the deque of hand
-    /// `j` modulo the hands; a number whose push is refused is left to the caller. Each hand has room for all numbers
-    /// of a frontier. Refused where there is no memory.
+    /// Tasks of the numbers of the frontier, and so many hands, 1 to 16. Each number `j` is pushed into the deque of
+    /// hand `j` modulo the hands, once. Each hand has room for all numbers of a frontier. Refused where there is no
+    /// memory.
     pub fn new(
         alloc: Global,
         frontier: &Frontier,
@@ -177,14 +178,14 @@ impl Drawn {
     }
 }
 
-// A number of the deque. A try that another thread foiled is made again, up to `TRIES` times.
+// A number of the deque. A try that another thread foiled is made again, up to `STEAL_TRIES` times.
 fn steal_from(thief: &Thief, pass: &mut Token) -> Option<u32>
     requires pass { IsPassOf (stealer_deque thief.now) pass.old }
     requires knows { (view pass.old).knows ≡ true }
     ensures pass { IsPassOf (stealer_deque thief.now) pass.new }
     ensures took { Took (view pass.old) (view pass.new) result }
 {
-    for _ in 0..TRIES {
+    for _ in 0..STEAL_TRIES {
         match thief.steal_as::<Takes>(pass) {
             Steal::Success(number) => return Some(number),
             Steal::Empty => return None,

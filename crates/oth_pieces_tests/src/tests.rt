@@ -201,6 +201,43 @@ fn draw_out(tasks: &Tasks, hand: &mut Hand)
     }
 }
 
+// The hand at this place draws until there is nothing left.
+fn draw_out_at(tasks: &Tasks, hands: &mut Vec<Hand>, at: usize)
+    requires { AreAllHands tasks.now hands.old.items }
+    ensures { AreAllHands tasks.now hands.new.items }
+{
+    if at >= hands.len() {
+        return;
+    }
+    draw_out(tasks, &mut hands[at]);
+}
+
+// A hand steals from each other one: what lies in its own deque is a third of all.
+#[test]
+fn one_of_three_hands_draws_all(rt: HostRuntime) -> Result<(), Fail> {
+    let Some(root) = board(MANY_ITEMS) else {
+        panic!(rt; "no board")
+    };
+    let frontier = Frontier::of(&root, 2);
+    assert!(rt; frontier.len() == 194);
+    for place in 0..3 {
+        let Ok((tasks, mut hands)) = Tasks::new(rt.alloc(), &frontier, 3) else {
+            panic!(rt; "no tasks")
+        };
+        draw_out_at(&tasks, &mut hands, place);
+        check_draw(&rt, &tasks, &mut hands, 0, None);
+        check_draw(&rt, &tasks, &mut hands, 1, None);
+        check_draw(&rt, &tasks, &mut hands, 2, None);
+        let closed = tasks.close(hands);
+        assert!(rt; closed.left.is_empty());
+        match closed.lists.get(place) {
+            Some(list) => assert!(rt; list.len() == 194),
+            None => panic!(rt; "no list"),
+        }
+    }
+    Ok(())
+}
+
 // Each hand draws in a thread of its own.
 fn draw_all<R: Threads + Sync>(rt: &R, tasks: &Tasks, hands: &mut Vec<Hand>)
     requires { AreAllHands tasks.now hands.old.items }

@@ -5,10 +5,12 @@
 mod announcing;
 mod at_once;
 mod book_lookup;
-mod promise;
+mod draw_order;
+mod queue;
 pub mod run;
 mod scoring_moves;
 mod solving;
+mod valuing;
 pub mod work;
 mod workers;
 

@@ -7,14 +7,14 @@ ghost use Rattle.oth_pieces.specs.Drawing.{lists_of};
 ghost use Rattle.oth_walk.specs.Lending.{LendsFloor, LendsTable};
 ghost use Rattle.oth_pool.specs.Working.{Holds, HasLists, AreGathered, IsReplyOf, numbers_of, times_by};
 
-use crate::promise::ranks;
+use crate::draw_order::ranks;
 use crate::work::{Job, Work};
 use crate::workers::work_all;
 use oth_pieces::{Drawn, Floor, FloorSeat, Frontier, Hand, Reply, Tasks};
 use oth_rules::Scoring;
 use oth_search::{Cells, Solved, order};
 use oth_walk::{
-    Gate, Height, HintSeat, Hints, Plan, Scene, TableAccess, Walk, WorkerCells, orders_for,
+    Gate, HintSeat, Hints, Plan, RootBound, Scene, TableAccess, Walk, WorkerCells, orders_for,
 };
 use std::alloc::Global;
 use std::thread::Threads;
@@ -208,10 +208,10 @@ fn walks_of<'w, 't>(
         let Ok(own) = shared.floor.seat(alloc, seat) else {
             return None;
         };
-        let height = Height::of(shared.floor, own);
+        let root_bound = RootBound::of(shared.floor, own);
         let hints = HintSeat::of(shared.hints);
         let cells = WorkerCells::of(alloc, shared.plan, table);
-        walks.push_reserved(Walk::of(alloc, shared.plan, cells, height, hints));
+        walks.push_reserved(Walk::of(alloc, shared.plan, cells, root_bound, hints));
     }
     Some(walks)
 }

@@ -20,7 +20,7 @@ use oth_search::{
 };
 use oth_table::{SharedTable, is_size};
 use oth_walk::{
-    Gate, Height, HintSeat, Plan, Scene, TableAccess, Walk, WorkerCells, is_settled, search_item,
+    Gate, HintSeat, Plan, RootBound, Scene, TableAccess, Walk, WorkerCells, is_settled, search_item,
 };
 use std::alloc::Global;
 use std::thread::Threads;
@@ -268,7 +268,7 @@ fn answer_together<'t, R: Threads + Sync, G: Gate>(
         alloc,
         scene.plan,
         cells,
-        Height::of(&floor, seat),
+        RootBound::of(&floor, seat),
         HintSeat::none(),
     );
     walk.found = found;

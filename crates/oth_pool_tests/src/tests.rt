@@ -8,6 +8,8 @@ mod gate;
 mod refused;
 mod rows;
 mod scoring;
+mod together;
+mod view;
 
 use oth_pool::{Floor, Frontier, Open, SolveError, TableAccess, WorkerCells, run_workers, solve};
 use oth_rules::samples::board;

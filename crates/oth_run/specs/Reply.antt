@@ -1,11 +1,15 @@
 -- What is written of a line.
---     reply settings line      for `Solve` the value by the scoring and all best moves of a board of at most 30 empty squares, for `Moves`
---         all legal moves, for `Transcript` and `Play` the board line of the position that is reached; or the first fault of the line
+--     board_reply told reading      what is told of the board that was read, or the line's first fault
+--     reply settings line      of a board of at most 30 empty squares for `Solve` the value by the scoring and all best moves, and for
+--         `Scores` the score of every move; for `Moves` all legal moves of a board; for `Transcript` and `Play` the board line of the
+--         position that is reached; or the first fault of the line
 use Rattle.std.specs.Prelude.{ℕ, List, Result, Ok, Err}
 use Rattle.oth_rules.specs.declared.scoring.Scoring.{Scoring}
+use Rattle.oth_rules.specs.Position.{Position as Discs}
 use Rattle.oth_text.specs.BoardLine.{board_line, reading, solvable_reading}
 use Rattle.oth_text.specs.FaultLine.{fault_line_of, game_fault_line_of, transcript_fault_line_of}
 use Rattle.oth_text.specs.Game.{game_reading}
+use Rattle.oth_text.specs.Ranking.{scores_line_of}
 use Rattle.oth_text.specs.Report.{moves_line_of, report_line_of}
 use Rattle.oth_text.specs.Transcript.{transcript_reading}
 use Rattle.oth_text.specs.declared.fault.GameFault.{GameFault}
@@ -13,16 +17,12 @@ use Rattle.oth_text.specs.declared.fault.LineFault.{LineFault}
 use Rattle.oth_text.specs.declared.fault.TranscriptFault.{TranscriptFault}
 use Rattle.oth_text.specs.declared.position.Position.{Position}
 use Rattle.oth_words.specs.declared.settings.Command.{Command}
-use Rattle.oth_words.specs.declared.settings.Command.TheVariants.{Solve, Moves, Transcript, Play}
+use Rattle.oth_words.specs.declared.settings.Command.TheVariants.{Solve, Scores, Moves, Transcript, Play}
 use Rattle.oth_words.specs.declared.settings.Settings.{Settings}
 
-abbrev pub solve_reply : Scoring → Result Position LineFault → List ℕ
-solve_reply scoring (Ok position) = report_line_of scoring position.board
-solve_reply scoring (Err fault) = fault_line_of fault
-
-abbrev pub moves_reply : Result Position LineFault → List ℕ
-moves_reply (Ok position) = moves_line_of position.board
-moves_reply (Err fault) = fault_line_of fault
+abbrev pub board_reply : (Discs → List ℕ) → Result Position LineFault → List ℕ
+board_reply told (Ok position) = told position.board
+board_reply told (Err fault) = fault_line_of fault
 
 abbrev pub transcript_reply : Result Position TranscriptFault → List ℕ
 transcript_reply (Ok position) = board_line position
@@ -33,8 +33,9 @@ play_reply (Ok position) = board_line position
 play_reply (Err fault) = game_fault_line_of fault
 
 abbrev pub reply_to : Command → Scoring → List ℕ → List ℕ
-reply_to Solve scoring line = solve_reply scoring (solvable_reading line)
-reply_to Moves scoring line = moves_reply (reading line)
+reply_to Solve scoring line = board_reply (report_line_of scoring) (solvable_reading line)
+reply_to Scores scoring line = board_reply (scores_line_of scoring) (solvable_reading line)
+reply_to Moves scoring line = board_reply moves_line_of (reading line)
 reply_to Transcript scoring line = transcript_reply (transcript_reading line)
 reply_to Play scoring line = play_reply (game_reading line)
 

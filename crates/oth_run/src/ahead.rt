@@ -6,7 +6,7 @@ ghost use Rattle.oth_rules.specs.Position.{empty_count};
 use crate::checking::Lawful;
 use crate::lines::split_line;
 use crate::solver::Solver;
-use oth_batch::{Batch, Boards, Jobs, answer_among};
+use oth_batch::{Asked, Batch, Boards, Jobs, answer_among};
 use oth_pool::Gate;
 use oth_rules::Board;
 use oth_search::{Answer, MOST_EMPTIES, TooManyEmpties};
@@ -90,6 +90,15 @@ impl Ahead {
     }
 }
 
+/// What a command asks of boards by a search, if it does.
+pub(crate) fn asked_by(command: Command) -> Option<Asked> {
+    match command {
+        Command::Solve => Some(Asked::Answer),
+        Command::Scores => Some(Asked::Scores),
+        Command::Moves | Command::Transcript | Command::Play => None,
+    }
+}
+
 /// The boards of the whole lines in these bytes as jobs of a batch; none where one worker is asked for or enough, or
 /// memory is wanting.
 pub(crate) fn jobs_of<'b, T: Threads + Sync, G: Gate>(
@@ -97,14 +106,17 @@ pub(crate) fn jobs_of<'b, T: Threads + Sync, G: Gate>(
     command: Command,
     bytes: &[u8],
 ) -> Jobs<'b, T, G> {
-    if command != Command::Solve || batch.workers < 2 {
+    let Some(asked) = asked_by(command) else {
+        return Jobs::none(&*batch);
+    };
+    if batch.workers < 2 {
         return Jobs::none(&*batch);
     }
     let Ok(mut boards) = Boards::new(batch.alloc) else {
         return Jobs::none(&*batch);
     };
     gather(&mut boards, bytes);
-    match Jobs::of(&*batch, boards.as_slice()) {
+    match Jobs::of(&*batch, asked, boards.as_slice()) {
         Some(jobs) => jobs,
         None => Jobs::none(&*batch),
     }

@@ -8,7 +8,7 @@ ghost use Rattle.oth_run.specs.Reply.{reply};
 ghost use Rattle.oth_run.specs.Report.{last_report, with_end};
 ghost use Rattle.oth_run.specs.Run.{FailsBy};
 
-use crate::ahead::jobs_of;
+use crate::ahead::{asked_by, jobs_of};
 use crate::buffer::{SHORT, long_buffer, longer};
 use crate::checking::Lawful;
 use crate::fault::RunFault;
@@ -66,7 +66,7 @@ impl Engine {
         Ok(())
     }
 
-    // Takes the last part of a line and answers the line. A solver's answers are written at once, since each took time.
+    // Takes the last part of a line and answers the line. What a search found is written at once, since it took time.
     fn take_line<T: Wait + Threads + Sync, W: Sink, G: Gate>(
         &mut self,
         solver: &Solver<'_, T, G>,
@@ -86,7 +86,7 @@ impl Engine {
         self.line.push(part);
         self.end_line(solver, jobs, settings, writer)?;
         self.waiting
-            .write_if(settings.get().command == Command::Solve, writer)?;
+            .write_if(asked_by(settings.get().command).is_some(), writer)?;
         Ok(())
     }
 

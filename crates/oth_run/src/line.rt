@@ -6,15 +6,18 @@ ghost use Rattle.oth_text.specs.Game.{KeepsGame, game_reading};
 ghost use Rattle.oth_text.specs.Transcript.{StandsFor, is_nil, transcript_reading};
 ghost use Rattle.oth_words.specs.declared.settings.Command.{Command as CommandGiven};
 ghost use Rattle.oth_run.specs.Line.{Holds};
-ghost use Rattle.oth_run.specs.Reply.{moves_reply, play_reply, reply, solve_reply, transcript_reply};
+ghost use Rattle.oth_run.specs.Reply.{board_reply, play_reply, reply, transcript_reply};
+ghost use Rattle.oth_text.specs.Ranking.{scores_line_of};
+ghost use Rattle.oth_text.specs.Report.{moves_line_of, report_line_of};
 
 use crate::checking::Lawful;
 use crate::solver::Solver;
 use arrayvec::ArrayVec;
 use oth_batch::Jobs;
 use oth_pool::Gate;
+use oth_search::TooManyEmpties;
 use oth_text::{
-    BoardReader, GameReader, LineFault, REPORT_LINE_LEN, TranscriptReader, fault_line,
+    BoardReader, GameReader, LineFault, SCORES_LINE_LEN, TranscriptReader, fault_line,
     game_fault_line, moves_line, report_line, transcript_fault_line, write_board,
 };
 use oth_words::Command;
@@ -22,12 +25,13 @@ use std::sync::Wait;
 use std::thread::Threads;
 
 /// The most bytes of a line that is written, without byte 10.
-pub const REPLY_LEN: usize = REPORT_LINE_LEN;
+pub const REPLY_LEN: usize = SCORES_LINE_LEN;
 
 /// A line of any length that is read in parts, by what is asked of it. It takes no more room than it is declared with.
 #[derive(Drop)]
 pub enum Line {
     Solve(BoardReader),
+    Scores(BoardReader),
     Moves(BoardReader),
     Transcript(TranscriptReader),
     Play(GameReader),
@@ -40,6 +44,7 @@ impl Line {
     {
         match command {
             Command::Solve => Line::Solve(BoardReader::new()),
+            Command::Scores => Line::Scores(BoardReader::new()),
             Command::Moves => Line::Moves(BoardReader::new()),
             Command::Transcript => Line::Transcript(TranscriptReader::new()),
             Command::Play => Line::Play(GameReader::new()),
@@ -52,6 +57,7 @@ impl Line {
     {
         match self {
             Line::Solve(reader) => reader.clear(),
+            Line::Scores(reader) => reader.clear(),
             Line::Moves(reader) => reader.clear(),
             Line::Transcript(reader) => reader.clear(),
             Line::Play(reader) => reader.clear(),
@@ -65,6 +71,7 @@ impl Line {
     {
         match self {
             Line::Solve(reader) => reader.push(bytes),
+            Line::Scores(reader) => reader.push(bytes),
             Line::Moves(reader) => reader.push(bytes),
             Line::Transcript(reader) => reader.push(bytes),
             Line::Play(reader) => reader.push(bytes),
@@ -77,13 +84,14 @@ impl Line {
     {
         match self {
             Line::Solve(reader) => reader.is_empty(),
+            Line::Scores(reader) => reader.is_empty(),
             Line::Moves(reader) => reader.is_empty(),
             Line::Transcript(reader) => reader.is_empty(),
             Line::Play(reader) => reader.is_empty(),
         }
     }
 
-    /// What is written of the line, without byte 10. The answer of a board that is one of the jobs is awaited.
+    /// What is written of the line, without byte 10. What is found of a board that is one of the jobs is awaited.
     pub fn reply<T: Wait + Threads + Sync, G: Gate>(
         &self,
         solver: &Solver<'_, T, G>,
@@ -95,6 +103,7 @@ impl Line {
     {
         match self {
             Line::Solve(reader) => solve_reply(reader, solver, jobs, settings),
+            Line::Scores(reader) => scores_reply(reader, solver, jobs, settings),
             Line::Moves(reader) => moves_reply(reader),
             Line::Transcript(reader) => transcript_reply(reader),
             Line::Play(reader) => play_reply(reader),
@@ -110,21 +119,43 @@ fn solve_reply<T: Wait + Threads + Sync, G: Gate>(
     settings: &Lawful,
 ) -> ArrayVec<u8, REPLY_LEN>
     ensures { (line : List ℕ) → KeepsLine reader.now line
-        → result.items ≡ solve_reply settings.now.scoring (solvable_reading line) }
+        → result.items ≡ board_reply (report_line_of settings.now.scoring) (solvable_reading line) }
 {
     let position = match reader.read() {
         Ok(position) => position,
         Err(fault) => return copied(fault_line(&fault).as_slice()),
     };
     match solver.awaited_answer_of(jobs, &position.board, settings) {
-        Ok(answer) => report_line(&answer),
+        Ok(answer) => copied(report_line(&answer).as_slice()),
         Err(many) => copied(fault_line(&LineFault::Empties(many.empties)).as_slice()),
+    }
+}
+
+// The score of every move, the best first, or the line's fault.
+fn scores_reply<T: Wait + Threads + Sync, G: Gate>(
+    reader: &BoardReader,
+    solver: &Solver<'_, T, G>,
+    jobs: &Jobs<'_, T, G>,
+    settings: &Lawful,
+) -> ArrayVec<u8, REPLY_LEN>
+    ensures { (line : List ℕ) → KeepsLine reader.now line
+        → result.items ≡ board_reply (scores_line_of settings.now.scoring) (solvable_reading line) }
+{
+    let position = match reader.read() {
+        Ok(position) => position,
+        Err(fault) => return copied(fault_line(&fault).as_slice()),
+    };
+    match solver.awaited_scores_line(jobs, &position.board, settings) {
+        Ok(line) => line,
+        Err(TooManyEmpties { empties }) => {
+            copied(fault_line(&LineFault::Empties(empties)).as_slice())
+        }
     }
 }
 
 // All legal moves, or the line's fault.
 fn moves_reply(reader: &BoardReader) -> ArrayVec<u8, REPLY_LEN>
-    ensures { (line : List ℕ) → KeepsLine reader.now line → result.items ≡ moves_reply (reading line) }
+    ensures { (line : List ℕ) → KeepsLine reader.now line → result.items ≡ board_reply moves_line_of (reading line) }
 {
     match reader.read() {
         Ok(position) => copied(moves_line(&position.board).as_slice()),
@@ -155,7 +186,7 @@ fn play_reply(reader: &GameReader) -> ArrayVec<u8, REPLY_LEN>
 
 // The text as a reply.
 fn copied(text: &[u8]) -> ArrayVec<u8, REPLY_LEN>
-    requires { length text.now ≤ 196 }
+    requires { length text.now ≤ 512 }
     ensures { result.items ≡ text.now }
 {
     let mut line = ArrayVec::new();

@@ -2,13 +2,16 @@
 
 ghost use Rattle.std.specs.Prelude.{◌≡◌, ◌<◌, ◌↔◌, IsErr, IfOk, IfErr, IfSome};
 ghost use Rattle.oth_rules.specs.Position.{empty_count};
+ghost use Rattle.oth_text.specs.Ranking.{scores_line_of};
 
 use crate::checking::Lawful;
+use arrayvec::ArrayVec;
 use oth_batch::{Batch, Jobs};
 use oth_book::Book;
-use oth_pool::{Gate, solve};
+use oth_pool::{Gate, scores, solve};
 use oth_rules::{Board, Scoring};
-use oth_search::{Answer, MOST_EMPTIES, TooManyEmpties};
+use oth_search::{Answer, MOST_EMPTIES, Scores, TooManyEmpties};
+use oth_text::{SCORES_LINE_LEN, scores_line};
 use oth_words::Settings;
 use std::alloc::Global;
 use std::sync::Wait;
@@ -50,6 +53,29 @@ impl<'s, T: Threads + Sync, G: Gate> Solver<'s, T, G> {
             Err(_) => Err(TooManyEmpties {
                 empties: board.empties(),
             }),
+        }
+    }
+
+    // The scores of a board's moves.
+    fn scores_of(&self, board: &Board, settings: &Lawful) -> Result<Scores, TooManyEmpties>
+        ensures refused { IsErr result ↔ (30 < empty_count board.now) }
+        ensures counted { IfErr result (λ e. e.empties ≡ empty_count board.now) }
+        ensures board { IfOk result (λ s. s.answer.board ≡ board.now) }
+        ensures scoring { IfOk result (λ s. s.answer.scoring ≡ settings.now.scoring) }
+    {
+        let Settings {
+            workers,
+            cells,
+            scoring,
+            ..
+        } = settings.get();
+        let (rt, alloc, gate, book) = (self.rt, self.alloc, self.gate, self.book);
+        match scores(rt, alloc, board, workers, cells, gate, book, scoring) {
+            Ok(scores) => Ok(scores),
+            Err(_) => {
+                let empties = board.empties();
+                Err(TooManyEmpties { empties })
+            }
         }
     }
 
@@ -95,6 +121,46 @@ impl<'s, T: Wait + Threads + Sync, G: Gate> Solver<'s, T, G> {
             Some(answer) => Ok(answer),
             None => self.answer_of(board, settings),
         }
+    }
+
+    /// The scores line of a board: of one of the jobs as soon as whoever scores its moves has found them.
+    pub fn awaited_scores_line(
+        &self,
+        jobs: &Jobs<'_, T, G>,
+        board: &Board,
+        settings: &Lawful,
+    ) -> Result<ArrayVec<u8, SCORES_LINE_LEN>, TooManyEmpties>
+        ensures refused { IsErr result ↔ (30 < empty_count board.now) }
+        ensures counted { IfErr result (λ e. e.empties ≡ empty_count board.now) }
+        ensures line { IfOk result (λ l. l.items ≡ scores_line_of settings.now.scoring board.now) }
+    {
+        let empties = board.empties();
+        if empties > MOST_EMPTIES {
+            return Err(TooManyEmpties { empties });
+        }
+        self.gate.awaits(board);
+        match scores_by_jobs(self.rt, jobs, board, settings.get().scoring) {
+            Some(scores) => Ok(scores_line(scores)),
+            None => Ok(scores_line(&self.scores_of(board, settings)?)),
+        }
+    }
+}
+
+// The scores by this scoring of a board that is one of the jobs.
+fn scores_by_jobs<'j, T: Wait + Threads + Sync, G: Gate>(
+    rt: &T,
+    jobs: &'j Jobs<'_, T, G>,
+    board: &Board,
+    scoring: Scoring,
+) -> Option<&'j Scores>
+    ensures board { IfSome result (λ s. s.now.answer.board ≡ board.now) }
+    ensures scoring { IfSome result (λ s. s.now.answer.scoring ≡ scoring) }
+{
+    let scores = jobs.scores_of(rt, board)?;
+    if scores.answer.scoring == scoring {
+        Some(scores)
+    } else {
+        None
     }
 }
 

@@ -7,12 +7,12 @@ use arrayvec::ArrayVec;
 use oth_text::{Failed, Sink, write_all};
 
 // So many bytes wait at most.
-const CAPACITY: usize = 16_384;
+const WAITING_LEN: usize = 16_384;
 
 /// Bytes that wait to be written.
 #[derive(Drop)]
 pub struct Waiting {
-    bytes: ArrayVec<u8, CAPACITY>,
+    bytes: ArrayVec<u8, WAITING_LEN>,
 }
 
 impl Waiting {

@@ -30,7 +30,7 @@ Encloses-all g p lower upper e f =
     let v = IsScore-value g p in
     record { below = rw e (v.low); above = rw f (v.high) }
 
--- a bound that stands in an interval serves as the answer of a probe
+-- a bound that stands in an interval serves as the answer of a null-window search
 pub BoundsAt-lower : (v alpha lower upper r : ℤ) → Encloses lower upper v → IsInterval lower upper → r ≡ lower → alpha <ℤ lower → BoundsAt v alpha r
 BoundsAt-lower v alpha lower upper r h i e above = record {
   score = record { low = omega (arith, ints, i.low); high = omega (arith, ints, i.ordered, i.high) };
@@ -57,9 +57,9 @@ Encloses-known g f p q r lower upper e k l h =
 pub value-known : (g f : Scoring) (p q r : Position) → q ≡ canonical p → r ≡ q → f ≡ g → value (score_of f) r ≡ value (score_of g) p
 value-known g f p q r e k l = rw (k, l, e) (value-canonical g p)
 
--- a probe decides the window that has nothing between its ends
-pub Decides-probed : (alpha at found lower upper low high : ℤ) → at ≡ alpha → (at <ℤ found → (low ≡ found) × (high ≡ upper)) → (found ≤ℤ at → (low ≡ lower) × (high ≡ found)) → Decides low high alpha (alpha +ℤ pos 1)
-Decides-probed alpha at found lower upper low high e above below =
+-- a null-window search decides the window that has nothing between its ends
+pub Decides-nws : (alpha at found lower upper low high : ℤ) → at ≡ alpha → (at <ℤ found → (low ≡ found) × (high ≡ upper)) → (found ≤ℤ at → (low ≡ lower) × (high ≡ found)) → Decides low high alpha (alpha +ℤ pos 1)
+Decides-nws alpha at found lower upper low high e above below =
     by_lt_z at found
     (λ h. let m = above h in inr (inl (omega (arith, ints, m.0))))
     (λ h. let m = below h in inr (inr (omega (arith, ints, m.1))))

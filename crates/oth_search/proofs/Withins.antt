@@ -22,8 +22,8 @@ WithinAt-negated v alpha beta low high r s e f k w = record {
 }
 
 -- a null window tells enough where its bound lies on one side of the window
-pub WithinAt-probe : (v alpha beta r : ℤ) → BoundsAt v alpha r → (r ≤ℤ alpha) ⊎ (beta ≤ℤ r) → alpha <ℤ beta → WithinAt v alpha beta r
-WithinAt-probe v alpha beta r b side wide = record {
+pub WithinAt-nws : (v alpha beta r : ℤ) → BoundsAt v alpha r → (r ≤ℤ alpha) ⊎ (beta ≤ℤ r) → alpha <ℤ beta → WithinAt v alpha beta r
+WithinAt-nws v alpha beta r b side wide = record {
   score = b.score;
   above = λ h. ⊎_elim (λ low. b.fails_low low) (λ high. absurd (omega (arith, ints, high))) side;
   below = λ h. b.fails_high h;
@@ -154,7 +154,7 @@ cut alpha beta lower upper low high w i o least from most to =
     let t : read_i8 high ≡ high = omega (arith, ints, above, wide, reaches) in
     rw (s, t) (record { from = starts; to = ends; inner = record { low = above; ordered = wide; high = reaches } })
 
--- a search with a window is a probe at its lower end, and one just below its upper end
+-- a search with a window is a null-window search at its lower end, and one just below its upper end
 pub BoundsAt-low : (v w low high r : ℤ) → v ≡ w → IsInner low high → WithinAt w low high r → BoundsAt v low (read_i8 r)
 BoundsAt-low v w low high r e i h =
     let s : read_i8 r ≡ r = omega (arith, ints, h.score.low, h.score.high) in
@@ -174,12 +174,12 @@ BoundsAt-high v w low high r e i h =
       fails_high = λ k. h.below (omega (arith, ints, k, i.ordered));
     })
 
--- l..u is what a probe at a threshold leaves of the bounds lower..upper
+-- l..u is what a null-window search at a threshold leaves of the bounds lower..upper
 pub record Narrowed (lower upper at found l u : ℤ) : Type 0 where
   pub above : at <ℤ found → (l ≡ found) × (u ≡ upper)
   pub below : found ≤ℤ at → (l ≡ lower) × (u ≡ found)
 
--- both probes decide the whole window
+-- both null-window searches decide the whole window
 pub Decides-narrowed : (alpha beta lower upper low high found l u least most : ℤ) → Cut alpha beta lower upper low high → Narrowed lower upper low found l u → Narrowed l u (read_i8 (high -ℤ pos 1)) found least most → least ≤ℤ most → Decides least most alpha beta
 Decides-narrowed alpha beta lower upper low high found l u least most c m n ordered =
     let at : read_i8 (high -ℤ pos 1) ≡ high -ℤ pos 1 = omega (arith, ints, c.inner.low, c.inner.ordered, c.inner.high) in
@@ -201,7 +201,7 @@ Decides-narrowed alpha beta lower upper low high found l u least most c m n orde
     (λ h. inl (omega (arith, ints, h, below, s.0, s.1, f.0, ordered)))
     c.from)
 
--- a value that a probe did not find above its threshold
+-- a value that a null-window search did not find above its threshold
 pub below_limit : (v lower upper limit beta : ℤ) → Encloses lower upper v → Decides lower upper limit beta → beta ≡ limit -ℤ negsuc 0 → lower ≤ℤ limit → v ≤ℤ limit
 below_limit v lower upper limit beta e d is low =
     ⊎_elim
@@ -215,7 +215,7 @@ Encloses-exactly v limit lower upper least e f at below above = record { below =
 pub Decides-same : (lower upper alpha beta low high : ℤ) → low ≡ alpha → high ≡ beta → Decides lower upper low high → Decides lower upper alpha beta
 Decides-same lower upper alpha beta low high e f d = rw (← e, ← f) d
 
--- a search above a bound that a probe found inside the window
+-- a search above a bound that a null-window search found inside the window
 pub WithinAt-above : (v alpha beta found low r m : ℤ) → BoundsAt v alpha found → alpha <ℤ found → low ≡ found → WithinAt v low beta r → IsGreater found r m → WithinAt v alpha beta m
 WithinAt-above v alpha beta found low r m b above same w most = record {
   score = ⊎_elim (λ e. subst IsScore (sym e) b.score) (λ e. subst IsScore (sym e) w.score) most.one;

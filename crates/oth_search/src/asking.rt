@@ -12,7 +12,7 @@ use crate::solved::Solved;
 use oth_rules::{Board, Scoring};
 
 // The widest step of a search for a value.
-const WIDEST: i8 = 63;
+const WIDEST_STEP: i8 = 63;
 
 impl Solved {
     /// The board with its value where that is at most the limit, and else with a lower bound above the limit.
@@ -71,7 +71,7 @@ impl Solved {
     }
 }
 
-// The value of a board, or a lower bound of it above the limit: at most two probes, and a search only where it is
+// The value of a board, or a lower bound of it above the limit: at most two null windows, and a search only where it is
 // below.
 fn at_most<C: Cells>(board: &Board, limit: i8, cells: &mut C, scoring: Scoring) -> Interval
     requires { IsScore limit }
@@ -118,5 +118,5 @@ pub(crate) fn wider(step: i8) -> i8
     ensures low { pos 1 ≤ℤ result }
     ensures high { result ≤ℤ pos 63 }
 {
-    if step < 31 { 2 * step + 1 } else { WIDEST }
+    if step < 31 { 2 * step + 1 } else { WIDEST_STEP }
 }

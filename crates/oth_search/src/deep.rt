@@ -1,4 +1,4 @@
-//! Probes by rank and with cells, of boards with more than a few empty squares.
+//! Null-window searches by rank and with cells, of boards with more than a few empty squares.
 ghost use Rattle.std.specs.Prelude.{◌≡◌, ℕ, ◌<◌, neg_ℤ, pos, true, IfSome, IfOk, IfErr};
 ghost use Rattle.std.specs.List.{All};
 ghost use Rattle.oth_rules.specs.Move.{can_move};
@@ -12,10 +12,10 @@ use crate::cells::Cells;
 use crate::child::Child;
 use crate::children::{children, looked_at, next_child};
 use crate::entry::Entry;
-use crate::few::probe_few;
+use crate::evaluation::FEWEST_EMPTIES_LOOKED;
+use crate::few::nws_few;
 use crate::node::Node;
-use crate::outlook::FEWEST_EMPTIES_LOOKED;
-use crate::probe::probe;
+use crate::nws::nws;
 use crate::solved::Solved;
 use crate::squares::without;
 use arrayvec::ArrayVec;
@@ -36,39 +36,39 @@ const LEAST_ALPHA_BOUNDED: i8 = 24;
 // Boards with fewer empty squares are always remembered and not kept.
 const FEWEST_EMPTIES_KEPT: u8 = 9;
 
-/// As `probe`, with the cells.
-pub fn probe_with<C: Cells>(board: Board, alpha: i8, cells: &mut C, scoring: Scoring) -> i8
+/// As `nws`, with the cells.
+pub fn nws_with<C: Cells>(board: Board, alpha: i8, cells: &mut C, scoring: Scoring) -> i8
     requires { IsThreshold alpha }
     ensures value { BoundsAt (value (score_of scoring) board) alpha result }
     ensures fixed { C.fixed cells.new ≡ C.fixed cells.old }
 {
-    probe_node(Node::of(board), alpha, cells, scoring)
+    nws_node(Node::of(board), alpha, cells, scoring)
 }
 
 /// The same, where the moves are known.
 #[cycle(deep)]
-pub fn probe_node<C: Cells>(node: Node, alpha: i8, cells: &mut C, scoring: Scoring) -> i8
+pub fn nws_node<C: Cells>(node: Node, alpha: i8, cells: &mut C, scoring: Scoring) -> i8
     requires { IsThreshold alpha }
     ensures value { BoundsAt (value (score_of scoring) node.board) alpha result }
     ensures fixed { C.fixed cells.new ≡ C.fixed cells.old }
 {
     let board = node.board;
     if board.empties() < FEWEST_EMPTIES_REMEMBERED {
-        return probe(board, alpha, scoring);
+        return nws(board, alpha, scoring);
     }
     if node.moves != 0 {
-        return probe_kept(node, alpha, cells, scoring);
+        return nws_kept(node, alpha, cells, scoring);
     }
     let passed = Node::of(board.pass());
     if passed.moves != 0 {
-        return -probe_kept(passed, -alpha - 1, cells, scoring);
+        return -nws_kept(passed, -alpha - 1, cells, scoring);
     }
     board.final_score(scoring)
 }
 
 // Looks the board up, and puts what it found unless the entry decides.
 #[cycle(deep)]
-fn probe_kept<C: Cells>(node: Node, alpha: i8, cells: &mut C, scoring: Scoring) -> i8
+fn nws_kept<C: Cells>(node: Node, alpha: i8, cells: &mut C, scoring: Scoring) -> i8
     requires threshold { IsThreshold alpha }
     requires some { can_move node.board ≡ true }
     ensures value { BoundsAt (value (score_of scoring) node.board) alpha result }
@@ -76,7 +76,7 @@ fn probe_kept<C: Cells>(node: Node, alpha: i8, cells: &mut C, scoring: Scoring) 
 {
     let board = node.board;
     if is_remembered(&board, cells) {
-        return probe_remembered(node, alpha, cells, scoring);
+        return nws_remembered(node, alpha, cells, scoring);
     }
     let known = known(&board.canonical().0, cells, scoring);
     if known.interval.lower > alpha {
@@ -85,14 +85,14 @@ fn probe_kept<C: Cells>(node: Node, alpha: i8, cells: &mut C, scoring: Scoring) 
     if known.interval.upper <= alpha {
         return known.interval.upper;
     }
-    let found = probe_ordered(node, alpha, cells, scoring);
+    let found = nws_ordered(node, alpha, cells, scoring);
     cells.put(&Entry::canonical(&known.narrowed(alpha, found)));
     found
 }
 
 // Recalls what is known of the board, and remembers what it found unless that decides.
 #[cycle(deep)]
-fn probe_remembered<C: Cells>(node: Node, alpha: i8, cells: &mut C, scoring: Scoring) -> i8
+fn nws_remembered<C: Cells>(node: Node, alpha: i8, cells: &mut C, scoring: Scoring) -> i8
     requires threshold { IsThreshold alpha }
     requires some { can_move node.board ≡ true }
     ensures value { BoundsAt (value (score_of scoring) node.board) alpha result }
@@ -105,14 +105,14 @@ fn probe_remembered<C: Cells>(node: Node, alpha: i8, cells: &mut C, scoring: Sco
     if recalled.interval.upper <= alpha {
         return recalled.interval.upper;
     }
-    let found = probe_ordered(node, alpha, cells, scoring);
+    let found = nws_ordered(node, alpha, cells, scoring);
     cells.remember(&recalled.narrowed(alpha, found));
     found
 }
 
 // Searches the children in their order.
 #[cycle(deep)]
-fn probe_ordered<C: Cells>(node: Node, alpha: i8, cells: &mut C, scoring: Scoring) -> i8
+fn nws_ordered<C: Cells>(node: Node, alpha: i8, cells: &mut C, scoring: Scoring) -> i8
     requires threshold { IsThreshold alpha }
     requires some { can_move node.board ≡ true }
     ensures value { BoundsAt (value (score_of scoring) node.board) alpha result }
@@ -120,38 +120,38 @@ fn probe_ordered<C: Cells>(node: Node, alpha: i8, cells: &mut C, scoring: Scorin
 {
     let empties = node.board.empties();
     if empties < FEWEST_EMPTIES_ORDERED {
-        return probe_few(node, alpha, scoring);
+        return nws_few(node, alpha, scoring);
     }
     if let Some(most) = most_at(&node.board, alpha, scoring) {
         return most;
     }
     if empties < FEWEST_EMPTIES_RECORDED {
-        return probe_short(node, alpha, cells, scoring);
+        return nws_short(node, alpha, cells, scoring);
     }
     if empties < FEWEST_EMPTIES_LOOKED {
-        return probe_middle(node, alpha, cells, scoring);
+        return nws_middle(node, alpha, cells, scoring);
     }
-    probe_long(node, alpha, cells, scoring)
+    nws_long(node, alpha, cells, scoring)
 }
 
 // The same, where at most seven squares are empty. A function of its own for each length of the list: the blank places
 // of a long one take time to fill.
 #[inline(never)]
 #[cycle(deep)]
-fn probe_short<C: Cells>(node: Node, alpha: i8, cells: &mut C, scoring: Scoring) -> i8
+fn nws_short<C: Cells>(node: Node, alpha: i8, cells: &mut C, scoring: Scoring) -> i8
     requires threshold { IsThreshold alpha }
     requires some { can_move node.board ≡ true }
     ensures value { BoundsAt (value (score_of scoring) node.board) alpha result }
     ensures fixed { C.fixed cells.new ≡ C.fixed cells.old }
 {
     let list: ArrayVec<Child, 7> = children(&node);
-    probe_children(node, list.as_slice(), alpha, cells, scoring)
+    nws_children(node, list.as_slice(), alpha, cells, scoring)
 }
 
 // The same, where few more are empty: the children are looked up, unless that takes an image of each.
 #[inline(never)]
 #[cycle(deep)]
-fn probe_middle<C: Cells>(node: Node, alpha: i8, cells: &mut C, scoring: Scoring) -> i8
+fn nws_middle<C: Cells>(node: Node, alpha: i8, cells: &mut C, scoring: Scoring) -> i8
     requires threshold { IsThreshold alpha }
     requires some { can_move node.board ≡ true }
     ensures value { BoundsAt (value (score_of scoring) node.board) alpha result }
@@ -163,25 +163,25 @@ fn probe_middle<C: Cells>(node: Node, alpha: i8, cells: &mut C, scoring: Scoring
             return found;
         }
     }
-    probe_children(node, list.as_slice(), alpha, cells, scoring)
+    nws_children(node, list.as_slice(), alpha, cells, scoring)
 }
 
 // The same, where many squares are empty: the children are looked up, and then looked at.
 #[inline(never)]
 #[cycle(deep)]
-fn probe_long<C: Cells>(node: Node, alpha: i8, cells: &mut C, scoring: Scoring) -> i8
+fn nws_long<C: Cells>(node: Node, alpha: i8, cells: &mut C, scoring: Scoring) -> i8
     requires threshold { IsThreshold alpha }
     requires some { can_move node.board ≡ true }
     ensures value { BoundsAt (value (score_of scoring) node.board) alpha result }
     ensures fixed { C.fixed cells.new ≡ C.fixed cells.old }
 {
     let found = &looked_at_or_recorded(&node, alpha, cells, scoring);
-    probe_looked_at(node, found, alpha, cells, scoring)
+    nws_looked_at(node, found, alpha, cells, scoring)
 }
 
 // Searches the children that were looked at, unless there is a bound above `alpha` in their place.
 #[cycle(deep)]
-fn probe_looked_at<C: Cells>(
+fn nws_looked_at<C: Cells>(
     node: Node,
     found: &Result<ArrayVec<Child, 32>, i8>,
     alpha: i8,
@@ -196,7 +196,7 @@ fn probe_looked_at<C: Cells>(
     ensures fixed { C.fixed cells.new ≡ C.fixed cells.old }
 {
     match found {
-        Ok(list) => probe_children(node, list.as_slice(), alpha, cells, scoring),
+        Ok(list) => nws_children(node, list.as_slice(), alpha, cells, scoring),
         Err(bound) => *bound,
     }
 }
@@ -223,7 +223,7 @@ fn looked_at_or_recorded<C: Cells>(
 
 // Searches these children and any other, the best-ranked first.
 #[cycle(deep)]
-fn probe_children<C: Cells>(
+fn nws_children<C: Cells>(
     node: Node,
     children: &[Child],
     alpha: i8,
@@ -245,7 +245,7 @@ fn probe_children<C: Cells>(
             board: child.board,
             moves: child.moves,
         };
-        let reply = -probe_node(next, -alpha - 1, cells, scoring);
+        let reply = -nws_node(next, -alpha - 1, cells, scoring);
         if reply > alpha {
             return reply;
         }

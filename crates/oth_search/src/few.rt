@@ -6,12 +6,12 @@ ghost use Rattle.oth_rules.specs.Value.{value};
 ghost use Rattle.oth_search.specs.Bound.{BoundsAt, IsThreshold};
 
 use crate::node::Node;
-use crate::probe::probe;
+use crate::nws::nws;
 use crate::squares::{odd_quadrants, preferred, without};
 use oth_rules::Scoring;
 
-/// Searches the replies to a board with few empty squares: first those in an odd quarter.
-pub fn probe_few(node: Node, alpha: i8, scoring: Scoring) -> i8
+/// Searches the replies to a board with few empty squares: first those in an odd quadrant.
+pub fn nws_few(node: Node, alpha: i8, scoring: Scoring) -> i8
     requires threshold { IsThreshold alpha }
     requires some { can_move node.board ≡ true }
     ensures { BoundsAt (value (score_of scoring) node.board) alpha result }
@@ -22,7 +22,7 @@ pub fn probe_few(node: Node, alpha: i8, scoring: Scoring) -> i8
     while left != 0 {
         let square = preferred(left, odd);
         left = without(left, square);
-        let reply = -probe(node.board.play_legal(square), -alpha - 1, scoring);
+        let reply = -nws(node.board.play_legal(square), -alpha - 1, scoring);
         if reply > alpha {
             return reply;
         }

@@ -8,7 +8,7 @@ ghost use Rattle.oth_search.specs.Children.{IsChild};
 use crate::cells::Cells;
 use crate::child::Child;
 use crate::children::{children, looked_at, next_child};
-use crate::deep::probe_node;
+use crate::deep::nws_node;
 use crate::interval::{Interval, greater, lesser};
 use crate::node::Node;
 use crate::solved::Solved;
@@ -17,10 +17,10 @@ use arrayvec::ArrayVec;
 use oth_rules::{Board, Scoring};
 
 // Boards with no more empty squares are searched in full.
-const FEW_EMPTIES: u8 = 6;
+const MOST_EMPTIES_IN_FULL: u8 = 6;
 
 // No board has more moves.
-const ALL: usize = 64;
+const ALL_MOVES: usize = 64;
 
 // Of the board after a reply, where many plies follow, so many moves are tried.
 const WIDTH_AT_FIRST: usize = 3;
@@ -35,10 +35,10 @@ const MANY_PLIES: u8 = 7;
 const MOST_RANKED: usize = 12;
 
 // The children of boards with fewer empty squares are ranked without a look at them.
-const FEWEST_EMPTIES_LOOKED: u8 = 13;
+const FEWEST_EMPTIES_GUESS_LOOKED: u8 = 13;
 
 // The most rounds of a guess.
-const ROUNDS: u8 = 12;
+const GUESS_ROUNDS: u8 = 12;
 
 // How much a glance sees: so many plies, and so many moves of the first board.
 #[derive(Clone, Copy)]
@@ -52,7 +52,7 @@ impl Sight {
     fn after_move(board: &Board) -> Sight {
         Sight {
             plies: plies_from(board),
-            width: ALL,
+            width: ALL_MOVES,
         }
     }
 
@@ -73,7 +73,7 @@ impl Sight {
         let plies = self.plies - 1;
         Sight {
             plies,
-            width: if self.width == ALL {
+            width: if self.width == ALL_MOVES {
                 width_after_reply(plies)
             } else {
                 WIDTH
@@ -84,7 +84,7 @@ impl Sight {
 
 // The plies before a board is searched in full.
 fn plies_from(board: &Board) -> u8 {
-    board.empties().saturating_sub(FEW_EMPTIES)
+    board.empties().saturating_sub(MOST_EMPTIES_IN_FULL)
 }
 
 // How many moves of a board after a reply are tried, where so many plies follow.
@@ -107,7 +107,7 @@ pub fn guess<C: Cells>(replies: &mut [Solved], cells: &mut C) -> i8
     let mut seen = [Interval::all(); 64];
     let mut at = 0;
     let mut step = 8;
-    for _ in 0..ROUNDS {
+    for _ in 0..GUESS_ROUNDS {
         let found = least_seen(replies, &mut seen, at, cells);
         if found <= at {
             high = found;
@@ -212,7 +212,7 @@ fn glance<C: Cells>(node: Node, alpha: i8, sight: Sight, cells: &mut C, scoring:
     ensures fixed { C.fixed cells.new ≡ C.fixed cells.old }
 {
     if sight.plies == 0 {
-        return probe_node(node, alpha, cells, scoring);
+        return nws_node(node, alpha, cells, scoring);
     }
     if node.moves != 0 {
         return glance_at_moves(node, alpha, sight, cells, scoring);
@@ -265,7 +265,7 @@ fn ranked(node: &Node) -> ArrayVec<Child, MOST_RANKED>
     ensures { All (IsChild node.now.board) result.items }
 {
     let found = children(node);
-    if node.board.empties() < FEWEST_EMPTIES_LOOKED {
+    if node.board.empties() < FEWEST_EMPTIES_GUESS_LOOKED {
         return found;
     }
     looked_at(node, found.as_slice())

@@ -11,7 +11,7 @@ ghost use Rattle.oth_search.specs.Bound.{BoundsAt, IsThreshold};
 ghost use Rattle.oth_search.specs.Lasts.{Leaves, GivesAt, MovesAt};
 
 use crate::interval::greater;
-use crate::quarter::share_quarter;
+use crate::quadrant::share_quadrant;
 use crate::squares::{flips_at, preferred, without};
 use oth_rules::{Board, Scoring, Square};
 
@@ -36,7 +36,7 @@ struct Four {
 }
 
 /// A bound of the value, where at most four squares are empty. Those in `odd` are tried first.
-pub fn probe_last(board: Board, odd: u64, alpha: i8, scoring: Scoring) -> Option<i8>
+pub fn nws_last(board: Board, odd: u64, alpha: i8, scoring: Scoring) -> Option<i8>
     requires { IsThreshold alpha }
     ensures { IfSome result (λ r. BoundsAt (value (score_of scoring) board) alpha r) }
 {
@@ -176,9 +176,9 @@ fn last_three(board: Board, alpha: i8, a: Square, b: Square, c: Square, scoring:
     board.final_score(scoring)
 }
 
-// The same, where a square alone in its quarter is tried first. Who moves there moves last there.
+// The same, where a square alone in its quadrant is tried first. Who moves there moves last there.
 #[inline(always)]
-fn last_three_by_quarters(board: Board, alpha: i8, squares: Three, scoring: Scoring) -> i8
+fn last_three_by_quadrants(board: Board, alpha: i8, squares: Three, scoring: Scoring) -> i8
     requires threshold { IsThreshold alpha }
     requires a_on_board { squares.a < 64 }
     requires b_on_board { squares.b < 64 }
@@ -187,10 +187,10 @@ fn last_three_by_quarters(board: Board, alpha: i8, squares: Three, scoring: Scor
     ensures { BoundsAt (value (score_of scoring) board) alpha result }
 {
     let Three { a, b, c } = squares;
-    if share_quarter(a, b) {
+    if share_quadrant(a, b) {
         return last_three(board, alpha, c, a, b, scoring);
     }
-    if share_quarter(a, c) {
+    if share_quadrant(a, c) {
         return last_three(board, alpha, b, a, c, scoring);
     }
     last_three(board, alpha, a, b, c, scoring)
@@ -307,5 +307,5 @@ fn reply_three(board: Board, alpha: i8, square: Square, rest: Three, scoring: Sc
     if flips == 0 {
         return NO_MOVE;
     }
-    -last_three_by_quarters(board.play_flipped(square, flips), -alpha - 1, rest, scoring)
+    -last_three_by_quadrants(board.play_flipped(square, flips), -alpha - 1, rest, scoring)
 }

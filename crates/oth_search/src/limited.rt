@@ -24,7 +24,8 @@ const FEWEST_EMPTIES_ENDED: u8 = 11;
 /// Cells that may be asked a number of times. A search over them can be ended when that is spent.
 #[derive(Drop)]
 pub struct Limited<C> {
-    cells: C,
+    /// What the boards are looked up in.
+    pub cells: C,
     /// So many boards may still be looked up.
     pub left: u64,
 }

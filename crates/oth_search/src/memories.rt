@@ -10,10 +10,10 @@ use std::alloc::Global;
 const FEWEST_EMPTIES_MORE: u8 = 9;
 
 // Boards with fewer empty squares go into one of the two memories, where there are both.
-const FEWEST_EMPTIES_SHARED: u8 = 15;
+const FEWEST_EMPTIES_IN_TABLE: u8 = 15;
 
 // From so many empty squares at the root on a memory for boards of few empty squares pays: it takes time to make.
-const FEWEST_EMPTIES_REMEMBERED: u8 = 10;
+const FEWEST_ROOT_EMPTIES_REMEMBERED: u8 = 10;
 
 // From so many at the root on the memory for boards of more pays, where nobody else could learn what is in it.
 const FEWEST_EMPTIES_ALONE: u8 = 18;
@@ -50,7 +50,7 @@ impl Memories {
 
     /// Whether boards with so many empty squares, 9 and more, are remembered.
     pub fn remembers(&self, empties: u8) -> bool {
-        self.has_more && empties < FEWEST_EMPTIES_SHARED
+        self.has_more && empties < FEWEST_EMPTIES_IN_TABLE
     }
 
     /// What is remembered of the board by this scoring.
@@ -98,5 +98,5 @@ impl Memories {
 
 /// Whether a memory pays where so many squares are empty at the root.
 pub fn is_remembered(empties: u8) -> bool {
-    empties >= FEWEST_EMPTIES_REMEMBERED
+    empties >= FEWEST_ROOT_EMPTIES_REMEMBERED
 }

@@ -19,10 +19,10 @@ use std::alloc::Global;
 const MOST_PLIES: u8 = 30;
 
 // How often the moves of a board are gone through. A board that others are at is left to them but in the last round.
-const ROUNDS: u32 = 3;
+const MOVE_ROUNDS: u32 = 3;
 
 // In this round no board is left to another worker.
-const LAST_ROUND: u32 = 2;
+const LAST_MOVE_ROUND: u32 = 2;
 
 impl Solved {
     /// The board with closer bounds, by a search over its moves. They decide the window unless the search is given up.
@@ -185,8 +185,8 @@ fn narrow_moves<C: Cells, H: Company<C>>(
     let squares = company.order(&board);
     let together = company.together(board.empties());
     let mut node = Node::of(asked, window, together, company.alloc());
-    for round in 0..ROUNDS {
-        node.leaves = round < LAST_ROUND;
+    for round in 0..MOVE_ROUNDS {
+        node.leaves = round < LAST_MOVE_ROUND;
         if let Some(found) = visit_all(&mut node, squares.as_slice(), plies, cells, company) {
             return asked.joined(&found);
         }

@@ -48,6 +48,6 @@ impl NullWindow {
         ensures decides { Decides result.interval.lower result.interval.upper self.alpha (self.alpha +ℤ pos 1) }
         ensures fixed { C.fixed cells.new ≡ C.fixed cells.old }
     {
-        Solved::by_probe(board, self.alpha, cells, scoring)
+        Solved::by_null_window(board, self.alpha, cells, scoring)
     }
 }

@@ -17,7 +17,7 @@ use oth_rules::{Board, Scoring};
 const FEWEST_EMPTIES_GUESSED: u8 = 12;
 
 // So often a start that no move reaches is lowered: first to the most that the root may still have, and then further.
-const ROUNDS: u8 = 6;
+const START_ROUNDS: u8 = 6;
 
 // Each question of a value leaves fewer of the 129 scores.
 const MOST_QUESTIONS: u8 = 128;
@@ -153,7 +153,7 @@ pub(crate) fn leader<C: Cells, O: Observer<C>>(
 {
     let mut most = start;
     let mut step = 1;
-    for _ in 0..ROUNDS {
+    for _ in 0..START_ROUNDS {
         let found = reaching(replies, most, cells, observer);
         if found.is_some() || observer.is_over(cells) {
             return found;

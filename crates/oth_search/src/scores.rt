@@ -144,7 +144,8 @@ fn exact_replies<C: Cells>(board: &Board, cells: &mut C, scoring: Scoring) -> Ar
     for square in squares.as_slice() {
         if let Some(child) = board.play(*square) {
             let known = Solved::unknown(child, scoring);
-            replies.push(value_of(&known, cells, &mut Unobserved));
+            let valued = value_of(&known, replies.as_slice().last(), cells, &mut Unobserved);
+            replies.push(valued);
         }
     }
     replies

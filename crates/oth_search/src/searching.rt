@@ -6,7 +6,7 @@ ghost use Rattle.oth_rules.specs.Symmetry.{canonical};
 ghost use Rattle.oth_search.specs.Bound.{IsThreshold, IsWindow, Encloses, Decides, IsOpen};
 
 use crate::cells::Cells;
-use crate::deep::{known, probe_with};
+use crate::deep::{known, nws_with};
 use crate::entry::Entry;
 use crate::interval::{Interval, greater, lesser};
 use crate::solved::Solved;
@@ -65,14 +65,19 @@ impl Solved {
     }
 
     /// The board with bounds that tell on which side of `alpha` its value lies, by a search with no other question.
-    pub fn by_probe<C: Cells>(board: &Board, alpha: i8, cells: &mut C, scoring: Scoring) -> Solved
+    pub fn by_null_window<C: Cells>(
+        board: &Board,
+        alpha: i8,
+        cells: &mut C,
+        scoring: Scoring,
+    ) -> Solved
         requires { IsThreshold alpha }
         ensures board { result.board ≡ board.now }
         ensures scoring { result.scoring ≡ scoring }
         ensures decides { Decides result.interval.lower result.interval.upper alpha (alpha +ℤ pos 1) }
         ensures fixed { C.fixed cells.new ≡ C.fixed cells.old }
     {
-        let found = probe_with(*board, alpha, cells, scoring);
+        let found = nws_with(*board, alpha, cells, scoring);
         Solved::unknown(*board, scoring).narrowed(alpha, found)
     }
 
@@ -92,7 +97,7 @@ impl Solved {
 }
 
 // Narrows what is known of the canonical image until it decides the window, by a search of the board. What that finds
-// is the answer of a probe at `low`, and of one just below `high`.
+// is the answer of a null-window search at `low`, and of one just below `high`.
 fn narrow<C: Cells>(board: Board, known: Solved, alpha: i8, beta: i8, cells: &mut C) -> Solved
     requires window { IsWindow alpha beta }
     requires open { IsOpen known.interval.lower known.interval.upper alpha beta }

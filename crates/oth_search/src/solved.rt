@@ -115,7 +115,7 @@ impl Solved {
         }
     }
 
-    /// The bounds after a probe at `alpha` that found `found`.
+    /// The bounds after a null-window search at `alpha` that found `found`.
     pub fn narrowed(self, alpha: i8, found: i8) -> Solved
         requires { BoundsAt (value (score_of self.scoring) self.board) alpha found }
         ensures board { result.board ≡ self.board }
@@ -205,11 +205,14 @@ impl Solved {
         requires some { can_move (pass board.now) ≡ true }
         ensures board { result.board ≡ board.now }
         ensures scoring { result.scoring ≡ self.now.scoring }
+        ensures lower { result.interval.lower ≡ neg_ℤ self.now.interval.upper }
+        ensures upper { result.interval.upper ≡ neg_ℤ self.now.interval.lower }
     {
+        let interval = self.interval.turned();
         Solved {
             board: *board,
             scoring: self.scoring,
-            interval: self.interval.turned(),
+            interval,
         }
     }
 }

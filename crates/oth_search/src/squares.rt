@@ -29,7 +29,7 @@ pub fn preferred(set: u64, early: u64) -> Square
     Square::first_of(set)
 }
 
-/// The quarters of the board with an odd number of these squares. Who moves into such a quarter tends to move last
+/// The quadrants of the board with an odd number of these squares. Who moves into such a quadrant tends to move last
 /// there.
 pub fn odd_quadrants(set: u64) -> u64 {
     let pairs = set ^ (set >> 1);
@@ -39,10 +39,10 @@ pub fn odd_quadrants(set: u64) -> u64 {
     odd.wrapping_mul(FIRST_QUADRANT)
 }
 
-// The first square of each quarter of the board, of 16 squares each.
+// The first square of each quadrant of the board, of 16 squares each.
 const FIRST_OF_QUADRANTS: u64 = 0x0000_0011_0000_0011;
 
-// The squares of the first quarter.
+// The squares of the first quadrant.
 const FIRST_QUADRANT: u64 = 0x0000_0000_0f0f_0f0f;
 
 /// Whether the square is in the set.

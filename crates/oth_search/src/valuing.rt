@@ -4,6 +4,7 @@ ghost use Rattle.oth_rules.specs.Laws.{IsScore};
 
 use crate::cells::Cells;
 use crate::combining::known_below;
+use crate::interval::{Interval, greater, lesser};
 use crate::observer::Observer;
 use crate::root::{exact_at, leader, replies_of, start};
 use crate::solved::Solved;
@@ -11,31 +12,84 @@ use arrayvec::ArrayVec;
 
 /// The board with its value, by what is known of it and a search. Of the boards after its moves one is searched to its
 /// value, and each other only so far that it is no better for the mover. The observer hears of each search of one of
-/// them.
-pub fn value_of<C: Cells, O: Observer<C>>(known: &Solved, cells: &mut C, observer: &mut O) -> Solved
+/// them. A sibling, a board after another move of the same parent, tells which score is asked for first: that of
+/// siblings is often near. No value depends on it.
+pub fn value_of<C: Cells, O: Observer<C>>(
+    known: &Solved,
+    sibling: Option<&Solved>,
+    cells: &mut C,
+    observer: &mut O,
+) -> Solved
     ensures board { result.board ≡ known.now.board }
     ensures scoring { result.scoring ≡ known.now.scoring }
     ensures exact { result.interval.lower ≡ result.interval.upper }
     ensures fixed { C.fixed cells.new ≡ C.fixed cells.old }
 {
-    let replies = settled_replies(&known.awake(), cells, observer);
+    let likely = likely_score(known, sibling);
+    let replies = settled_replies(&known.awake(), likely, cells, observer);
     let told = known_below(known.board, 1, replies.as_slice(), known.scoring);
     known.joined(&told).exact(cells)
 }
 
-// The boards after the root's moves, with bounds that tell the root's value.
+// Of boards with more empty squares a guess is nearer than the score of a sibling.
+const MOST_EMPTIES_BY_SIBLING: u8 = 15;
+
+// The score of a sibling, as the side sees it that moves first on this board, if it is of use.
+fn likely_score(known: &Solved, sibling: Option<&Solved>) -> Option<i8>
+    ensures { IfSome result IsScore }
+{
+    if known.board.empties() > MOST_EMPTIES_BY_SIBLING {
+        return None;
+    }
+    let score = sibling?.interval.upper;
+    Some(if known.board.can_move() {
+        score
+    } else {
+        -score
+    })
+}
+
+// The boards after the root's moves, with bounds that tell the root's value, which is likely to be near this score.
 fn settled_replies<C: Cells, O: Observer<C>>(
     root: &Solved,
+    likely: Option<i8>,
     cells: &mut C,
     observer: &mut O,
 ) -> ArrayVec<Solved, 64>
+    requires { IfSome likely IsScore }
     ensures fixed { C.fixed cells.new ≡ C.fixed cells.old }
 {
     let mut replies = replies_of(root, &[]);
     let limit = -root.interval.lower;
-    let start = start(replies.as_mut_slice(), limit, root.board.empties(), cells);
+    let start = first_asked(root, replies.as_mut_slice(), likely, cells);
     settle_value(replies.as_mut_slice(), start, limit, cells, observer);
     replies
+}
+
+// The value that a reply is first asked for: by the root's likely score, or else as `start` tells.
+fn first_asked<C: Cells>(
+    root: &Solved,
+    replies: &mut [Solved],
+    likely: Option<i8>,
+    cells: &mut C,
+) -> i8
+    requires few { length replies.old ≤ 64 }
+    requires likely { IfSome likely IsScore }
+    ensures score { IsScore result }
+    ensures fixed { C.fixed cells.new ≡ C.fixed cells.old }
+{
+    if let Some(score) = likely {
+        return -within(root.interval, score);
+    }
+    start(replies, -root.interval.lower, root.board.empties(), cells)
+}
+
+// The score of the interval that is nearest to this one.
+fn within(interval: Interval, score: i8) -> i8
+    requires { IsScore score }
+    ensures { IsScore result }
+{
+    greater(interval.lower, lesser(score, interval.upper))
 }
 
 // Narrows what is known of the replies, one of which is known to have at most the value `limit`, until the least value

@@ -7,7 +7,7 @@ ghost use Rattle.oth_rules.specs.Value.{value};
 ghost use Rattle.oth_search.specs.Bound.{WithinAt, IsInner};
 
 use crate::cells::Cells;
-use crate::deep::probe_with;
+use crate::deep::nws_with;
 use crate::interval::greater;
 use crate::ordering::order;
 use oth_rules::{Board, Scoring};
@@ -64,7 +64,7 @@ fn search_moves<C: Cells>(board: Board, alpha: i8, beta: i8, cells: &mut C, scor
     best
 }
 
-// What a move to this board gives: a later move is opened only where a probe lies inside the window.
+// What a move to this board gives: a later move is opened only where a null-window search lies inside the window.
 #[cycle(window)]
 fn search_reply<C: Cells>(
     child: Board,
@@ -81,7 +81,7 @@ fn search_reply<C: Cells>(
     if is_first && beta - 1 != alpha {
         return -search_window(child, -beta, -alpha, cells, scoring);
     }
-    let found = -probe_with(child, -alpha - 1, cells, scoring);
+    let found = -nws_with(child, -alpha - 1, cells, scoring);
     if found <= alpha {
         return found;
     }

@@ -83,6 +83,19 @@ fn looks_up_and_puts(rt: HostRuntime) -> Result<(), Fail> {
 }
 
 #[test]
+fn looks_up_what_is_kept(rt: HostRuntime) -> Result<(), Fail> {
+    let board = board_of(&rt, A);
+    let mut cells = Kept::nothing();
+    search(&board, -51, -50, &mut cells, Scoring::Winner);
+    let known = Solved::looked_up(&board, &mut cells, Scoring::Winner);
+    check_bounds(&rt, known.interval, -50, 64);
+    let other = Solved::looked_up(&board, &mut cells, Scoring::Discs);
+    check_bounds(&rt, other.interval, -64, 64);
+    check_kept(&rt, &cells, [A[0], A[1], AT_LEAST], 3, 1);
+    Ok(())
+}
+
+#[test]
 fn keeps_a_bound(rt: HostRuntime) -> Result<(), Fail> {
     let board = board_of(&rt, A);
     let mut above = Kept::nothing();
@@ -143,9 +156,10 @@ fn looks_up_no_finished_board(rt: HostRuntime) -> Result<(), Fail> {
     Ok(())
 }
 
-/// The boards with fewer empty squares are remembered and not kept, so a probe of nine makes one look and one put.
+/// The boards with fewer empty squares are remembered and not kept, so a null-window search of nine makes one look and
+/// one put.
 #[test]
-fn keeps_what_a_probe_tells(rt: HostRuntime) -> Result<(), Fail> {
+fn keeps_what_a_null_window_tells(rt: HostRuntime) -> Result<(), Fail> {
     let Some(board) = after_least_moves(9) else {
         panic!(rt; "no line")
     };
@@ -154,7 +168,7 @@ fn keeps_what_a_probe_tells(rt: HostRuntime) -> Result<(), Fail> {
     assert!(rt; -64 < value && value < 64);
     let (image, _) = board.canonical();
     let mut above = Kept::nothing();
-    let found = Solved::by_probe(&board, value - 1, &mut above, Scoring::Winner);
+    let found = Solved::by_null_window(&board, value - 1, &mut above, Scoring::Winner);
     assert!(rt; found.interval.lower == value && found.interval.upper == 64);
     let lower = (i16::from(value) + 64) as u64;
     check_kept(
@@ -164,10 +178,10 @@ fn keeps_what_a_probe_tells(rt: HostRuntime) -> Result<(), Fail> {
         1,
         1,
     );
-    Solved::by_probe(&board, value - 1, &mut above, Scoring::Winner);
+    Solved::by_null_window(&board, value - 1, &mut above, Scoring::Winner);
     assert!(rt; above.looks == 2 && above.puts == 1);
     let mut below = Kept::nothing();
-    let found = Solved::by_probe(&board, value, &mut below, Scoring::Winner);
+    let found = Solved::by_null_window(&board, value, &mut below, Scoring::Winner);
     assert!(rt; found.interval.lower == -64 && found.interval.upper == value);
     check_kept(&rt, &below, [image.own(), image.opp(), 256 * lower], 1, 1);
     Ok(())

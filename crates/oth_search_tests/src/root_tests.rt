@@ -3,7 +3,9 @@ ghost use Rattle.std.specs.Prelude.{◌≡◌};
 
 use crate::tests::board_of;
 use oth_rules::{Board, Scoring};
-use oth_search::{Cells, Entry, NoCells, Solved, Unobserved, settle_moves, solve_alone};
+use oth_search::{
+    Cells, Entry, NoCells, Solved, Unobserved, settle_moves, solve_alone, solve_moves,
+};
 use std::test::Fail;
 
 /// Keeps nothing, and counts the calls.
@@ -43,6 +45,21 @@ fn searches_no_reply_that_is_settled(rt: HostRuntime) -> Result<(), Fail> {
         let bounds = reply.interval;
         assert!(rt; bounds.lower == bounds.upper || bounds.lower > least);
     }
+    Ok(())
+}
+
+#[test]
+fn answers_by_replies_that_are_settled(rt: HostRuntime) -> Result<(), Fail> {
+    let board = board_of(&rt, [0xd470_0405_47e5_dd00, 0x0205_7a18_b81a_22fc]);
+    let root = Solved::unknown(board, Scoring::Winner);
+    let replies = settle_moves(&root, &[], &mut NoCells, &mut Unobserved);
+    let mut cells = Counted { looks: 0 };
+    if !root.board.can_move() {
+        panic!(rt; "no move")
+    }
+    let answer = solve_moves(root, replies.as_slice(), &mut cells, &mut Unobserved);
+    assert!(rt; cells.looks == 0);
+    assert!(rt; answer.score == -4);
     Ok(())
 }
 

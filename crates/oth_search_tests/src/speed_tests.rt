@@ -23,8 +23,8 @@ fn a_root_knows_what_its_replies_give_it(rt: HostRuntime) -> Result<(), Fail> {
     Ok(())
 }
 
-/// A wide window opens the first move at once, and any later one only behind a probe: 366 boards are looked up, and 511
-/// where the first is probed too.
+/// A wide window opens the first move at once, and any later one only behind a null-window search: 366 boards are
+/// looked up, and 511 where the first is asked so too.
 #[test]
 fn a_window_opens_its_first_move(rt: HostRuntime) -> Result<(), Fail> {
     let board = board_of(&rt, [0x0006_2a2c_5808_442c, 0xf0f8_d5d3_a757_9910]);

@@ -191,11 +191,11 @@ fn combines_what_is_known(rt: HostRuntime) -> Result<(), Fail> {
 }
 
 #[test]
-fn probes_one_threshold(rt: HostRuntime) -> Result<(), Fail> {
+fn a_null_window_tells_one_threshold(rt: HostRuntime) -> Result<(), Fail> {
     let board = board_of(&rt, A);
-    let above = Solved::by_probe(&board, -51, &mut NoCells, Scoring::Winner).interval;
+    let above = Solved::by_null_window(&board, -51, &mut NoCells, Scoring::Winner).interval;
     check_bounds(&rt, above, -50, 64);
-    let below = Solved::by_probe(&board, -50, &mut NoCells, Scoring::Winner).interval;
+    let below = Solved::by_null_window(&board, -50, &mut NoCells, Scoring::Winner).interval;
     check_bounds(&rt, below, -64, -50);
     Ok(())
 }

@@ -1,5 +1,5 @@
-//! What the proofs say of a table: its history, and what each seat knows. Of these types only `Terms` and `Limits` have
-//! values.
+//! What the proofs say of a table: its sequential history, as linearizability asks for (Herlihy and Wing, 1990), and
+//! what each seat knows. Of these types only `Terms` and `Limits` have values.
 use oth_history::Name;
 use oth_rules::Scoring;
 use oth_search::Entry;

@@ -1,4 +1,6 @@
-//! The table, which threads share, and the seats through which they use it.
+//! The table, which threads share, and the seats through which they use it. Each cell is a seqlock: a version, odd
+//! while a writer is at it, and the words of an entry (Boehm, Can seqlocks get along with programming language memory
+//! models?, 2012).
 ghost use Rattle.std.specs.Prelude.{◌≡◌, ℕ, MatchBool, Option, ◌+◌, ◌*◌, ◌/◌, ◌%◌, ◌^◌, ◌<◌, ◌≤◌, List, [], Some, IfOk};
 ghost use Rattle.std.specs.Prelude.{IfErr, ◌-◌};
 ghost use Rattle.oth_search.specs.Entries.{Bounded, joined, words_of};

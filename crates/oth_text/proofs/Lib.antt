@@ -10,3 +10,4 @@ pub mod PairLemmas
 pub mod TranscriptLemmas
 pub mod GameLemmas
 pub mod OneLineLemmas
+pub mod RankingLemmas

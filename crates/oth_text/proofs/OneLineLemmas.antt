@@ -1,14 +1,14 @@
 -- The lines that are printed carry no byte 10.
-use Rattle.std.proofs.Common.{◌≡◌, ◌≢◌, ◌+◌, ◌%◌, ◌/◌, ◌^◌, ◌<◌, ◌==◌, ℕ, suc, ℤ, pos, negsuc, List, [], ◌∷◌, ◌++◌, Bool, true, false, not, refl, sym, ◌∙◌, arith, subst, decimal}
+use Rattle.std.proofs.Common.{◌≡◌, ◌≢◌, ◌+◌, ◌%◌, ◌/◌, ◌^◌, ◌<◌, ◌==◌, ℕ, suc, ℤ, pos, negsuc, List, [], ◌∷◌, ◌++◌, Bool, true, false, not, refl, sym, ◌∙◌, arith, subst, decimal, if◌then◌else◌}
 use Rattle.std.specs.Prelude.{map}
-use Rattle.std.specs.List.{list_all}
+use Rattle.std.specs.List.{AllByRecursion, list_all}
 use Rattle.std.proofs.lemmas.Bool.{eq-eqb}
 use Rattle.std.proofs.lemmas.List.Elements.{All-append, All-cons, All-map}
 use Rattle.std.proofs.lemmas.Int.{ints}
 use Rattle.std.proofs.lemmas.Fmt.{decimal_by_steps}
 use Rattle.oth_rules.specs.Square.{squares}
 use Rattle.oth_rules.specs.Position.{Position as Discs, Cell, Mine, Theirs, Empty, cell}
-use Rattle.oth_rules.specs.Move.{legal_squares}
+use Rattle.oth_rules.specs.Move.{after, can_move, legal_squares}
 use Rattle.oth_rules.specs.Laws.{IsScore}
 use Rattle.oth_rules.specs.Score.{score_of}
 use Rattle.oth_rules.specs.Value.{value}
@@ -21,7 +21,10 @@ use Rattle.oth_text.specs.declared.position.Side.{Side}
 use Rattle.oth_text.specs.declared.position.Side.TheVariants.{Black, White}
 use Rattle.oth_text.specs.declared.position.Position.{Position}
 use Rattle.oth_text.specs.BoardLine.{board_line, cell_byte, side_byte}
+use Rattle.oth_search.specs.declared.scores.ScoredMove.{ScoredMove}
+use Rattle.oth_text.proofs.RankingLemmas.{each_ranked}
 use Rattle.oth_text.specs.OneLine.{IsOneLine}
+use Rattle.oth_text.specs.Ranking.{best_first, scored_move, scored_moves, scored_name, scored_names, scores_line_of}
 use Rattle.oth_text.specs.Report.{best_squares, moves_line_of, moves_or_word, names, report_line_of, score_text, square_name}
 
 cons : (b : ℕ) (bs : List ℕ) → b ≢ 10 → IsOneLine bs → IsOneLine (b ∷ bs)
@@ -97,3 +100,33 @@ unfolding report_line_of
 report_line-one line g b is = subst IsOneLine (sym is)
     (IsOneLine-append (score_text (value (score_of g) b)) (32 ∷ moves_or_word (kind_of b) (best_squares g b)) (score-one (value (score_of g) b) (IsScore-value g b))
     (cons 32 (moves_or_word (kind_of b) (best_squares g b)) (omega arith) (moves-one (kind_of b) (best_squares g b))))
+
+-- ---- moves with scores
+
+abbrev HaveScores : List ScoredMove → Type 0
+HaveScores ms = AllByRecursion (λ m. IsScore m.score) ms
+
+each_scored : (g : Scoring) (b : Discs) (moves : List ℕ) → HaveScores (map (scored_move g b) moves)
+each_scored g b [] = tt
+each_scored g b (s ∷ moves) =
+    let v = IsScore-value g (after b s) in
+    let low = v.low in
+    let high = v.high in
+    (record { low = omega (arith, ints); high = omega (arith, ints) }, each_scored g b moves)
+
+scored-one : (m : ScoredMove) → IsScore m.score → IsOneLine (scored_name m)
+scored-one m is = IsOneLine-append (score_text m.score) (32 ∷ square_name m.square) (score-one m.score is) (cons 32 (square_name m.square) (omega arith) (name m.square))
+
+scored_names-one : (ms : List ScoredMove) → HaveScores ms → IsOneLine (scored_names ms)
+scored_names-one [] each = none
+scored_names-one (m ∷ []) each = scored-one m each.0
+scored_names-one (m ∷ n ∷ ms) each =
+    IsOneLine-append (scored_name m) (32 ∷ scored_names (n ∷ ms)) (scored-one m each.0) (cons 32 (scored_names (n ∷ ms)) (omega arith) (scored_names-one (n ∷ ms) each.1))
+
+pub scores_line-one : (line : List ℕ) (g : Scoring) (b : Discs) → line ≡ scores_line_of g b → IsOneLine line
+unfolding scores_line_of scored_moves
+scores_line-one line g b is = subst IsOneLine (sym is) (go (can_move b))
+  where
+    go : (can : Bool) → IsOneLine (if can then scored_names (best_first (scored_moves g b)) else report_line_of g b)
+    go true = scored_names-one (best_first (scored_moves g b)) (each_ranked (λ m. IsScore m.score) [] (scored_moves g b) tt (each_scored g b (legal_squares b)))
+    go false = report_line-one (report_line_of g b) g b refl

@@ -4,6 +4,7 @@ pub mod Sides
 pub mod BoardLine
 pub mod Discs
 pub mod Report
+pub mod Ranking
 pub mod FaultLine
 pub mod Transcript
 pub mod Game

@@ -9,6 +9,7 @@ mod fault;
 mod fault_text;
 mod game;
 mod position;
+mod ranking;
 mod report;
 mod transcript;
 
@@ -19,5 +20,6 @@ pub use fault::{GameFault, LineFault, TranscriptFault};
 pub use fault_text::{FAULT_LINE_LEN, fault_line, game_fault_line, transcript_fault_line};
 pub use game::{GameReader, read_game};
 pub use position::{Position, Side};
+pub use ranking::{SCORES_LINE_LEN, ranked, scores_line};
 pub use report::{MOVES_LINE_LEN, REPORT_LINE_LEN, moves_line, report_line};
 pub use transcript::{TranscriptReader, play_transcript, read_transcript};

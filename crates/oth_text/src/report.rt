@@ -35,20 +35,23 @@ pub fn report_line(answer: &Answer) -> ArrayVec<u8, REPORT_LINE_LEN>
     ensures one_line { IsOneLine result.items }
 {
     let mut line = ArrayVec::new();
-    push_score(&mut line, answer.score);
+    push_text(&mut line, signed(answer.score).as_slice());
     line.push(b' ');
     push_moves(&mut line, answer.kind, answer.best);
     line
 }
 
-// A sign and the score.
-fn push_score(line: &mut ArrayVec<u8, REPORT_LINE_LEN>, score: i8)
-    requires { line.old.items ≡ [] }
-    ensures text { line.new.items ≡ score_text score }
-    ensures len { array_vec_len line.new ≤ 4 }
+/// A sign and the score.
+pub(crate) fn signed(score: i8) -> ArrayVec<u8, 4>
+    ensures { result.items ≡ score_text score }
 {
+    let mut line = ArrayVec::new();
     line.push(if score < 0 { b'-' } else { b'+' });
-    push_text(line, Buffer::new().format(score.unsigned_abs()).as_bytes());
+    push_text(
+        &mut line,
+        Buffer::new().format(score.unsigned_abs()).as_bytes(),
+    );
+    line
 }
 
 // The names of the moves, or `pass`, or `end`.
@@ -85,8 +88,12 @@ fn has(word: u64, n: u8) -> bool
     word >> n & 1 == 1
 }
 
-// A square's name, behind a space where it isn't the first.
-fn push_name<const CAPACITY: usize>(line: &mut ArrayVec<u8, CAPACITY>, n: u8, is_first: bool)
+/// A square's name, behind a space where it isn't the first.
+pub(crate) fn push_name<const CAPACITY: usize>(
+    line: &mut ArrayVec<u8, CAPACITY>,
+    n: u8,
+    is_first: bool,
+)
     requires within { n < 64 }
     requires room { array_vec_len line.old + (if is_first then 2 else 3) ≤ CAPACITY }
     ensures { line.new.items ≡ line.old.items ++ (if is_first then square_name n else 32 ∷ square_name n) }

@@ -1,12 +1,12 @@
 //! Board lines, transcripts, reports and devices.
 use oth_rules::Scoring;
-use oth_search::solve_alone;
+use oth_search::{NoCells, scores_with, solve_alone};
 use oth_text::fakes::{BrokenSource, ByteSink};
 use oth_text::{
     BoardReader, Failed, FromRead, GameFault, GameReader, LineFault, Position, Sink, Source,
     ToWrite, TranscriptFault, TranscriptReader, fault_line, game_fault_line, moves_line,
     play_transcript, read_board, read_game, read_solvable, read_transcript, report_line,
-    transcript_fault_line, write_all, write_board,
+    scores_line, transcript_fault_line, write_all, write_board,
 };
 use std::cell::Cell;
 use std::io::{Error, ErrorKind, Read, Write};
@@ -49,6 +49,12 @@ fn is_reported(rt: &impl Abort, line: &[u8], scoring: Scoring, report: &[u8]) ->
         Ok(answer) => report_line(&answer).as_slice() == report,
         Err(_) => false,
     }
+}
+
+// Whether the scores line of the board line is this text.
+fn is_scored(rt: &impl Abort, line: &[u8], scoring: Scoring, text: &[u8]) -> bool {
+    let scores = scores_with(shown(rt, line).board, &mut NoCells, scoring);
+    scores_line(&scores).as_slice() == text
 }
 
 // Whether the moves line of the board line is this text.
@@ -117,6 +123,25 @@ fn a_report_has_the_score_and_all_best_moves(rt: HostRuntime) {
     assert!(rt; is_reported(&rt, DRAWN, Scoring::Winner, b"+0 end"));
     assert!(rt; is_reported(&rt, PASSING, Scoring::Winner, b"-64 pass"));
     assert!(rt; is_reported(&rt, CORNERS, Scoring::Discs, b"-49 h1"));
+}
+
+// The scores of the last board are those of an independent solver: c7 (square 50) comes before a8 (square 56).
+#[test]
+fn a_scores_line_has_every_move_the_best_first(rt: HostRuntime) {
+    assert!(rt; is_scored(&rt, CORNERS, Scoring::Winner, b"-50 h1 -64 b1"));
+    assert!(rt; is_scored(&rt, CORNERS, Scoring::Discs, b"-49 h1 -63 b1"));
+    assert!(rt; is_scored(&rt, TWO_BEST, Scoring::Winner, b"+64 a1 +64 h1"));
+    assert!(rt; is_scored(&rt, CORNERS_TURNED, Scoring::Winner, b"+50 pass"));
+    assert!(rt; is_scored(&rt, DRAWN, Scoring::Winner, b"+0 end"));
+    assert!(rt; is_scored(&rt, FULL, Scoring::Winner, b"-64 end"));
+    assert!(rt;
+        is_scored(
+            &rt,
+            b"OOOOOOOOOOOOXXOXOXO-OOXXOOXXXXXXOOOOXOXX--OXOXOX-O-OXOOO--XXXX-O X",
+            Scoring::Winner,
+            b"+12 d3 -6 b6 -8 c7 -8 a8 -12 g8 -14 a6"
+        )
+    );
 }
 
 #[test]

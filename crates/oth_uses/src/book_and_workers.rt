@@ -4,7 +4,11 @@ ghost use Rattle.std.specs.Prelude.{◌≡◌, Err, IfOk};
 ghost use Rattle.oth_search.specs.Full.{IsFullMinimax};
 ghost use Rattle.oth_book.specs.Contents.{Contents, IsText};
 ghost use Rattle.oth_book.specs.Fault.{IsBookFault};
+ghost use Rattle.oth_book.specs.True.{IsWrong};
 ghost use Rattle.oth_book.specs.declared.fault.BookFault.{BookFault as FaultOfBook};
+ghost use Rattle.oth_book.specs.declared.wrong.Wrong.{Wrong as WrongClaim};
+ghost use Rattle.oth_pool.specs.Solving.{Refuses};
+ghost use Rattle.oth_pool.specs.declared.solving.SolveError.{SolveError as Refusal};
 
 use oth_book::{BookFault, Wrong, read_claims, verify};
 use oth_pool::{Open, SolveError, solve};
@@ -30,6 +34,9 @@ pub fn solve_by_book<R: Threads + Sync>(
 ) -> Result<Answer, NoAnswer>
     ensures full { IfOk result (λ a. (c : Contents) × IsText c text.now × IsFullMinimax board.now c.scoring a) }
     ensures text { (f : FaultOfBook) → result ≡ Err (NoAnswer.Text f) → IsBookFault text.now f }
+    ensures claim { (w : WrongClaim) → result ≡ Err (NoAnswer.Claim w)
+        → (c : Contents) × IsText c text.now × IsWrong c w }
+    ensures board { (e : Refusal) → result ≡ Err (NoAnswer.Board e) → Refuses board.now 4 65536 e }
 {
     let claims = read_claims(alloc, text).map_err(NoAnswer::Text)?;
     let book = verify(alloc, claims).map_err(NoAnswer::Claim)?;

@@ -1,6 +1,7 @@
 //! Callers of the crates, as `docs/LIBRARY.md` shows them: each a file of its own, with its promise and its proof.
 #![tactic(auto)]
 
+mod analysis;
 mod book_and_workers;
 mod engine_cells;
 mod game;
@@ -11,6 +12,7 @@ mod solved_board;
 #[cfg(test)]
 mod tests;
 
+pub use analysis::{Unscored, loss_of, scores_after};
 pub use book_and_workers::{NoAnswer, solve_by_book};
 pub use engine_cells::bounds_about;
 pub use game::board_after;

@@ -1,10 +1,10 @@
 //! Each caller once, on boards whose answers are known.
 
 use crate::{
-    Unsolved, best_moves, board_after, bounds_about, bounds_in_time, kept_report, solve_both,
-    solve_by_book,
+    Unscored, Unsolved, best_moves, board_after, bounds_about, bounds_in_time, kept_report,
+    loss_of, scores_after, solve_both, solve_by_book,
 };
-use oth_rules::{Board, Scoring};
+use oth_rules::{Board, Scoring, Square};
 use oth_table::{SharedTable, TableCells};
 use std::test::Fail;
 
@@ -98,4 +98,32 @@ fn a_game_leads_to_its_board(rt: HostRuntime) {
         line.as_slice()
             == b"---------------------------OX------OXX-----O-------------------- X".as_slice()
     );
+}
+
+// The first 53 moves of a game. An independent solver says of the board there, with 7 empty squares and X to move:
+// a6 -6, b6 +4, c7 +4, a8 +12, g8 +2.
+const GAME: &[u8] =
+    b"f5f6c4f4g7b4f3h8e6f7e7d6c5f2c3d2b2a1g4e8g6b5e2g5a4d7e1b3a3e3g2c2h6f1b1h1f8h3h5g3h2d8g1a2d1c1c6b7c8h7h4a5d3";
+
+#[test]
+fn an_analysis_tells_what_a_move_lost(rt: HostRuntime) {
+    let Ok(found) = scores_after(rt.alloc(), GAME, Scoring::Winner) else {
+        panic!(rt; "no scores")
+    };
+    assert!(rt; found.score() == 12 && found.moves().len() == 5);
+    for (square, loss) in [
+        (40, Some(18)),
+        (41, Some(8)),
+        (50, Some(8)),
+        (56, Some(0)),
+        (62, Some(10)),
+        (0, None),
+    ] {
+        let Some(square) = Square::of(square) else {
+            panic!(rt; "no square")
+        };
+        assert!(rt; loss_of(&found, square) == loss);
+    }
+    let early = scores_after(rt.alloc(), b"f5d6", Scoring::Winner).map(|found| found.score());
+    assert!(rt; early == Err(Unscored::Empties));
 }

@@ -1,4 +1,6 @@
-//! The search of drawn items, and of the moves of the root that they leave open.
+//! The search of drawn items, and of the moves of the root that they leave open. The first reply to a move is searched
+//! before the others are shared out: young brothers wait (Feldmann, Monien, Mysliwietz and Vornberger, Distributed
+//! game-tree search, 1989).
 ghost use Rattle.std.specs.Prelude.{◌≡◌};
 
 use crate::gate::Gate;
@@ -15,10 +17,10 @@ const MOVES_BEFORE: usize = 1;
 
 // How often a worker that has no item left goes through the root's moves. One that others are at is left to them but in
 // the last round.
-const ROUNDS: u32 = 3;
+const SWEEPS: u32 = 3;
 
 // In this round no move is left to another worker.
-const LAST_ROUND: u32 = 2;
+const LAST_SWEEP: u32 = 2;
 
 // So many of the root's moves are searched by all workers together when no item is left.
 const MOVES_TOGETHER: u64 = 3;
@@ -74,7 +76,7 @@ fn search_drawn<G: Gate, C: Cells>(
         root_move.settle(walk);
         return walk.look_up(&item.board);
     }
-    search_eldest(&root_move, &item.board, walk);
+    search_elder_brother(&root_move, &item.board, walk);
     let found = root_move.search_reply(item.board, walk);
     root_move.settle(walk);
     found
@@ -107,23 +109,23 @@ fn settle_before<C: Cells>(scene: &Scene, square: Square, walk: &mut Walk<C>) {
     }
 }
 
-// Helps with the eldest reply to the move, unless this board is the one after it.
-fn search_eldest<C: Cells>(root_move: &RootMove, board: &Board, walk: &mut Walk<C>) {
+// Helps with the first reply to the move, unless this board is the one after it.
+fn search_elder_brother<C: Cells>(root_move: &RootMove, board: &Board, walk: &mut Walk<C>) {
     let squares = walk.order(&root_move.child);
     let Some(square) = squares.first() else {
         return;
     };
-    let Some(eldest) = root_move.child.play(*square) else {
+    let Some(elder) = root_move.child.play(*square) else {
         return;
     };
-    if eldest != *board && eldest.can_move() {
-        root_move.search_reply(eldest, walk);
+    if elder != *board && elder.can_move() {
+        root_move.search_reply(elder, walk);
     }
 }
 
 /// Searches what is open of the root's moves, when no item is left.
 pub fn settle_all<G: Gate, C: Cells>(scene: &Scene, gate: &G, walk: &mut Walk<C>) {
-    let rounds = if walk.plan.shares { ROUNDS } else { 1 };
+    let rounds = if walk.plan.shares { SWEEPS } else { 1 };
     let squares = moves_of(scene, walk);
     for round in 0..rounds {
         for square in squares.as_slice() {
@@ -138,7 +140,7 @@ pub fn settle_all<G: Gate, C: Cells>(scene: &Scene, gate: &G, walk: &mut Walk<C>
 // Settles the move, unless it is left to another worker in this round.
 fn settle_in_round<C: Cells>(root_move: &RootMove, round: u32, walk: &mut Walk<C>) {
     let together = walk.plan.shares && walk.settled() < MOVES_TOGETHER;
-    if together || round == LAST_ROUND || !walk.is_taken(&root_move.child) {
+    if together || round == LAST_SWEEP || !walk.is_taken(&root_move.child) {
         root_move.settle(walk);
     }
 }

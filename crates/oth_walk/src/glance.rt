@@ -8,7 +8,7 @@ use oth_rules::{Board, Square};
 use oth_search::{Cells, NullWindow, seeming_value};
 
 // The most scores that are asked for.
-const ROUNDS: u8 = 12;
+const GLANCE_ROUNDS: u8 = 12;
 
 // A guess is close enough where so few scores are left.
 const CLOSE: i8 = 4;
@@ -45,7 +45,7 @@ pub(crate) fn glance<C: Cells>(root: &Board, walk: &mut Walk<C>) -> Guess {
         None => Square::numbered(0),
     };
     let mut range = Range::new();
-    for _ in 0..ROUNDS {
+    for _ in 0..GLANCE_ROUNDS {
         let score = range.next();
         let ordered = beginning_with(Some(best), squares.as_slice());
         let found = reaching(root, ordered.as_slice(), score, walk);

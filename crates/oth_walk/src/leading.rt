@@ -8,7 +8,7 @@ use oth_rules::Square;
 use oth_search::Cells;
 
 // So often a guess that no move reaches is lowered: first to the most that the root may still reach.
-const ROUNDS: u32 = 6;
+const LEAD_ROUNDS: u32 = 6;
 
 // The second time it is lowered by so much below that.
 const SECOND_STEP: i8 = 2;
@@ -17,7 +17,7 @@ const SECOND_STEP: i8 = 2;
 /// no move reaches it, they are asked for less.
 pub(crate) fn lead<C: Cells>(scene: &Scene, walk: &mut Walk<C>) {
     let mut step = 0;
-    for _ in 0..ROUNDS {
+    for _ in 0..LEAD_ROUNDS {
         if walk.floor() > -64 {
             return;
         }

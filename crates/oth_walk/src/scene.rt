@@ -5,7 +5,7 @@ use oth_pieces::Frontier;
 use oth_rules::{Board, Scoring, Square};
 
 // From so many empty squares on a guess that workers make pays.
-const FEWEST_EMPTIES_GUESSED: u8 = 14;
+const FEWEST_EMPTIES_GUESSED_TOGETHER: u8 = 14;
 
 /// The board that is solved, its frontier, its moves in the order in which they are searched, and how the search is
 /// made.
@@ -50,7 +50,7 @@ impl Plan {
             fewest,
             dealt,
             shares: has_table,
-            guesses: has_table && empties >= FEWEST_EMPTIES_GUESSED,
+            guesses: has_table && empties >= FEWEST_EMPTIES_GUESSED_TOGETHER,
             root: empties,
             is_alone: false,
         }

@@ -2,8 +2,8 @@
 ghost use Rattle.std.specs.Prelude.{◌≡◌, pos, negsuc, ◌≤ℤ◌};
 
 use crate::glance::{Guess, glance};
-use crate::height::Height;
 use crate::hints::HintSeat;
+use crate::root_bound::RootBound;
 use crate::scene::Plan;
 use crate::way::Way;
 use crate::window::is_settled;
@@ -31,14 +31,14 @@ impl<'w, C: Cells> Walk<'w, C> {
         alloc: Global,
         plan: Plan,
         cells: C,
-        height: Height<'w>,
+        root_bound: RootBound<'w>,
         hints: HintSeat<'w>,
     ) -> Walk<'w, C> {
         Walk {
             alloc,
             plan,
             cells,
-            way: Way::of(alloc, plan, height, hints),
+            way: Way::of(alloc, plan, root_bound, hints),
             guess: None,
             found: Vec::new(alloc),
         }

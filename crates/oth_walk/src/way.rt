@@ -1,10 +1,11 @@
 //! One worker's way through the tree: which searches it has under way, and what it tells the others and hears from
-//! them.
+//! them. A node that another worker is at is deferred, as in ABDADA (Weill, The ABDADA distributed minimax-search
+//! algorithm, 1996).
 ghost use Rattle.std.specs.Prelude.{◌≡◌, pos, negsuc, ◌≤ℤ◌};
 
-use crate::height::Height;
 use crate::hints::HintSeat;
 use crate::move_order::MoveOrder;
+use crate::root_bound::RootBound;
 use crate::scene::Plan;
 use arrayvec::ArrayVec;
 use oth_rules::{Board, Square};
@@ -12,7 +13,7 @@ use oth_search::{Cells, Company, NullWindow, Solved, order};
 use std::alloc::Global;
 
 // Boards with fewer empty squares are ordered anew each time.
-const FEWEST_EMPTIES_KEPT: u8 = 12;
+const FEWEST_EMPTIES_PREFERRED: u8 = 12;
 
 // Boards with fewer empty squares than this, beyond those of the smallest that workers share, are small: see
 // `goals_after`.
@@ -20,7 +21,7 @@ const SMALL: u8 = 2;
 
 // The moves of a board with many empty squares that are searched whether or not another worker is at them, and of one
 // with few.
-const MOVES_TOGETHER: usize = 2;
+const CHILDREN_TOGETHER: usize = 2;
 
 const FEW_TOGETHER: usize = 1;
 
@@ -36,7 +37,7 @@ struct Goal {
 pub(crate) struct Way<'w> {
     alloc: Global,
     plan: Plan,
-    height: Height<'w>,
+    root_bound: RootBound<'w>,
     pub hints: HintSeat<'w>,
     // The root's move below which it searches, and the floor at which it does.
     square: Square,
@@ -49,11 +50,16 @@ pub(crate) struct Way<'w> {
 
 impl<'w> Way<'w> {
     /// Nothing is under way.
-    pub fn of(alloc: Global, plan: Plan, height: Height<'w>, hints: HintSeat<'w>) -> Way<'w> {
+    pub fn of(
+        alloc: Global,
+        plan: Plan,
+        root_bound: RootBound<'w>,
+        hints: HintSeat<'w>,
+    ) -> Way<'w> {
         Way {
             alloc,
             plan,
-            height,
+            root_bound,
             hints,
             square: Square::numbered(0),
             least: 64,
@@ -67,17 +73,17 @@ impl<'w> Way<'w> {
         ensures low { negsuc 63 ≤ℤ result }
         ensures high { result ≤ℤ pos 64 }
     {
-        self.height.least()
+        self.root_bound.least()
     }
 
     /// What the floor tells of the root.
     pub fn root(&mut self) -> Solved {
-        self.height.root()
+        self.root_bound.root()
     }
 
     /// Tells bounds of the root.
     pub fn raise(&mut self, bound: &Solved) {
-        self.height.raise(bound);
+        self.root_bound.raise(bound);
     }
 
     /// It goes on below this move of the root, at this floor.
@@ -104,7 +110,7 @@ impl<'w> Way<'w> {
 
     /// Each legal move of the board once, in the order in which it is searched: the one that is kept, where one is.
     pub fn order_of(&mut self, board: &Board) -> ArrayVec<Square, 64> {
-        if board.empties() < FEWEST_EMPTIES_KEPT {
+        if board.empties() < FEWEST_EMPTIES_PREFERRED {
             return order(board);
         }
         if let Some(kept) = self.hints.order_of(board) {
@@ -165,7 +171,7 @@ impl<'w, C: Cells> Company<C> for Way<'w> {
         if empties <= self.plan.dealt {
             FEW_TOGETHER
         } else {
-            MOVES_TOGETHER
+            CHILDREN_TOGETHER
         }
     }
 
@@ -209,7 +215,7 @@ impl<'w, C: Cells> Company<C> for Way<'w> {
     }
 
     fn prefer(&mut self, board: &Board, square: Square) {
-        if board.empties() < FEWEST_EMPTIES_KEPT {
+        if board.empties() < FEWEST_EMPTIES_PREFERRED {
             return;
         }
         if let Some(kept) = self.hints.order_of(board) {

@@ -15,7 +15,7 @@ pub fn is_settled(child: &Solved, least: i8) -> bool
 const OFF: i8 = 4;
 
 // The widest step.
-const WIDEST: i8 = 63;
+const WIDEST_PACE: i8 = 63;
 
 /// How far beyond a bound a search for a value asks next.
 #[derive(Clone, Copy)]
@@ -90,5 +90,5 @@ fn wider(step: i8) -> i8
     ensures low { pos 1 ≤ℤ result }
     ensures high { result ≤ℤ pos 63 }
 {
-    if step < 31 { 2 * step + 1 } else { WIDEST }
+    if step < 31 { 2 * step + 1 } else { WIDEST_PACE }
 }

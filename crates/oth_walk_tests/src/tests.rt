@@ -4,7 +4,7 @@ use oth_pieces::{Floor, Frontier};
 use oth_rules::samples::board;
 use oth_rules::{Board, Scoring, Square};
 use oth_search::{Answer, NoCells, order, solve_alone};
-use oth_walk::{Height, HintSeat, Hints, MoveOrder, Open, Plan, Scene, Walk, settle_all};
+use oth_walk::{HintSeat, Hints, MoveOrder, Open, Plan, RootBound, Scene, Walk, settle_all};
 use std::process::Abort;
 use std::test::Fail;
 
@@ -56,7 +56,7 @@ fn check_settled<R: AllocGlobal + Abort>(rt: &R, words: [u64; 2]) {
         rt.alloc(),
         plan,
         NoCells,
-        Height::of(&floor, seat),
+        RootBound::of(&floor, seat),
         HintSeat::none(),
     );
     settle_all(&scene, &Open, &mut walk);

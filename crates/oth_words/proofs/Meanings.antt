@@ -15,7 +15,7 @@ use Rattle.clap.specs.declared.parser.matches.ArgMatches.{ArgMatches}
 use Rattle.oth_words.specs.CommandLine.{HasNumbers, IsNumber, IsUnread, Meaning, Means, MeansRun, ScoringWords, add, othsolve, run, scoring_word, verify}
 use Rattle.oth_words.specs.declared.settings.Settings.{Settings}
 use Rattle.oth_words.specs.declared.settings.Command.{Command}
-use Rattle.oth_words.specs.declared.settings.Command.TheVariants.{Solve, Moves, Transcript, Play}
+use Rattle.oth_words.specs.declared.settings.Command.TheVariants.{Solve, Scores, Moves, Transcript, Play}
 
 -- two texts with different bytes at a place
 differ : (a b : Text) (k : ℕ) → a ≡ b → slice_index a k ≡ slice_index b k
@@ -30,6 +30,21 @@ solve_means rows (run s book) m = go s.command m
     go : (t : Command) → MeansRun t (codes "solve", rows) s book
         → (s : Settings) × HasNumbers rows s × (first_of (codes "scoring") rows ≡ Some (scoring_word s.scoring))
     go Solve m = (s, m.1, m.2)
+    go Scores m = absurd (let bad : 111 ≡ 99 = differ _ _ 1 m.0 in omega arith)
+    go Moves m = absurd (let bad : 115 ≡ 109 = differ _ _ 0 m.0 in omega arith)
+    go Transcript m = absurd (let bad : 115 ≡ 116 = differ _ _ 0 m.0 in omega arith)
+    go Play m = absurd (let bad : 115 ≡ 112 = differ _ _ 0 m.0 in omega arith)
+
+pub scores_means : (rows : List Row) (m : Meaning) → Means (Some (codes "scores", rows)) m
+    → (s : Settings) × HasNumbers rows s × (first_of (codes "scoring") rows ≡ Some (scoring_word s.scoring))
+scores_means rows (verify file) m = absurd (let bad : 115 ≡ 98 = differ _ _ 0 m.0 in omega arith)
+scores_means rows (add s file) m = absurd (let bad : 115 ≡ 98 = differ _ _ 0 m.0 in omega arith)
+scores_means rows (run s book) m = go s.command m
+  where
+    go : (t : Command) → MeansRun t (codes "scores", rows) s book
+        → (s : Settings) × HasNumbers rows s × (first_of (codes "scoring") rows ≡ Some (scoring_word s.scoring))
+    go Scores m = (s, m.1, m.2)
+    go Solve m = absurd (let bad : 99 ≡ 111 = differ _ _ 1 m.0 in omega arith)
     go Moves m = absurd (let bad : 115 ≡ 109 = differ _ _ 0 m.0 in omega arith)
     go Transcript m = absurd (let bad : 115 ≡ 116 = differ _ _ 0 m.0 in omega arith)
     go Play m = absurd (let bad : 115 ≡ 112 = differ _ _ 0 m.0 in omega arith)
@@ -37,6 +52,7 @@ solve_means rows (run s book) m = go s.command m
 -- the word of a command that reports lines doesn't begin as those of the book
 reports : (t : Command) (sub : Text × List Row) (s : Settings) (book : Option Text) → MeansRun t sub s book → slice_index sub.0 0 ≡ 98 → ⊥
 reports Solve sub s book m b = let other : slice_index sub.0 0 ≡ 115 = differ _ _ 0 m.0 in omega arith
+reports Scores sub s book m b = let other : slice_index sub.0 0 ≡ 115 = differ _ _ 0 m.0 in omega arith
 reports Moves sub s book m b = let other : slice_index sub.0 0 ≡ 109 = differ _ _ 0 m.0 in omega arith
 reports Transcript sub s book m b = let other : slice_index sub.0 0 ≡ 116 = differ _ _ 0 m.0 in omega arith
 reports Play sub s book m b = let other : slice_index sub.0 0 ≡ 112 = differ _ _ 0 m.0 in omega arith

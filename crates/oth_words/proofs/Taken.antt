@@ -17,11 +17,12 @@ use Rattle.clap.specs.declared.builder.value_parser.ValueParser.TheVariants as p
 use Rattle.oth_words.proofs.RowsPass.{HasText}
 use Rattle.oth_words.proofs.Levels.{IsOrdinary, enters, number_of, text_of}
 use Rattle.oth_words.proofs.WalkKeeps.{Each, MayEnter}
-use Rattle.oth_words.specs.CommandLine.{AreScorings, HasNumbers, IsNumber, Meaning, Means, ScoringWords, add, add_app, othsolve, program, run, scoring_word, solve_app, verify, verify_app}
+use Rattle.oth_words.specs.CommandLine.{AreScorings, HasNumbers, IsNumber, Meaning, Means, ScoringWords, add, add_app, othsolve, program, run, scores_app, scoring_word, solve_app, verify, verify_app}
 use Rattle.oth_rules.specs.declared.scoring.Scoring.{Scoring}
 use Rattle.oth_rules.specs.declared.scoring.Scoring.TheVariants.{Winner, Discs}
 use Rattle.oth_words.specs.declared.settings.Settings.{Settings}
-use Rattle.oth_words.specs.declared.settings.Command.TheVariants.{Solve, Moves, Transcript, Play}
+use Rattle.oth_words.specs.declared.settings.Command.{Command}
+use Rattle.oth_words.specs.declared.settings.Command.TheVariants.{Solve, Scores, Moves, Transcript, Play}
 
 -- ---- values
 
@@ -68,13 +69,13 @@ MeansSome sub = (m : Meaning) × Means (Some sub) m
 abbrev add_shape : Shape
 add_shape = built_sub add_app
 
--- the numbers of a solver, with this scoring
-numbers_taken : (scoring : Scoring) (rows : List Row) → HasText (built_rule add_shape (codes "workers")) rows → HasText (built_rule add_shape (codes "cells")) rows
-    → (s : Settings) × HasNumbers rows s × (s.command ≡ Solve) × (s.scoring ≡ scoring)
-numbers_taken scoring rows workers_text cells_text =
+-- the numbers of a search for this command, with this scoring
+numbers_taken : (command : Command) (scoring : Scoring) (rows : List Row) → HasText (built_rule add_shape (codes "workers")) rows → HasText (built_rule add_shape (codes "cells")) rows
+    → (s : Settings) × HasNumbers rows s × (s.command ≡ command) × (s.scoring ≡ scoring)
+numbers_taken command scoring rows workers_text cells_text =
     let workers = number_text (built_rule add_shape (codes "workers")) 1 16 rows refl workers_text in
     let cells = number_text (built_rule add_shape (codes "cells")) 0 262144 rows refl cells_text in
-    let settings : Settings = record { command = Solve; workers = workers.0; cells = cells.0; scoring = scoring } in
+    let settings : Settings = record { command = command; workers = workers.0; cells = cells.0; scoring = scoring } in
     let numbers : HasNumbers rows settings =
     record { workers = workers.1; cells = cells.1; some_workers = workers.2; most_workers = workers.3; most_cells = cells.3 } in
     (settings, numbers, refl, refl)
@@ -92,8 +93,30 @@ module _ (scorings : ScoringWords) (are : AreScorings scorings) where
       let text = text_of solve_shape words e solve_ordinary in
       let scoring_is = text (built_rule solve_shape (codes "scoring")) refl (inl tt) in
       let scoring = scoring_text scorings are scoring_is.text scoring_is.passes in
-      let numbers = numbers_taken scoring.0 rows (text (built_rule solve_shape (codes "workers")) refl (inl tt)) (text (built_rule solve_shape (codes "cells")) refl (inl tt)) in (
+      let numbers = numbers_taken Solve scoring.0 rows (text (built_rule solve_shape (codes "workers")) refl (inl tt)) (text (built_rule solve_shape (codes "cells")) refl (inl tt)) in (
         run (record { command = Solve; workers = numbers.0.workers; cells = numbers.0.cells; scoring = scoring.0 }) (first_of (codes "book") rows),
+        (
+          refl,
+          record { workers = numbers.1.workers; cells = numbers.1.cells; some_workers = numbers.1.some_workers; most_workers = numbers.1.most_workers; most_cells = numbers.1.most_cells },
+          scoring_is.first ∙ ap Some scoring.1,
+          refl,
+        ),
+      )
+
+  abbrev scores_shape : Shape
+  scores_shape = built_sub (scores_app scorings)
+
+  scores_ordinary : Each (IsOrdinary scores_shape.rules) scores_shape.rules
+  scores_ordinary = ((refl, inl (refl, refl)), ((refl, inl (refl, refl)), ((refl, inl (refl, refl)), ((refl, inr refl), tt))))
+
+  scores_taken : (words : List Text) → level_passes scores_shape [] nothing_held words false ≡ true → MeansSome (rows_at scores_shape words)
+  scores_taken words e =
+      let rows = (rows_at scores_shape words).1 in
+      let text = text_of scores_shape words e scores_ordinary in
+      let scoring_is = text (built_rule scores_shape (codes "scoring")) refl (inl tt) in
+      let scoring = scoring_text scorings are scoring_is.text scoring_is.passes in
+      let numbers = numbers_taken Scores scoring.0 rows (text (built_rule scores_shape (codes "workers")) refl (inl tt)) (text (built_rule scores_shape (codes "cells")) refl (inl tt)) in (
+        run (record { command = Scores; workers = numbers.0.workers; cells = numbers.0.cells; scoring = scoring.0 }) None,
         (
           refl,
           record { workers = numbers.1.workers; cells = numbers.1.cells; some_workers = numbers.1.some_workers; most_workers = numbers.1.most_workers; most_cells = numbers.1.most_cells },
@@ -118,7 +141,7 @@ add_taken words e =
     let rows = (rows_at add_shape words).1 in
     let text = text_of add_shape words e add_ordinary in
     let file = text (built_rule add_shape (codes "file")) refl (inr refl) in
-    let numbers = numbers_taken Winner rows (text (built_rule add_shape (codes "workers")) refl (inl tt)) (text (built_rule add_shape (codes "cells")) refl (inl tt)) in
+    let numbers = numbers_taken Solve Winner rows (text (built_rule add_shape (codes "workers")) refl (inl tt)) (text (built_rule add_shape (codes "cells")) refl (inl tt)) in
     (add numbers.0 file.text, (refl, numbers.1, numbers.2, numbers.3, file.first))
 
 or_false : (b : Bool) → (b || false) ≡ true → b ≡ true
@@ -144,16 +167,19 @@ module _ (scorings : ScoringWords) (are : AreScorings scorings) where
       each p may = (
         λ hit e. solve_taken scorings are p.1 e,
         (
-          λ hit e. (run (record { command = Moves; workers = 1; cells = 0; scoring = Winner }) None, (refl, (refl, refl, refl), refl)),
+          λ hit e. scores_taken scorings are p.1 e,
           (
-            λ hit e. (run (record { command = Transcript; workers = 1; cells = 0; scoring = Winner }) None, (refl, (refl, refl, refl), refl)),
+            λ hit e. (run (record { command = Moves; workers = 1; cells = 0; scoring = Winner }) None, (refl, (refl, refl, refl), refl)),
             (
-              λ hit e. (run (record { command = Play; workers = 1; cells = 0; scoring = Winner }) None, (refl, (refl, refl, refl), refl)),
+              λ hit e. (run (record { command = Transcript; workers = 1; cells = 0; scoring = Winner }) None, (refl, (refl, refl, refl), refl)),
               (
-                λ hit e. verify_taken p.1 e,
+                λ hit e. (run (record { command = Play; workers = 1; cells = 0; scoring = Winner }) None, (refl, (refl, refl, refl), refl)),
                 (
-                  λ hit e. add_taken p.1 e,
-                  (λ hit e. absurd (help_refused p.0 (or_false _ hit) may), tt),
+                  λ hit e. verify_taken p.1 e,
+                  (
+                    λ hit e. add_taken p.1 e,
+                    (λ hit e. absurd (help_refused p.0 (or_false _ hit) may), tt),
+                  ),
                 ),
               ),
             ),

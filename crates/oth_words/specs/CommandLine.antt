@@ -17,7 +17,7 @@ use Rattle.oth_rules.specs.declared.scoring.Scoring.{Scoring}
 use Rattle.oth_rules.specs.declared.scoring.Scoring.TheVariants.{Winner, Discs}
 use Rattle.oth_words.specs.declared.settings.Settings.{Settings}
 use Rattle.oth_words.specs.declared.settings.Command.{Command}
-use Rattle.oth_words.specs.declared.settings.Command.TheVariants.{Solve, Moves, Transcript, Play}
+use Rattle.oth_words.specs.declared.settings.Command.TheVariants.{Solve, Scores, Moves, Transcript, Play}
 use Rattle.oth_words.specs.declared.settings.Words.{Words}
 use Rattle.oth_words.specs.declared.settings.Words.TheVariants.{Run, Verify, Add}
 
@@ -59,8 +59,15 @@ book_rule = option_rule (codes "book")
 abbrev pub file_rule : Rule
 file_rule = record (new_rule (codes "file")) { action = Some Set; required = true; value_names = 1 }
 
+-- a subcommand with the options of a search
+abbrev pub searcher_app : App → ScoringWords → App
+searcher_app titled scorings = with_rule (with_rule (with_rule titled workers_rule) cells_rule) (scoring_rule scorings)
+
 abbrev pub solve_app : ScoringWords → App
-solve_app scorings = with_rule (with_rule (with_rule (with_rule (new_app (codes "solve")) workers_rule) cells_rule) (scoring_rule scorings)) book_rule
+solve_app scorings = with_rule (searcher_app (new_app (codes "solve")) scorings) book_rule
+
+abbrev pub scores_app : ScoringWords → App
+scores_app scorings = searcher_app (new_app (codes "scores")) scorings
 
 abbrev pub verify_app : App
 verify_app = with_rule (new_app (codes "book-verify")) file_rule
@@ -75,11 +82,11 @@ titled = let a = new_app (codes "othsolve") in record a { top = record a.top { h
 abbrev pub program : App
 program = record titled { top = record titled.top { subcommand_required = true } }
 
--- the command with its six subcommands
+-- the command with its seven subcommands
 unfoldable pub othsolve : ScoringWords → App
 othsolve scorings =
-    with_subcommand (with_subcommand (with_subcommand (with_subcommand (with_subcommand (with_subcommand program (solve_app scorings).top)
-    (new_app (codes "moves")).top) (new_app (codes "transcript")).top) (new_app (codes "play")).top) verify_app.top) add_app.top
+    with_subcommand (with_subcommand (with_subcommand (with_subcommand (with_subcommand (with_subcommand (with_subcommand program (solve_app scorings).top)
+    (scores_app scorings).top) (new_app (codes "moves")).top) (new_app (codes "transcript")).top) (new_app (codes "play")).top) verify_app.top) add_app.top
 
 -- ---- what the words mean
 
@@ -120,6 +127,8 @@ IsPlain s = (s.workers ≡ 1) × (s.cells ≡ 0) × (s.scoring ≡ Winner)
 abbrev pub MeansRun : Command → Text × List Row → Settings → Option Text → Type 0
 MeansRun Solve sub s book = (sub.0 ≡ codes "solve") × HasNumbers sub.1 s
     × (first_of (codes "scoring") sub.1 ≡ Some (scoring_word s.scoring)) × (first_of (codes "book") sub.1 ≡ book)
+MeansRun Scores sub s book = (sub.0 ≡ codes "scores") × HasNumbers sub.1 s
+    × (first_of (codes "scoring") sub.1 ≡ Some (scoring_word s.scoring)) × (book ≡ None)
 MeansRun Moves sub s book = (sub.0 ≡ codes "moves") × IsPlain s × (book ≡ None)
 MeansRun Transcript sub s book = (sub.0 ≡ codes "transcript") × IsPlain s × (book ≡ None)
 MeansRun Play sub s book = (sub.0 ≡ codes "play") × IsPlain s × (book ≡ None)

@@ -8,10 +8,9 @@ ghost use Rattle.clap.specs.declared.builder.command.Command.TheViews.{out-Comma
 ghost use Rattle.clap.specs.declared.builder.texts.Texts.TheVariants.{One};
 ghost use Rattle.oth_words.specs.CommandLine.{AreScorings, HasNumbers, IsNumber, IsPlain, IsReading, Meaning, Means};
 ghost use Rattle.oth_words.specs.CommandLine.{ScoringWords, add_app, book_rule, cells_rule, file_rule, meaning_of};
-ghost use Rattle.oth_words.specs.CommandLine.{option_rule, othsolve, run, scoring_rule, scoring_word, solve_app};
-ghost use Rattle.oth_words.specs.CommandLine.{titled, verify_app, workers_rule};
+ghost use Rattle.oth_words.specs.CommandLine.{option_rule, othsolve, run, scores_app, scoring_rule, scoring_word};
+ghost use Rattle.oth_words.specs.CommandLine.{searcher_app, solve_app, titled, verify_app, workers_rule};
 ghost use Rattle.oth_words.specs.Plans.{plan_meaning};
-ghost use Rattle.oth_words.specs.declared.settings.Command.TheVariants.{Solve};
 ghost use Rattle.clap.specs.declared.error.kind.ErrorKind.TheVariants.{OutOfMemory};
 
 use crate::plan::Plan;
@@ -63,6 +62,17 @@ Faults of a board line:
     error 3       byte 65 is not a space
     error 4       byte 66 is neither X nor O
     error 5 N     N squares are empty, more than 30";
+
+const SCORES_NOTES: &str = "\
+Boards are read from standard input, a line each: othsolve scores < boards.txt
+
+A board line, and its answer, every legal move behind its score for the side to move, the best first
+and equal ones in the order a1, b1 .. h8:
+
+    --OXOOO-OOOOOOOOOOOOOOOOOOOOOOOOOOOOOOOOOOOOOOOOOOOOOOOOOOOOOOOO X
+    -50 h1 -64 b1
+
+Where the side to move has no move, the answer and the faults are those of solve (see solve --help).";
 
 const MOVES_NOTES: &str = "\
 Boards are read from standard input, a line each: othsolve moves < boards.txt
@@ -224,16 +234,47 @@ fn titled_solve<'a>(alloc: Global) -> App<'a>
         .after_help(SOLVE_NOTES)
 }
 
+// The subcommand with the options of a search.
+fn with_search_options<'a>(
+    alloc: Global,
+    titled: App<'a>,
+    scorings: &'a [&'a str],
+) -> Result<App<'a>, AllocError>
+    requires { (out-Command titled).has_globals ≡ false }
+    ensures app { IfOk result (λ c. app_of c ≡ searcher_app (app_of titled.entry) scorings.entry) }
+    ensures local { IfOk result (λ c. (out-Command c).has_globals ≡ false) }
+{
+    titled
+        .arg(workers_option(alloc))?
+        .arg(cells_option(alloc))?
+        .arg(scoring_option(alloc, scorings))
+}
+
 // The subcommand `solve` with its options.
 fn solve_command<'a>(alloc: Global, scorings: &'a [&'a str]) -> Result<App<'a>, AllocError>
     ensures app { IfOk result (λ c. app_of c ≡ solve_app scorings.entry) }
     ensures local { IfOk result (λ c. (out-Command c).has_globals ≡ false) }
 {
-    titled_solve(alloc)
-        .arg(workers_option(alloc))?
-        .arg(cells_option(alloc))?
-        .arg(scoring_option(alloc, scorings))?
-        .arg(book_option(alloc))
+    with_search_options(alloc, titled_solve(alloc), scorings)?.arg(book_option(alloc))
+}
+
+// The subcommand `scores` and its help, without options.
+fn titled_scores<'a>(alloc: Global) -> App<'a>
+    ensures app { app_of result ≡ new_app (codes "scores") }
+    ensures local { (out-Command result).has_globals ≡ false }
+{
+    App::new(alloc, "scores")
+        .about("Writes the score of every move of each board line of standard input")
+        .override_usage("othsolve scores [OPTIONS] < BOARDS")
+        .after_help(SCORES_NOTES)
+}
+
+// The subcommand `scores` with its options.
+fn scores_command<'a>(alloc: Global, scorings: &'a [&'a str]) -> Result<App<'a>, AllocError>
+    ensures app { IfOk result (λ c. app_of c ≡ scores_app scorings.entry) }
+    ensures local { IfOk result (λ c. (out-Command c).has_globals ≡ false) }
+{
+    with_search_options(alloc, titled_scores(alloc), scorings)
 }
 
 // The subcommand `moves`.
@@ -314,6 +355,7 @@ fn command<'a>(alloc: Global, scorings: &'a [&'a str]) -> Result<App<'a>, AllocE
     titled_program(alloc)
         .subcommand_required(true)
         .subcommand(solve_command(alloc, scorings)?)?
+        .subcommand(scores_command(alloc, scorings)?)?
         .subcommand(moves_command(alloc))?
         .subcommand(transcript_command(alloc))?
         .subcommand(play_command(alloc))?
@@ -335,17 +377,17 @@ fn number(matches: &ArgMatches<'_>, id: &str, least: u32, most: u32) -> Option<u
     }
 }
 
-// The settings of a solver with this scoring.
-fn solve_settings(matches: &ArgMatches<'_>, scoring: Scoring) -> Option<Settings>
+// The settings of a search for this command with this scoring.
+fn search_settings(matches: &ArgMatches<'_>, command: Command, scoring: Scoring) -> Option<Settings>
     ensures { MatchOption result
         ((s : Settings) → HasNumbers (rows_of (found_of matches.now)) s → ⊥)
-        (λ s. HasNumbers (rows_of (found_of matches.now)) s × (s.command ≡ Solve) × (s.scoring ≡ scoring)) }
+        (λ s. HasNumbers (rows_of (found_of matches.now)) s × (s.command ≡ command) × (s.scoring ≡ scoring)) }
 {
     let workers = number(matches, "workers", 1, 16);
     let cells = number(matches, "cells", 0, 262_144);
     match (workers, cells) {
         (Some(workers), Some(cells)) => Some(Settings {
-            command: Command::Solve,
+            command,
             workers: workers as u8,
             cells,
             scoring,
@@ -380,8 +422,18 @@ fn solve_plan<'a>(matches: &ArgMatches<'a>) -> Option<Plan<'a>>
         ((m : Meaning) → Means (Some (codes "solve", rows_of (found_of matches.now))) m → ⊥)
         (λ p. Means (Some (codes "solve", rows_of (found_of matches.now))) (plan_meaning p)) }
 {
-    let settings = solve_settings(matches, scoring(matches)?)?;
+    let settings = search_settings(matches, Command::Solve, scoring(matches)?)?;
     Some(Plan::Run(settings, text(matches, "book")))
+}
+
+// What `scores` stands for.
+fn scores_plan<'a>(matches: &ArgMatches<'a>) -> Option<Plan<'a>>
+    ensures { MatchOption result
+        ((m : Meaning) → Means (Some (codes "scores", rows_of (found_of matches.now))) m → ⊥)
+        (λ p. Means (Some (codes "scores", rows_of (found_of matches.now))) (plan_meaning p)) }
+{
+    let settings = search_settings(matches, Command::Scores, scoring(matches)?)?;
+    Some(Plan::Run(settings, None))
 }
 
 // What `book-verify` stands for.
@@ -399,7 +451,7 @@ fn add_plan<'a>(matches: &ArgMatches<'a>) -> Option<Plan<'a>>
         ((m : Meaning) → Means (Some (codes "book-add", rows_of (found_of matches.now))) m → ⊥)
         (λ p. Means (Some (codes "book-add", rows_of (found_of matches.now))) (plan_meaning p)) }
 {
-    let settings = solve_settings(matches, Scoring::Winner)?;
+    let settings = search_settings(matches, Command::Solve, Scoring::Winner)?;
     Some(Plan::Add(settings, text(matches, "file")?))
 }
 
@@ -424,6 +476,7 @@ fn plan<'a>(name: &str, matches: &ArgMatches<'a>) -> Option<Plan<'a>>
 {
     match name {
         "solve" => solve_plan(matches),
+        "scores" => scores_plan(matches),
         "moves" => Some(plain(Command::Moves)),
         "transcript" => Some(plain(Command::Transcript)),
         "play" => Some(plain(Command::Play)),
@@ -479,6 +532,7 @@ fn read_with<'a>(
 /// Reads the words of a command line, of which the first names the program:
 ///
 /// - `solve [--workers N] [--cells N] [--scoring winner|discs] [--book FILE]`
+/// - `scores [--workers N] [--cells N] [--scoring winner|discs]`
 /// - `moves`, `transcript`, `play`: by one worker, without a table
 /// - `book-verify FILE`
 /// - `book-add [--workers N] [--cells N] FILE`: it solves by `winner`

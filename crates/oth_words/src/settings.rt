@@ -7,6 +7,8 @@ use oth_rules::Scoring;
 pub enum Command {
     /// Of a board line the score and all best moves.
     Solve,
+    /// Of a board line every legal move with its score, the best first.
+    Scores,
     /// Of a board line all legal moves.
     Moves,
     /// Of a transcript the board line of the position that it leads to.
@@ -27,7 +29,7 @@ pub struct Settings {
     pub workers: u8,
     /// The cells of the table that they share: 0 for none, or a power of two of at most 262,144.
     pub cells: u32,
-    /// How a finished game is counted. `Solve` alone heeds it.
+    /// How a finished game is counted. `Solve` and `Scores` alone heed it.
     pub scoring: Scoring,
 }
 

@@ -55,6 +55,46 @@ fn solve_has_defaults_and_takes_values(rt: HostRuntime) {
 }
 
 #[test]
+fn scores_has_defaults_and_takes_values(rt: HostRuntime) {
+    let words = ["othsolve", "scores"];
+    match read_words(rt.alloc(), words.as_slice()).expect(&rt, "words") {
+        Words::Run(settings, None) => {
+            assert!(rt;
+                settings
+                    == Settings {
+                        command: Command::Scores,
+                        ..DEFAULTS
+                    }
+            );
+        }
+        _ => panic!(rt; "another command"),
+    }
+    let words = [
+        "othsolve",
+        "scores",
+        "--workers=4",
+        "--cells",
+        "128",
+        "--scoring",
+        "discs",
+    ];
+    match read_words(rt.alloc(), words.as_slice()).expect(&rt, "words") {
+        Words::Run(settings, None) => {
+            assert!(rt;
+                settings
+                    == Settings {
+                        command: Command::Scores,
+                        workers: 4,
+                        cells: 128,
+                        scoring: Scoring::Discs
+                    }
+            );
+        }
+        _ => panic!(rt; "another command"),
+    }
+}
+
+#[test]
 fn the_plain_commands_take_no_options(rt: HostRuntime) {
     let commands = [
         ("moves", Command::Moves),
@@ -111,6 +151,8 @@ fn each_refused_line_has_its_kind_of_fault(rt: HostRuntime) {
     let words = ["othsolve", "solve", "--scoring", "stones"];
     assert!(rt; kind_of_error(rt.alloc(), words.as_slice()) == Some(ErrorKind::InvalidValue));
     let words = ["othsolve", "moves", "--cells", "1"];
+    assert!(rt; kind_of_error(rt.alloc(), words.as_slice()) == Some(ErrorKind::UnknownArgument));
+    let words = ["othsolve", "scores", "--book", "a.book"];
     assert!(rt; kind_of_error(rt.alloc(), words.as_slice()) == Some(ErrorKind::UnknownArgument));
     let words = ["othsolve", "book-verify"];
     assert!(rt;

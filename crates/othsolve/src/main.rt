@@ -5,9 +5,9 @@ ghost use Rattle.std.specs.Prelude.{◌≡◌, false};
 
 use oth_book::{Book, BookFault};
 use oth_main::{
-    BookRefusal, Errors, MOST_BOOK_BYTES, REFUSED, Reason, Report, RunFault, Scene, Settings,
-    Watch, Words, book_add, book_verify, check_settings, open_book, print_refusal, print_run_fault,
-    read_words, run, tell_scoring,
+    BookRefusal, Errors, MOST_BOOK_BYTES, REFUSED, Reason, Report, RunFault, STATUS_DONE, Scene,
+    Settings, Watch, Words, book_add, book_verify, check_settings, open_book, print_refusal,
+    print_run_fault, read_words, run, tell_scoring,
 };
 use oth_pool::{Gate, Open};
 use oth_text::{FromRead, Sink, Source, ToWrite};
@@ -21,9 +21,6 @@ use std::sync::Wait;
 use std::thread::Threads;
 use std::time::Clock;
 use std::{env, io};
-
-// Status 0: all was done.
-const DONE: u8 = 0;
 
 // Status 1: a device failed.
 const DEVICE_FAULT: u8 = 1;
@@ -216,7 +213,7 @@ fn report<T: Wait + Threads + Sync + AllocGlobal, G: Gate, R: Source, W: Sink, E
 {
     let rt = means.rt;
     match run(rt, rt.alloc(), reader, writer, settings, means.gate, book) {
-        Ok(()) => DONE,
+        Ok(()) => STATUS_DONE,
         Err(fault) => print_run_fault(fault, errors),
     }
 }

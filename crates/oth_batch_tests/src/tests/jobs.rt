@@ -1,9 +1,9 @@
 //! Boards are answered for whoever asks, while other workers solve them.
 
 use crate::tests::{batch, images};
-use oth_batch::Jobs;
+use oth_batch::{Asked, Jobs};
 use oth_rules::Scoring;
-use oth_search::solve_alone;
+use oth_search::{NoCells, scores_with, solve_alone};
 use std::test::Fail;
 
 #[test]
@@ -13,7 +13,7 @@ fn each_board_is_answered_while_others_solve(rt: HostRuntime) -> Result<(), Fail
     };
     for (workers, cells) in [(2, 0), (4, 64), (16, 1)] {
         let batch = batch(&rt, workers, cells, Scoring::Discs);
-        let Some(jobs) = Jobs::of(&batch, boards.as_slice()) else {
+        let Some(jobs) = Jobs::of(&batch, Asked::Answer, boards.as_slice()) else {
             panic!(rt; "no jobs")
         };
         let mut work = || {
@@ -35,18 +35,52 @@ fn each_board_is_answered_while_others_solve(rt: HostRuntime) -> Result<(), Fail
 }
 
 #[test]
+fn the_moves_of_each_board_are_scored_while_others_score(rt: HostRuntime) -> Result<(), Fail> {
+    let Some(boards) = images(rt.alloc(), 8) else {
+        panic!(rt; "no boards")
+    };
+    for (workers, cells) in [(2, 0), (16, 64)] {
+        let batch = batch(&rt, workers, cells, Scoring::Discs);
+        let Some(jobs) = Jobs::of(&batch, Asked::Scores, boards.as_slice()) else {
+            panic!(rt; "no jobs")
+        };
+        let mut work = || {
+            let mut right = 0u32;
+            for board in boards.as_slice() {
+                let alone = scores_with(*board, &mut NoCells, Scoring::Discs);
+                if let Some(scores) = jobs.scores_of(&rt, board) {
+                    if scores.moves() == alone.moves() && scores.answer() == alone.answer() {
+                        right = right.saturating_add(1);
+                    }
+                }
+            }
+            right
+        };
+        assert!(rt;
+            jobs.beside(&mut work) == 16,
+            "{workers} workers, {cells} cells"
+        );
+        for board in boards.as_slice() {
+            assert!(rt; jobs.answer_of(&rt, board).is_none());
+        }
+    }
+    Ok(())
+}
+
+#[test]
 fn nobody_is_waited_for_where_nobody_helps(rt: HostRuntime) -> Result<(), Fail> {
     let Some(boards) = images(rt.alloc(), 10) else {
         panic!(rt; "no boards")
     };
     let batch = batch(&rt, 4, 64, Scoring::Winner);
-    let Some(jobs) = Jobs::of(&batch, boards.as_slice()) else {
+    let Some(jobs) = Jobs::of(&batch, Asked::Answer, boards.as_slice()) else {
         panic!(rt; "no jobs")
     };
     for board in boards.as_slice() {
         assert!(rt; jobs.found(board).is_none());
         assert!(rt; jobs.answer_of(&rt, board) == solve_alone(board, Scoring::Winner).ok());
         assert!(rt; jobs.found(board).is_some());
+        assert!(rt; jobs.scores_of(&rt, board).is_none());
     }
     Ok(())
 }
@@ -57,7 +91,7 @@ fn no_job_is_begun_after_a_stop(rt: HostRuntime) -> Result<(), Fail> {
         panic!(rt; "no boards")
     };
     let batch = batch(&rt, 4, 64, Scoring::Winner);
-    let Some(jobs) = Jobs::of(&batch, boards.as_slice()) else {
+    let Some(jobs) = Jobs::of(&batch, Asked::Answer, boards.as_slice()) else {
         panic!(rt; "no jobs")
     };
     jobs.stop();

@@ -2,10 +2,10 @@
 
 use super::verifying::SIX;
 use super::{are_right, batch, images};
-use oth_batch::{Jobs, verify_by};
+use oth_batch::{Asked, Jobs, verify_by};
 use oth_book::{BookFault, Wrong, read_claims};
 use oth_rules::Scoring;
-use oth_search::solve_alone;
+use oth_search::{NoCells, scores_with, solve_alone};
 use std::test::Fail;
 
 #[test]
@@ -25,12 +25,34 @@ fn boards_that_others_solve_too(rt: HostRuntime) -> Result<(), Fail> {
         return Ok(());
     };
     let batch = batch(&rt, 2, 64, Scoring::Winner);
-    let Some(jobs) = Jobs::of(&batch, boards.as_slice()) else {
+    let Some(jobs) = Jobs::of(&batch, Asked::Answer, boards.as_slice()) else {
         return Ok(());
     };
     let mut work = || {
         boards.as_slice().iter().all(|board| jobs.answer_of(&rt, board)
             == solve_alone(board, Scoring::Winner).ok())
+    };
+    assert!(rt; jobs.beside(&mut work));
+    Ok(())
+}
+
+#[test]
+fn boards_whose_moves_others_score_too(rt: HostRuntime) -> Result<(), Fail> {
+    let Some(boards) = images(rt.alloc(), 8) else {
+        return Ok(());
+    };
+    let batch = batch(&rt, 2, 64, Scoring::Winner);
+    let Some(jobs) = Jobs::of(&batch, Asked::Scores, boards.as_slice()) else {
+        return Ok(());
+    };
+    let mut work = || {
+        boards.as_slice().iter().all(|board| {
+            let alone = scores_with(*board, &mut NoCells, Scoring::Winner);
+            match jobs.scores_of(&rt, board) {
+                Some(scores) => scores.moves() == alone.moves(),
+                None => false,
+            }
+        })
     };
     assert!(rt; jobs.beside(&mut work));
     Ok(())

@@ -1,15 +1,16 @@
-//! Lines that wait together, whose boards are solved side by side: the report is the same for any number of workers,
+//! Lines that wait together, whose boards are searched side by side: the report is the same for any number of workers,
 //! however the bytes come and wherever a device fails.
 
-use super::{NO_FAILURE, settings};
+use super::{NO_FAILURE, by_two_workers, settings};
 use oth_main::{Command, RunFault, Settings, run};
 use oth_pool::Open;
 use oth_rules::samples::after_least_moves;
 use oth_rules::{Board, Scoring, Sym};
-use oth_search::solve_alone;
+use oth_search::{NoCells, scores_with, solve_alone};
 use oth_text::fakes::{BrokenSource, ByteSink};
-use oth_text::{Position, Side, report_line, write_board};
+use oth_text::{Position, Side, report_line, scores_line, write_board};
 use std::alloc::Global;
+use std::process::Abort;
 use std::sync::Wait;
 use std::test::Fail;
 use std::thread::Threads;
@@ -31,23 +32,25 @@ impl Lines {
         Ok(())
     }
 
-    fn push_board(&mut self, board: Board, scoring: Scoring) -> Result<(), Fail> {
+    fn push_board(&mut self, board: Board, asked: &Settings) -> Result<(), Fail> {
         let position = Position {
             board,
             mover: Side::Black,
         };
-        match solve_alone(&board, scoring) {
-            Ok(answer) => self.push(
-                write_board(&position).as_slice(),
-                report_line(&answer).as_slice(),
-            ),
+        let line = write_board(&position);
+        if asked.command == Command::Scores {
+            let scores = scores_with(board, &mut NoCells, asked.scoring);
+            return self.push(line.as_slice(), scores_line(&scores).as_slice());
+        }
+        match solve_alone(&board, asked.scoring) {
+            Ok(answer) => self.push(line.as_slice(), report_line(&answer).as_slice()),
             Err(_) => Ok(()),
         }
     }
 }
 
 /// The eight images of a board of a game with ten empty squares at most, with faulty lines among them.
-fn mixed_lines(alloc: Global, scoring: Scoring) -> Result<Lines, Fail> {
+fn mixed_lines(alloc: Global, asked: &Settings) -> Result<Lines, Fail> {
     let mut lines = Lines {
         input: Vec::new(alloc),
         report: Vec::new(alloc),
@@ -61,17 +64,16 @@ fn mixed_lines(alloc: Global, scoring: Scoring) -> Result<Lines, Fail> {
             lines.push(write_board(&Position::start()).as_slice(), b"error 5 60")?;
         }
         if let Some(sym) = Sym::of(number) {
-            lines.push_board(board.image(sym), scoring)?;
+            lines.push_board(board.image(sym), asked)?;
         }
     }
     Ok(lines)
 }
 
-fn by(workers: u8, scoring: Scoring) -> Settings {
+fn by_two() -> Settings {
     Settings {
-        workers,
         cells: 64,
-        ..settings(Command::Solve, scoring)
+        ..by_two_workers(Scoring::Winner)
     }
 }
 
@@ -82,7 +84,7 @@ fn done<R: Wait + Threads + Sync + AllocGlobal>(
     input: &[u8],
     step: usize,
     until: (usize, usize),
-) -> (Result<(), RunFault>, ByteSink<256>) {
+) -> (Result<(), RunFault>, ByteSink<1024>) {
     let mut reader = BrokenSource::new(input, until.0).in_steps(step.max(1));
     let mut writer = ByteSink::new(until.1);
     let alloc = rt.alloc();
@@ -90,20 +92,35 @@ fn done<R: Wait + Threads + Sync + AllocGlobal>(
     (result, writer)
 }
 
+// Each number of workers gives the report of one worker without cells.
+fn check_workers<R: Wait + Threads + Sync + AllocGlobal + Abort>(
+    rt: &R,
+    alone: &Settings,
+) -> Result<(), Fail> {
+    let lines = mixed_lines(rt.alloc(), alone)?;
+    assert!(rt; lines.input.len() == 8 * 67 + 1 + 67);
+    for workers in [1, 2, 3, 16] {
+        let asked = Settings {
+            workers,
+            cells: 64,
+            ..*alone
+        };
+        let whole = (NO_FAILURE, NO_FAILURE);
+        let (result, writer) = done(rt, &asked, lines.input.as_slice(), 1_000, whole);
+        assert!(rt; result == Ok(()), "{workers} workers");
+        assert!(rt;
+            writer.taken() == lines.report.as_slice(),
+            "{workers} workers"
+        );
+    }
+    Ok(())
+}
+
 #[test]
 fn any_number_of_workers_gives_the_same_report(rt: HostRuntime) -> Result<(), Fail> {
     for scoring in [Scoring::Winner, Scoring::Discs] {
-        let lines = mixed_lines(rt.alloc(), scoring)?;
-        assert!(rt; lines.input.len() == 8 * 67 + 1 + 67);
-        for workers in [1, 2, 3, 16] {
-            let asked = by(workers, scoring);
-            let whole = (NO_FAILURE, NO_FAILURE);
-            let (result, writer) = done(&rt, &asked, lines.input.as_slice(), 1_000, whole);
-            assert!(rt; result == Ok(()), "{workers} workers");
-            assert!(rt;
-                writer.taken() == lines.report.as_slice(),
-                "{workers} workers"
-            );
+        for command in [Command::Solve, Command::Scores] {
+            check_workers(&rt, &settings(command, scoring))?;
         }
     }
     Ok(())
@@ -111,8 +128,8 @@ fn any_number_of_workers_gives_the_same_report(rt: HostRuntime) -> Result<(), Fa
 
 #[test]
 fn parts_of_any_length_give_the_same_report(rt: HostRuntime) -> Result<(), Fail> {
-    let lines = mixed_lines(rt.alloc(), Scoring::Winner)?;
-    let asked = by(2, Scoring::Winner);
+    let asked = by_two();
+    let lines = mixed_lines(rt.alloc(), &asked)?;
     for step in 1..260 {
         let whole = (NO_FAILURE, NO_FAILURE);
         let (result, writer) = done(&rt, &asked, lines.input.as_slice(), step, whole);
@@ -127,8 +144,8 @@ fn parts_of_any_length_give_the_same_report(rt: HostRuntime) -> Result<(), Fail>
 
 #[test]
 fn a_writer_that_fails_leaves_a_beginning_of_the_report(rt: HostRuntime) -> Result<(), Fail> {
-    let lines = mixed_lines(rt.alloc(), Scoring::Winner)?;
-    let asked = by(2, Scoring::Winner);
+    let asked = by_two();
+    let lines = mixed_lines(rt.alloc(), &asked)?;
     for n in 0..lines.report.len() {
         let until = (NO_FAILURE, n);
         let (result, writer) = done(&rt, &asked, lines.input.as_slice(), 1_000, until);
@@ -140,8 +157,8 @@ fn a_writer_that_fails_leaves_a_beginning_of_the_report(rt: HostRuntime) -> Resu
 
 #[test]
 fn a_reader_that_fails_leaves_the_report_of_the_lines_before(rt: HostRuntime) -> Result<(), Fail> {
-    let lines = mixed_lines(rt.alloc(), Scoring::Winner)?;
-    let asked = by(2, Scoring::Winner);
+    let asked = by_two();
+    let lines = mixed_lines(rt.alloc(), &asked)?;
     for n in 0..lines.input.len() {
         let until = (n, NO_FAILURE);
         let (result, writer) = done(&rt, &asked, lines.input.as_slice(), 1_000, until);

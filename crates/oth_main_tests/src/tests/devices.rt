@@ -23,6 +23,8 @@ const THREE_LINES: &[u8] = b"---------------------------OX------XO--------------
 
 const SOLVED: &[u8] = b"error 5 60\nerror 1\n-50 h1\n";
 
+const SCORED: &[u8] = b"error 5 60\nerror 1\n-50 h1 -64 b1\n";
+
 const MOVED: &[u8] = b"d3 c4 f5 e6\nerror 1\nb1 h1\n";
 
 // Transcripts in its place.
@@ -48,14 +50,22 @@ pub(super) const TWO_LINES: &[u8] =
 
 pub(super) const SOLVED_TWO: &[u8] = b"error 5 60\n-50 h1\n";
 
-fn walks() -> [Walk; 5] {
+pub(super) const SCORED_TWO: &[u8] = b"error 5 60\n-50 h1 -64 b1\n";
+
+fn walks() -> [Walk; 7] {
     let winner = Scoring::Winner;
+    let scores_by_two = Settings {
+        command: Command::Scores,
+        ..by_two_workers(winner)
+    };
     [
         (settings(Command::Solve, winner), THREE_LINES, SOLVED),
+        (settings(Command::Scores, winner), THREE_LINES, SCORED),
         (settings(Command::Moves, winner), THREE_LINES, MOVED),
         (settings(Command::Transcript, winner), THREE_GAMES, FOLLOWED),
         (settings(Command::Play, winner), THREE_PLAYED, PLAYED),
         (by_two_workers(winner), TWO_LINES, SOLVED_TWO),
+        (scores_by_two, TWO_LINES, SCORED_TWO),
     ]
 }
 

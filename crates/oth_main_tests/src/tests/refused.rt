@@ -2,10 +2,10 @@
 //! runs each of them once for each request, thread starts among them.
 
 use super::books::{BOOK_OF_A, BOOK_OF_TWO, EMPTY_BOOK, TWO_LINES as NEW_LINES, add};
-use super::devices::{SOLVED_TWO, TWO_LINES};
+use super::devices::{SCORED_TWO, SOLVED_TWO, TWO_LINES};
 use super::reasons::told;
 use super::{NO_FAILURE, by_two_workers, walk};
-use oth_main::{Errors, Reason, RunFault, Settings, book_verify};
+use oth_main::{Command, Errors, Reason, RunFault, Settings, book_verify};
 use oth_rules::Scoring;
 use oth_text::fakes::ByteSink;
 use std::process::Abort;
@@ -36,6 +36,17 @@ fn a_run_without_cells(rt: HostRuntime) {
 #[test]
 fn a_run_over_64_cells(rt: HostRuntime) {
     check_run(&rt, 64);
+}
+
+#[test]
+fn a_run_of_scores_writes_the_same_report(rt: HostRuntime) {
+    let asked = Settings {
+        command: Command::Scores,
+        ..by_two_workers(Scoring::Winner)
+    };
+    let done = walk(&rt, &asked, TWO_LINES, NO_FAILURE, NO_FAILURE);
+    assert!(rt; done.result == Ok(()));
+    assert!(rt; done.writer.taken() == SCORED_TWO);
 }
 
 // What is told where no book can be made.

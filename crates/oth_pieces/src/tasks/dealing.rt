@@ -146,12 +146,13 @@ fn hand_of(
     })
 }
 
-// The deque of the numbers with this remainder, in the order of their turns. Those whose push is refused are left out.
+// The deque of all numbers with this remainder, in the order of their turns. It has room for all numbers, so that no
+// push is refused.
 fn deal(alloc: Global, turns: &Turns, deque: usize, hands: usize) -> Result<Owner, AllocError>
     requires { deque < hands }
     ensures { IfOk result (λ owner. IsDealt hands (length turns.now.numbers.items) deque owner) }
 {
-    let mut owner = Owner::fifo_as(alloc, turns.numbers.len().div_ceil(hands))?;
+    let mut owner = Owner::fifo_as(alloc, turns.numbers.len())?;
     for number in turns.numbers.as_slice() {
         if *number as usize % hands == deque {
             let _ = owner.push_as::<Puts>(*number);

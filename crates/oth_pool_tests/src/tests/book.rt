@@ -1,12 +1,15 @@
 //! Boards of a book: an exact one is not searched, and the bounds of another one change no answer.
 
+use super::crews::BOARDS;
 use super::gate::Hearing;
 use super::{A, B, C, board};
 use oth_book::{Added, Book};
-use oth_pool::solve;
+use oth_pool::{Gate, solve};
 use oth_rules::{Board, Scoring};
-use oth_search::{Kind, NoCells, Solved, solve_alone};
+use oth_search::{Answer, Kind, NoCells, Solved, solve_alone};
 use std::alloc::Global;
+use std::process::Abort;
+use std::sync::atomic::{AtomicU64, Ordering};
 use std::thread::Threads;
 
 // The mirror image of A, whose canonical board is A.
@@ -108,4 +111,67 @@ fn bounds_of_the_book_change_no_answer(rt: HostRuntime) {
     };
     let image = solved_by(&rt, rt.alloc(), &book, IMAGE, Scoring::Winner, 2);
     assert!(rt; image == Some((-50, 0x1, Kind::Move)));
+}
+
+// Counts how often it is told of a lower bound of the root that is below the score, and that is some score.
+#[derive(Drop)]
+struct Climbing {
+    score: i8,
+    below: AtomicU64,
+}
+
+impl Gate for Climbing {
+    fn before(&self, _task: u32) {}
+
+    fn after(&self, _task: u32) {}
+
+    fn follows(&self) -> bool {
+        true
+    }
+
+    fn goes_on(&self, root: &Solved, _settled: u64) {
+        let lower = root.interval.lower;
+        if lower > -64 && lower < self.score {
+            self.below.fetch_add(1, Ordering::SeqCst);
+        }
+    }
+}
+
+// How often one worker tells of a lower bound below the score, as it comes to this answer with the book.
+fn told_below<R: Threads + Sync + AllocGlobal + Abort>(
+    rt: &R,
+    answer: &Answer,
+    book: Option<&Book>,
+) -> u64 {
+    let gate = Climbing {
+        score: answer.score,
+        below: AtomicU64::new(0),
+    };
+    let alloc = rt.alloc();
+    let board = &answer.board;
+    let found = solve(rt, alloc, board, 1, 4_096, &gate, book, answer.scoring);
+    assert!(rt; found == Ok(*answer));
+    gate.below.load(Ordering::SeqCst)
+}
+
+// Where the book knows that the score is reached, nothing less is asked for. Without it, it is of some board.
+#[test]
+fn one_worker_begins_with_the_bounds_of_the_book(rt: HostRuntime) {
+    let mut without = 0u64;
+    for words in BOARDS {
+        let alone = match board(words) {
+            Some(root) => solve_alone(&root, Scoring::Winner),
+            None => panic!(rt; "no board"),
+        };
+        let Ok(alone) = alone else {
+            panic!(rt; "no answer")
+        };
+        let bounds = (alone.score, 64);
+        let Some(book) = bounded_book(rt.alloc(), words, bounds, Scoring::Winner) else {
+            panic!(rt; "no book")
+        };
+        without = without.saturating_add(told_below(&rt, &alone, None));
+        assert!(rt; told_below(&rt, &alone, Some(&book)) == 0);
+    }
+    assert!(rt; without > 0);
 }

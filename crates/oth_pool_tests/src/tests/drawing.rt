@@ -1,14 +1,14 @@
 //! What workers do between two calls of a gate, and what they leave behind them.
 
 use super::crews::{BOARDS, check_board};
-use super::{A, B, C, board, has_entry};
-use oth_pool::{Floor, Frontier, Gate, Open, TableAccess, WorkerCells, run_workers, solve};
-use oth_rules::{Board, Scoring, Square};
+use super::rows::ROWS;
+use super::view::TableView;
+use super::{A, board, solved};
+use oth_pool::{Floor, Frontier, Gate, Open, TableAccess, run_workers, solve};
+use oth_rules::{Board, Scoring};
 use oth_search::solve_alone;
 use oth_table::{Look, SharedTable};
-use oth_walk::Plan;
 use std::process::Abort;
-use std::sync::Mutex;
 use std::sync::atomic::{AtomicU64, Ordering};
 use std::test::Fail;
 use std::thread;
@@ -34,13 +34,9 @@ fn the_floor_is_raised_to_the_value(rt: HostRuntime) -> Result<(), Fail> {
     Ok(())
 }
 
-#[test]
-fn the_callers_seat_looks_at_what_workers_left(rt: HostRuntime) -> Result<(), Fail> {
-    let Some(a) = board(A) else {
-        panic!(rt; "no board")
-    };
-    let frontier = Frontier::of(&a, 2);
-    let Ok((floor, mut seat)) = Floor::new(rt.alloc(), &a, Scoring::Winner) else {
+// Whether the caller's seat finds something in the table of one cell, when two workers have searched these items.
+fn check_left<R: Threads + Sync + AllocGlobal + Abort>(rt: &R, root: &Board, frontier: &Frontier) {
+    let Ok((floor, mut seat)) = Floor::new(rt.alloc(), root, Scoring::Winner) else {
         panic!(rt; "no floor")
     };
     let Ok((table, own)) = SharedTable::new(rt.alloc(), 1, Scoring::Winner) else {
@@ -49,9 +45,9 @@ fn the_callers_seat_looks_at_what_workers_left(rt: HostRuntime) -> Result<(), Fa
     let mut access = Some(TableAccess::of(&table, own));
     let alloc = rt.alloc();
     let found = run_workers(
-        &rt,
+        rt,
         alloc,
-        &frontier,
+        frontier,
         &floor,
         &mut seat,
         2,
@@ -65,19 +61,27 @@ fn the_callers_seat_looks_at_what_workers_left(rt: HostRuntime) -> Result<(), Fa
     let mut own = access.into_seat();
     assert!(rt; table.cells() == 1);
     assert!(rt; matches!(&table.look(&mut own, 0), Look::Whole(_)));
-    Ok(())
+}
+
+#[test]
+fn the_callers_seat_looks_at_what_workers_left(rt: HostRuntime) {
+    let Some(a) = board(A) else {
+        panic!(rt; "no board")
+    };
+    check_left(&rt, &a, &Frontier::of(&a, 1));
+    check_left(&rt, &a, &Frontier::of(&a, 2));
 }
 
 #[test]
 fn sixteen_workers_share_one_cell(rt: HostRuntime) {
     for _ in 0..100 {
-        for (words, best) in [(A, 0x80), (B, 0x0101), (C, 0x81)] {
-            let Ok(board) = Board::of(words[0], words[1]) else {
-                panic!(rt; "no board")
-            };
-            let alloc = rt.alloc();
-            let found = solve(&rt, alloc, &board, 16, 1, &Open, None, Scoring::Winner);
-            assert!(rt; found.is_ok_and(|answer| answer.best == best));
+        for (words, score, best, kind) in &ROWS[4..] {
+            let found = solved(&rt, rt.alloc(), *words, 16, 1, Scoring::Winner);
+            assert!(rt;
+                found == Some((*score, *best, *kind)),
+                "the board of {}",
+                words[0]
+            );
         }
     }
 }
@@ -92,8 +96,7 @@ fn crews_share_one_cell_where_they_search_together(rt: HostRuntime) {
 // Looks for the boards after the root's moves, when the first item is announced and when it has been searched.
 #[derive(Drop)]
 struct Watching<'t> {
-    cells: Mutex<WorkerCells<'t>>,
-    root: Board,
+    view: TableView<'t>,
     // How many calls there were, and how many boards the first two found.
     calls: AtomicU64,
     first: AtomicU64,
@@ -101,25 +104,10 @@ struct Watching<'t> {
 }
 
 impl<'t> Watching<'t> {
-    fn known(&self) -> u64 {
-        let Some(mut cells) = self.cells.try_lock() else {
-            return 64;
-        };
-        let mut known = 0;
-        for number in 0..64 {
-            if let Some(child) = self.root.play(Square::numbered(number)) {
-                if has_entry(&mut *cells, &child) {
-                    known = u64::saturating_add(known, 1);
-                }
-            }
-        }
-        known
-    }
-
     fn watch(&self) {
         match self.calls.fetch_add(1, Ordering::SeqCst) {
-            0 => self.first.store(self.known(), Ordering::SeqCst),
-            1 => self.second.store(self.known(), Ordering::SeqCst),
+            0 => self.first.store(self.view.known(), Ordering::SeqCst),
+            1 => self.second.store(self.view.known(), Ordering::SeqCst),
             _ => {}
         }
     }
@@ -149,12 +137,7 @@ fn nothing_is_searched_before_the_first_item_is_announced(rt: HostRuntime) -> Re
     };
     let mut access = Some(TableAccess::of(&table, own));
     let gate = Watching {
-        cells: Mutex::new(WorkerCells::of(
-            rt.alloc(),
-            Plan::of(Scoring::Winner, 0, false),
-            &mut access,
-        )),
-        root,
+        view: TableView::of(rt.alloc(), &mut access, root),
         calls: AtomicU64::new(0),
         first: AtomicU64::new(64),
         second: AtomicU64::new(64),

@@ -4,7 +4,8 @@
 use super::crews::BOARDS;
 use super::gate::Hearing;
 use super::rows::ROWS;
-use super::{A, CORNERS, solved};
+use super::scoring::check_scores;
+use super::{A, CORNERS, board, solved};
 use oth_pool::{Open, solve};
 use oth_rules::{Board, Scoring, Square};
 use oth_search::solve_alone;
@@ -108,4 +109,13 @@ fn each_item_is_heard(rt: HostRuntime) {
     let found = solve(&rt, rt.alloc(), &board, 2, 64, &gate, None, Scoring::Winner);
     assert!(rt; found.is_ok_and(|answer| answer.best == 0x8100_0000_0000_0081));
     assert!(rt; gate.heard_once(12));
+}
+
+// Each of the four moves has its score, whoever values the boards after them.
+#[test]
+fn scores_by_two_over_64_cells(rt: HostRuntime) {
+    let Some(root) = board(CORNERS) else {
+        panic!(rt; "no board")
+    };
+    check_scores(&rt, &root, 2, 64, Scoring::Winner);
 }

@@ -1,11 +1,14 @@
 //! The scores of all moves by every crew and table.
 
+use super::crews::BOARDS;
 use super::{A, B, C, CORNERS, answered};
-use oth_pool::{Open, SolveError, scores};
+use oth_pool::{Gate, Open, SolveError, scores};
 use oth_rules::samples::{after_least_moves, board};
 use oth_rules::{Board, Scoring};
-use oth_search::solve_alone;
+use oth_search::{Solved, solve_alone};
 use std::process::Abort;
+use std::sync::atomic::{AtomicU64, Ordering};
+use std::thread;
 use std::thread::Threads;
 
 // A board whose mover must pass, and one that is over.
@@ -14,7 +17,7 @@ const PASSES: [u64; 2] = [0xffff_ffff_ffff_ff74, 8];
 const FULL: [u64; 2] = [u64::MAX, 0];
 
 // Each move is there once with the score that one thread alone gives the board after it; the answer is that of `solve`.
-fn check_scores<R: Threads + Sync + AllocGlobal + Abort>(
+pub(super) fn check_scores<R: Threads + Sync + AllocGlobal + Abort>(
     rt: &R,
     root: &Board,
     workers: u8,
@@ -88,4 +91,84 @@ fn scores_are_refused_as_answers_are(rt: HostRuntime) {
             Err(error) => assert!(rt; error == refusal),
         }
     }
+}
+
+// Whoever hears first of a board waits a while until somebody hears of another one.
+#[derive(Drop)]
+struct Meeting {
+    // The discs of the first board, and whether there was another one meanwhile.
+    first: AtomicU64,
+    others: AtomicU64,
+    given_up: AtomicU64,
+}
+
+impl Meeting {
+    // Whether no other board was heard of before.
+    fn is_first(&self, board: &Board) -> bool {
+        let discs = board.own();
+        match self
+            .first
+            .compare_exchange(0, discs, Ordering::SeqCst, Ordering::SeqCst)
+        {
+            Ok(_) => true,
+            Err(first) => first == discs,
+        }
+    }
+}
+
+impl Gate for Meeting {
+    fn before(&self, _task: u32) {}
+
+    fn after(&self, _task: u32) {}
+
+    fn follows(&self) -> bool {
+        true
+    }
+
+    fn goes_on(&self, root: &Solved, _settled: u64) {
+        if !self.is_first(&root.board) {
+            self.others.store(1, Ordering::SeqCst);
+            return;
+        }
+        if self.given_up.load(Ordering::SeqCst) != 0 {
+            return;
+        }
+        for _ in 0..10_000_000 {
+            if self.others.load(Ordering::SeqCst) != 0 {
+                return;
+            }
+            thread::yield_now();
+        }
+        self.given_up.store(1, Ordering::SeqCst);
+    }
+}
+
+#[test]
+fn two_workers_value_boards_at_once(rt: HostRuntime) {
+    let Some(root) = board(BOARDS[0]) else {
+        panic!(rt; "no board")
+    };
+    for cells in [0, 4_096] {
+        let gate = Meeting {
+            first: AtomicU64::new(0),
+            others: AtomicU64::new(0),
+            given_up: AtomicU64::new(0),
+        };
+        let alloc = rt.alloc();
+        let found = scores(&rt, alloc, &root, 2, cells, &gate, None, Scoring::Winner);
+        assert!(rt; found.is_ok());
+        assert!(rt; gate.others.load(Ordering::SeqCst) == 1, "{cells} cells");
+        assert!(rt; gate.given_up.load(Ordering::SeqCst) == 0, "{cells} cells");
+    }
+}
+
+// A board of six moves: two workers value the boards after them each by itself, and sixteen together.
+#[test]
+fn crews_score_a_board_apart_and_together(rt: HostRuntime) {
+    let Some(root) = board(BOARDS[0]) else {
+        panic!(rt; "no board")
+    };
+    assert!(rt; root.moves().count_ones() == 6);
+    check_scores(&rt, &root, 2, 4_096, Scoring::Discs);
+    check_scores(&rt, &root, 16, 4_096, Scoring::Winner);
 }

@@ -6,11 +6,11 @@ use Rattle.oth_search.proofs.Enclosing.{BoundsAt-lower, BoundsAt-upper, BoundsAt
 use Rattle.oth_search.proofs.Replies.{BoundsAt-reply, BoundsAt-cut, BoundsAt-pass, BoundsAt-over, ReplyLoop-start, ReplyLoop-keeps, ReplyLoop-takes, ReplyLoop-end, NoneAbove-moves, can_move-from_moves, can_move-from_none, fewer_after, same_after_pass}
 use Rattle.oth_search.proofs.deep.+deep.Goals as goal
 
-pub probe_kept-known-known-requires : goal.probe_kept-known-known-requires
-probe_kept-known-known-requires g t c = IsCanonical-canonical c.args.node.board c.canonical.result.0 c.canonical.ensures.board
+pub nws_kept-known-known-requires : goal.nws_kept-known-known-requires
+nws_kept-known-known-requires g t c = IsCanonical-canonical c.args.node.board c.canonical.result.0 c.canonical.ensures.board
 
-pub probe_kept-returns-then-known-alpha-clause-value : goal.probe_kept-returns-then-known-alpha-clause-value
-probe_kept-returns-then-known-alpha-clause-value g t c =
+pub nws_kept-returns-then-known-alpha-clause-value : goal.nws_kept-returns-then-known-alpha-clause-value
+nws_kept-returns-then-known-alpha-clause-value g t c =
     let k = c.known-known.result in
     BoundsAt-lower _ c.args.alpha k.interval.lower k.interval.upper _
     (Encloses-known c.args.scoring k.scoring c.args.node.board c.canonical.result.0 k.board _ _ c.canonical.ensures.board c.known-known.ensures.board c.known-known.ensures.scoring k.encloses)
@@ -18,8 +18,8 @@ probe_kept-returns-then-known-alpha-clause-value g t c =
     (omega (arith, ints))
     (omega (arith, ints, c.if-known-alpha.true))
 
-pub probe_kept-returns-then-known-alpha-2-clause-value : goal.probe_kept-returns-then-known-alpha-2-clause-value
-probe_kept-returns-then-known-alpha-2-clause-value g t c =
+pub nws_kept-returns-then-known-alpha-2-clause-value : goal.nws_kept-returns-then-known-alpha-2-clause-value
+nws_kept-returns-then-known-alpha-2-clause-value g t c =
     let k = c.known-known.result in
     BoundsAt-upper _ c.args.alpha k.interval.lower k.interval.upper _
     (Encloses-known c.args.scoring k.scoring c.args.node.board c.canonical.result.0 k.board _ _ c.canonical.ensures.board c.known-known.ensures.board c.known-known.ensures.scoring k.encloses)
@@ -27,19 +27,19 @@ probe_kept-returns-then-known-alpha-2-clause-value g t c =
     (omega (arith, ints))
     (omega (arith, ints, c.if-known-alpha-2.true))
 
-pub probe_kept-narrowed-requires : goal.probe_kept-narrowed-requires
-probe_kept-narrowed-requires g t c =
+pub nws_kept-narrowed-requires : goal.nws_kept-narrowed-requires
+nws_kept-narrowed-requires g t c =
     let k = c.known-known.result in
     BoundsAt-same _ _ _ _ _ _
     (value-known c.args.scoring k.scoring c.args.node.board c.canonical.result.0 k.board c.canonical.ensures.board c.known-known.ensures.board c.known-known.ensures.scoring)
-    refl (omega (arith, ints)) c.probe_ordered-found.ensures.value
+    refl (omega (arith, ints)) c.nws_ordered-found.ensures.value
 
-pub probe_kept-canonical-requires-2 : goal.probe_kept-canonical-requires-2
-probe_kept-canonical-requires-2 g t c =
+pub nws_kept-canonical-requires-2 : goal.nws_kept-canonical-requires-2
+nws_kept-canonical-requires-2 g t c =
     IsCanonical-canonical c.args.node.board c.narrowed.result.board (c.narrowed.ensures.board ∙ c.known-known.ensures.board ∙ c.canonical.ensures.board)
 
-pub probe_remembered-returns-then-recalled-alpha-clause-value : goal.probe_remembered-returns-then-recalled-alpha-clause-value
-probe_remembered-returns-then-recalled-alpha-clause-value g t c =
+pub nws_remembered-returns-then-recalled-alpha-clause-value : goal.nws_remembered-returns-then-recalled-alpha-clause-value
+nws_remembered-returns-then-recalled-alpha-clause-value g t c =
     let k = c.recalled-recalled.result in
     BoundsAt-lower _ c.args.alpha k.interval.lower k.interval.upper _
     (Encloses-same c.args.scoring k.scoring c.args.node.board k.board _ _ c.recalled-recalled.ensures.board c.recalled-recalled.ensures.scoring k.encloses)
@@ -47,8 +47,8 @@ probe_remembered-returns-then-recalled-alpha-clause-value g t c =
     (omega (arith, ints))
     (omega (arith, ints, c.if-recalled-alpha.true))
 
-pub probe_remembered-returns-then-recalled-alpha-2-clause-value : goal.probe_remembered-returns-then-recalled-alpha-2-clause-value
-probe_remembered-returns-then-recalled-alpha-2-clause-value g t c =
+pub nws_remembered-returns-then-recalled-alpha-2-clause-value : goal.nws_remembered-returns-then-recalled-alpha-2-clause-value
+nws_remembered-returns-then-recalled-alpha-2-clause-value g t c =
     let k = c.recalled-recalled.result in
     BoundsAt-upper _ c.args.alpha k.interval.lower k.interval.upper _
     (Encloses-same c.args.scoring k.scoring c.args.node.board k.board _ _ c.recalled-recalled.ensures.board c.recalled-recalled.ensures.scoring k.encloses)
@@ -56,18 +56,18 @@ probe_remembered-returns-then-recalled-alpha-2-clause-value g t c =
     (omega (arith, ints))
     (omega (arith, ints, c.if-recalled-alpha-2.true))
 
-pub probe_children-loop-left-init : goal.probe_children-loop-left-init
-probe_children-loop-left-init g t c = (
+pub nws_children-loop-left-init : goal.nws_children-loop-left-init
+nws_children-loop-left-init g t c = (
   ReplyLoop-start c.args.scoring c.args.node.board _ _ _ refl (omega (arith, ints, c.requires.threshold.low))
       (NoneAbove-moves c.args.scoring c.args.node.board c.args.node.moves _ c.args.node.legal),
   refl,
 )
 
-pub probe_children-next_child-child-requires-clause-legal : goal.probe_children-next_child-child-requires-clause-legal
-probe_children-next_child-child-requires-clause-legal g t c = c.loop-left.invariant.0.replies.untried
+pub nws_children-next_child-child-requires-clause-legal : goal.nws_children-next_child-child-requires-clause-legal
+nws_children-next_child-child-requires-clause-legal g t c = c.loop-left.invariant.0.replies.untried
 
-pub probe_children-probe_node-reply-requires : goal.probe_children-probe_node-reply-requires
-probe_children-probe_node-reply-requires g t c =
+pub nws_children-nws_node-reply-requires : goal.nws_children-nws_node-reply-requires
+nws_children-nws_node-reply-requires g t c =
     let made = c.next_child-child.ensures.child in
     λ κs within. (
       omega (arith, c.decreases, fewer_after c.args.node.board c.next_child-child.result.board _ made.board made.legal),
@@ -77,49 +77,49 @@ probe_children-probe_node-reply-requires g t c =
       ),
     )
 
-pub probe_children-returns-then-reply-alpha-clause-value : goal.probe_children-returns-then-reply-alpha-clause-value
-probe_children-returns-then-reply-alpha-clause-value g t c =
+pub nws_children-returns-then-reply-alpha-clause-value : goal.nws_children-returns-then-reply-alpha-clause-value
+nws_children-returns-then-reply-alpha-clause-value g t c =
     let made = c.next_child-child.ensures.child in
     BoundsAt-cut c.args.scoring c.args.node.board c.next_child-child.result.square c.args.alpha _ made.legal
-    (BoundsAt-reply c.args.scoring c.args.node.board c.next_child-child.result.board c.next_child-child.result.square c.args.alpha _ _ c.probe_node-reply.result made.board (omega (arith, ints)) (omega (arith, ints)) c.probe_node-reply.ensures.value)
+    (BoundsAt-reply c.args.scoring c.args.node.board c.next_child-child.result.board c.next_child-child.result.square c.args.alpha _ _ c.nws_node-reply.result made.board (omega (arith, ints)) (omega (arith, ints)) c.nws_node-reply.ensures.value)
     (omega (arith, ints, c.if-reply-alpha.true))
 
-pub probe_children-loop-left-preserved : goal.probe_children-loop-left-preserved
-probe_children-loop-left-preserved g t c =
+pub nws_children-loop-left-preserved : goal.nws_children-loop-left-preserved
+nws_children-loop-left-preserved g t c =
     let child = c.next_child-child.result in
     let made = c.next_child-child.ensures.child in
-    let r : ℤ = neg_ℤ c.probe_node-reply.result in (
+    let r : ℤ = neg_ℤ c.nws_node-reply.result in (
       ReplyLoop-keeps c.args.scoring c.args.node.board _ _ child.square _ _ r c.loop-left.invariant.0
           (Takes-without _ _ _ c.next_child-child.ensures.member c.without-left.ensures.rest)
-          (BoundsAt-reply c.args.scoring c.args.node.board child.board child.square _ _ r c.probe_node-reply.result made.board (omega (arith, ints)) refl c.probe_node-reply.ensures.value)
+          (BoundsAt-reply c.args.scoring c.args.node.board child.board child.square _ _ r c.nws_node-reply.result made.board (omega (arith, ints)) refl c.nws_node-reply.ensures.value)
           (omega (arith, ints, c.if-reply-best.false)),
-      c.probe_node-reply.ensures.fixed ∙ c.loop-left.invariant.1,
+      c.nws_node-reply.ensures.fixed ∙ c.loop-left.invariant.1,
     )
 
-pub probe_children-loop-left-preserved-then-reply-best : goal.probe_children-loop-left-preserved-then-reply-best
-probe_children-loop-left-preserved-then-reply-best g t c =
+pub nws_children-loop-left-preserved-then-reply-best : goal.nws_children-loop-left-preserved-then-reply-best
+nws_children-loop-left-preserved-then-reply-best g t c =
     let child = c.next_child-child.result in
     let made = c.next_child-child.ensures.child in (
       ReplyLoop-takes c.args.scoring c.args.node.board _ _ child.square _ _ _ c.loop-left.invariant.0
           (Takes-without _ _ _ c.next_child-child.ensures.member c.without-left.ensures.rest)
-          (BoundsAt-reply c.args.scoring c.args.node.board child.board child.square _ _ _ c.probe_node-reply.result made.board (omega (arith, ints)) (omega (arith, ints)) c.probe_node-reply.ensures.value)
+          (BoundsAt-reply c.args.scoring c.args.node.board child.board child.square _ _ _ c.nws_node-reply.result made.board (omega (arith, ints)) (omega (arith, ints)) c.nws_node-reply.ensures.value)
           (omega (arith, ints, c.if-reply-alpha.false))
           (omega (arith, ints, c.if-reply-best.true)),
-      c.probe_node-reply.ensures.fixed ∙ c.loop-left.invariant.1,
+      c.nws_node-reply.ensures.fixed ∙ c.loop-left.invariant.1,
     )
 
-pub probe_children-returns-clause-value : goal.probe_children-returns-clause-value
-probe_children-returns-clause-value g t c =
+pub nws_children-returns-clause-value : goal.nws_children-returns-clause-value
+nws_children-returns-clause-value g t c =
     ReplyLoop-end c.args.scoring c.args.node.board c.args.alpha _ _ _ c.loop-left.invariant.0 (omega (arith, ints)) (In-none _ c.loop-left-test.false) c.requires.some
 
-pub probe_children-returns-then-reply-alpha-clause-fixed : goal.probe_children-returns-then-reply-alpha-clause-fixed
-probe_children-returns-then-reply-alpha-clause-fixed g t c = c.probe_node-reply.ensures.fixed ∙ c.loop-left.invariant.1
+pub nws_children-returns-then-reply-alpha-clause-fixed : goal.nws_children-returns-then-reply-alpha-clause-fixed
+nws_children-returns-then-reply-alpha-clause-fixed g t c = c.nws_node-reply.ensures.fixed ∙ c.loop-left.invariant.1
 
-pub probe_children-returns-clause-fixed : goal.probe_children-returns-clause-fixed
-probe_children-returns-clause-fixed g t c = c.loop-left.invariant.1
+pub nws_children-returns-clause-fixed : goal.nws_children-returns-clause-fixed
+nws_children-returns-clause-fixed g t c = c.loop-left.invariant.1
 
-pub probe_node-probe_kept-requires : goal.probe_node-probe_kept-requires
-probe_node-probe_kept-requires g t c =
+pub nws_node-nws_kept-requires : goal.nws_node-nws_kept-requires
+nws_node-nws_kept-requires g t c =
     λ κs within. (
       omega (arith, c.decreases),
       (
@@ -131,8 +131,8 @@ probe_node-probe_kept-requires g t c =
       ),
     )
 
-pub probe_node-probe_kept-requires-then-passed-ne0 : goal.probe_node-probe_kept-requires-then-passed-ne0
-probe_node-probe_kept-requires-then-passed-ne0 g t c =
+pub nws_node-nws_kept-requires-then-passed-ne0 : goal.nws_node-nws_kept-requires-then-passed-ne0
+nws_node-nws_kept-requires-then-passed-ne0 g t c =
     let passed = c.of-passed.result in
     λ κs within. (
       omega (arith, c.decreases, same_after_pass c.args.node.board passed.board (c.of-passed.ensures ∙ c.pass.ensures)),
@@ -145,19 +145,19 @@ probe_node-probe_kept-requires-then-passed-ne0 g t c =
       ),
     )
 
-pub probe_node-returns-then-passed-ne0-clause-value : goal.probe_node-returns-then-passed-ne0-clause-value
-probe_node-returns-then-passed-ne0-clause-value g t c =
+pub nws_node-returns-then-passed-ne0-clause-value : goal.nws_node-returns-then-passed-ne0-clause-value
+nws_node-returns-then-passed-ne0-clause-value g t c =
     let passed = c.of-passed.result in
-    BoundsAt-pass c.args.scoring c.args.node.board passed.board c.args.alpha _ _ c.probe_kept-then-passed-ne0.result
+    BoundsAt-pass c.args.scoring c.args.node.board passed.board c.args.alpha _ _ c.nws_kept-then-passed-ne0.result
     (c.of-passed.ensures ∙ c.pass.ensures)
     (can_move-from_none c.args.node.board _ c.args.node.legal c.if-node-ne0.false)
     (can_move-from_moves passed.board _ passed.legal c.if-passed-ne0.true)
     (omega (arith, ints))
     (omega (arith, ints))
-    c.probe_kept-then-passed-ne0.ensures.value
+    c.nws_kept-then-passed-ne0.ensures.value
 
-pub probe_node-returns-clause-value : goal.probe_node-returns-clause-value
-probe_node-returns-clause-value g t c =
+pub nws_node-returns-clause-value : goal.nws_node-returns-clause-value
+nws_node-returns-clause-value g t c =
     let passed = c.of-passed.result in
     BoundsAt-over c.args.scoring c.args.node.board passed.board c.args.alpha _
     (c.of-passed.ensures ∙ c.pass.ensures)

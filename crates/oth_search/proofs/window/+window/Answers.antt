@@ -68,14 +68,14 @@ search_moves-returns-clause-value g t c =
 
 pub search_reply-returns-then-found-alpha-clause-value : goal.search_reply-returns-then-found-alpha-clause-value
 search_reply-returns-then-found-alpha-clause-value g t c =
-    w.WithinAt-probe _ c.args.alpha c.args.beta _
-    (BoundsAt-negated _ c.args.alpha _ _ c.probe_with-found.result (omega (arith, ints)) (omega (arith, ints)) c.probe_with-found.ensures.value)
+    w.WithinAt-nws _ c.args.alpha c.args.beta _
+    (BoundsAt-negated _ c.args.alpha _ _ c.nws_with-found.result (omega (arith, ints)) (omega (arith, ints)) c.nws_with-found.ensures.value)
     (inl (omega (arith, ints, c.if-found-alpha.true))) (let o = c.requires.ordered in omega (arith, ints, o))
 
 pub search_reply-returns-then-found-beta-clause-value : goal.search_reply-returns-then-found-beta-clause-value
 search_reply-returns-then-found-beta-clause-value g t c =
-    w.WithinAt-probe _ c.args.alpha c.args.beta _
-    (BoundsAt-negated _ c.args.alpha _ _ c.probe_with-found.result (omega (arith, ints)) (omega (arith, ints)) c.probe_with-found.ensures.value)
+    w.WithinAt-nws _ c.args.alpha c.args.beta _
+    (BoundsAt-negated _ c.args.alpha _ _ c.nws_with-found.result (omega (arith, ints)) (omega (arith, ints)) c.nws_with-found.ensures.value)
     (inr (omega (arith, ints, c.if-found-beta.true))) (let o = c.requires.ordered in omega (arith, ints, o))
 
 pub search_reply-search_window-requires : goal.search_reply-search_window-requires
@@ -95,20 +95,20 @@ search_reply-search_window-requires-2 g t c =
       omega (arith, c.decreases),
       (
         within,
-        (let s = c.probe_with-found.ensures.value.score in
-            w.IsInner-negated (neg_ℤ c.probe_with-found.result) c.args.beta _ _ (omega (arith, ints)) (omega (arith, ints, s.low, s.high))
+        (let s = c.nws_with-found.ensures.value.score in
+            w.IsInner-negated (neg_ℤ c.nws_with-found.result) c.args.beta _ _ (omega (arith, ints)) (omega (arith, ints, s.low, s.high))
             (record { low = omega (arith, ints, s.high); ordered = omega (arith, ints, s.low, s.high, c.if-found-beta.false); high = c.requires.high })),
       ),
     )
 
 pub search_reply-returns-clause-value : goal.search_reply-returns-clause-value
 search_reply-returns-clause-value g t c =
-    let s = c.probe_with-found.ensures.value.score in
-    let found = neg_ℤ c.probe_with-found.result in
+    let s = c.nws_with-found.ensures.value.score in
+    let found = neg_ℤ c.nws_with-found.result in
     let n = c.search_window-2.ensures.value.score in
     w.WithinAt-same _ _ _ _ _ _ _ c.greater.result refl refl refl (omega (arith, ints))
     (w.WithinAt-above _ c.args.alpha c.args.beta found found (neg_ℤ c.search_window-2.result) c.greater.result
-    (BoundsAt-negated _ c.args.alpha _ found c.probe_with-found.result (w.reply_threshold c.args.alpha c.args.beta c.requires) refl c.probe_with-found.ensures.value)
+    (BoundsAt-negated _ c.args.alpha _ found c.nws_with-found.result (w.reply_threshold c.args.alpha c.args.beta c.requires) refl c.nws_with-found.ensures.value)
     (omega (arith, ints, s.low, s.high, c.if-found-alpha.false))
     refl
     (w.WithinAt-negated _ found c.args.beta _ _ _ c.search_window-2.result (omega (arith, ints)) (omega (arith, ints, s.low, s.high)) refl c.search_window-2.ensures.value)

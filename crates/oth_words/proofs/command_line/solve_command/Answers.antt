@@ -1,23 +1,15 @@
-use Rattle.std.proofs.Common.{◌≡◌, ◌∙◌, ap₂, false}
+use Rattle.std.proofs.Common.{◌∙◌, ap, ap₂}
 use Rattle.std.specs.Prelude.{◌||◌}
 use Rattle.std.proofs.lemmas.Result.{IfOk-weaker}
-use Rattle.clap.specs.Words.{with_rule}
-use Rattle.clap.specs.declared.builder.command.Command.TheViews.{out-Command}
+use Rattle.clap.specs.Words.{App, with_rule}
+use Rattle.oth_words.specs.CommandLine.{searcher_app}
 use Rattle.oth_words.proofs.command_line.solve_command.Goals as goal
 
 pub returns-clause-app : goal.returns-clause-app
 returns-clause-app c =
-    let first = c.in_ok-arg.ensures.shape c.workers_option.ensures.local ∙ ap₂ with_rule c.titled_solve.ensures.app c.workers_option.ensures.rule in
-    let second = c.in_ok-arg-2.ensures.shape c.cells_option.ensures.local ∙ ap₂ with_rule first c.cells_option.ensures.rule in
-    let third = c.in_ok-arg-3.ensures.shape c.scoring_option.ensures.local ∙ ap₂ with_rule second c.scoring_option.ensures.rule in
-    IfOk-weaker c.arg-4.result _ _ (λ r added. added.shape c.book_option.ensures.local ∙ ap₂ with_rule third c.book_option.ensures.rule) c.arg-4.ensures
+    let searcher = c.in_ok-with_search_options.ensures.app ∙ ap (λ (a : App). searcher_app a c.args.scorings) c.titled_solve.ensures.app in
+    IfOk-weaker c.arg.result _ _ (λ r added. added.shape c.book_option.ensures.local ∙ ap₂ with_rule searcher c.book_option.ensures.rule) c.arg.ensures
 
 pub returns-clause-local : goal.returns-clause-local
 returns-clause-local c =
-    let first : (out-Command c.in_ok-arg.field-0).has_globals ≡ false =
-    c.in_ok-arg.ensures.globals ∙ ap₂ ◌||◌ c.titled_solve.ensures.local c.workers_option.ensures.local in
-    let second : (out-Command c.in_ok-arg-2.field-0).has_globals ≡ false =
-    c.in_ok-arg-2.ensures.globals ∙ ap₂ ◌||◌ first c.cells_option.ensures.local in
-    let third : (out-Command c.in_ok-arg-3.field-0).has_globals ≡ false =
-    c.in_ok-arg-3.ensures.globals ∙ ap₂ ◌||◌ second c.scoring_option.ensures.local in
-    IfOk-weaker c.arg-4.result _ _ (λ r added. added.globals ∙ ap₂ ◌||◌ third c.book_option.ensures.local) c.arg-4.ensures
+    IfOk-weaker c.arg.result _ _ (λ r added. added.globals ∙ ap₂ ◌||◌ c.in_ok-with_search_options.ensures.local c.book_option.ensures.local) c.arg.ensures

@@ -1,0 +1,54 @@
+//! What is asked of the boards that wait, and what is found of one.
+
+ghost use Rattle.std.specs.Prelude.{◌≡◌, IfSome};
+
+use oth_rules::{Board, Scoring};
+use oth_search::{Answer, Scores};
+
+/// What is asked of each of the boards that wait.
+#[derive(Clone, Copy, Debug, PartialEq, Eq)]
+pub enum Asked {
+    /// Its score and all best moves.
+    Answer,
+    /// The score of each of its moves.
+    Scores,
+}
+
+/// What was found of a board.
+#[derive(Drop)]
+pub(crate) enum Found {
+    Answer(Answer),
+    Scores(Scores),
+}
+
+impl Found {
+    /// The answer, if it is one of this board by this scoring.
+    pub(crate) fn answer(&self, board: &Board, scoring: Scoring) -> Option<Answer>
+        ensures board { IfSome result (λ a. a.board ≡ board.now) }
+        ensures scoring { IfSome result (λ a. a.scoring ≡ scoring) }
+    {
+        let Found::Answer(answer) = self else {
+            return None;
+        };
+        if answer.board == *board && answer.scoring == scoring {
+            Some(*answer)
+        } else {
+            None
+        }
+    }
+
+    /// The scores, if they are those of this board by this scoring.
+    pub(crate) fn scores(&self, board: &Board, scoring: Scoring) -> Option<&Scores>
+        ensures board { IfSome result (λ s. s.now.answer.board ≡ board.now) }
+        ensures scoring { IfSome result (λ s. s.now.answer.scoring ≡ scoring) }
+    {
+        let Found::Scores(scores) = self else {
+            return None;
+        };
+        if scores.answer.board == *board && scores.answer.scoring == scoring {
+            Some(scores)
+        } else {
+            None
+        }
+    }
+}

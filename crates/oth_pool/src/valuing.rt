@@ -1,0 +1,186 @@
+//! Boards that workers value, each by itself or all together.
+ghost use Rattle.std.specs.Prelude.{◌≡◌};
+ghost use Rattle.oth_pool.specs.Solving.{IsSolvable};
+ghost use Rattle.oth_pieces.specs.Hands.{IsCrew};
+
+use crate::announcing::Announcer;
+use crate::at_once::for_each_at_once;
+use crate::queue::Queue;
+use crate::run::{Means, room_for};
+use crate::solving::{answer_over, crew, frontier_of};
+use arrayvec::ArrayVec;
+use oth_pieces::{Frontier, awake};
+use oth_search::{Cells, Interval, Solved, ended, order, value_of};
+use oth_walk::{Gate, Plan, Scene, TableAccess, WorkerCells};
+use std::thread::Threads;
+
+// What one worker searches over, and the boards that it has valued.
+#[derive(Drop)]
+struct Valuer<'t> {
+    cells: WorkerCells<'t>,
+    valued: ArrayVec<Solved, 64>,
+}
+
+/// The boards of the queue with their values, each by one worker: it takes the next board until there is none. What
+/// they leave where they are out of memory the caller values.
+pub(crate) fn valued_apart<'t, R: Threads + Sync, G: Gate>(
+    means: &Means<R, G>,
+    queue: &Queue,
+    plan: Plan,
+    access: &mut Option<TableAccess<'t>>,
+) -> ArrayVec<Solved, 64> {
+    let mut valuers = valuers_of(means, plan, access);
+    for_each_at_once(
+        means.rt,
+        &|valuer: &mut Valuer| { value_next_ones(means, queue, valuer) },
+        valuers.as_mut_slice(),
+    );
+    let mut last = Valuer {
+        cells: WorkerCells::of(means.alloc, plan, access),
+        valued: valued_by(valuers.as_slice()),
+    };
+    value_next_ones(means, queue, &mut last);
+    last.valued
+}
+
+/// The same by all workers, one board after another.
+pub(crate) fn valued_together<'t, R: Threads + Sync, G: Gate>(
+    means: &Means<R, G>,
+    queue: &Queue,
+    access: &mut Option<TableAccess<'t>>,
+) -> ArrayVec<Solved, 64>
+    requires { IsCrew means.now.workers }
+{
+    let mut valued = ArrayVec::new();
+    for _ in 0..queue.len() {
+        let Some(by_book) = queue.take() else {
+            break;
+        };
+        let _ = valued.try_push(value_together(means, &by_book, access));
+    }
+    valued
+}
+
+// So many workers as there are, as far as there is memory for them.
+fn valuers_of<'t, R, G>(
+    means: &Means<R, G>,
+    plan: Plan,
+    access: &mut Option<TableAccess<'t>>,
+) -> Vec<Valuer<'t>> {
+    let mut valuers = room_for(means.alloc, u32::from(means.workers));
+    for _ in 0..means.workers {
+        let valuer = Valuer {
+            cells: WorkerCells::of(means.alloc, plan, access),
+            valued: ArrayVec::new(),
+        };
+        let _ = valuers.push(valuer);
+    }
+    valuers
+}
+
+// Values the next boards of the queue, until all are taken.
+fn value_next_ones<'t, R, G: Gate>(means: &Means<R, G>, queue: &Queue, valuer: &mut Valuer<'t>) {
+    for _ in 0..queue.len() {
+        let Some(by_book) = queue.take() else {
+            return;
+        };
+        let sibling = valuer.valued.as_slice().last();
+        let valued = value_alone(means, &by_book, sibling, &mut valuer.cells);
+        let _ = valuer.valued.try_push(valued);
+    }
+}
+
+// All boards that these workers have valued.
+fn valued_by<'t>(valuers: &[Valuer<'t>]) -> ArrayVec<Solved, 64> {
+    let mut all = ArrayVec::new();
+    for valuer in valuers {
+        for valued in valuer.valued.as_slice() {
+            let _ = all.try_push(*valued);
+        }
+    }
+    all
+}
+
+// The board of which the book tells so much, with its value, by one worker.
+fn value_alone<R, G: Gate, C: Cells>(
+    means: &Means<R, G>,
+    by_book: &Solved,
+    sibling: Option<&Solved>,
+    cells: &mut C,
+) -> Solved
+    requires { IsSolvable by_book.now.board }
+{
+    if is_exact(by_book) {
+        return *by_book;
+    }
+    match frontier_of(means.alloc, &by_book.board) {
+        Some(frontier) => value_by_items(means, by_book, sibling, &frontier, cells),
+        None => value_without_room(means, by_book, sibling, cells),
+    }
+}
+
+// The same, with the frontier on the stack.
+#[inline(never)]
+fn value_without_room<R, G: Gate, C: Cells>(
+    means: &Means<R, G>,
+    by_book: &Solved,
+    sibling: Option<&Solved>,
+    cells: &mut C,
+) -> Solved
+    requires { IsSolvable by_book.now.board }
+{
+    let frontier = Frontier::of(&by_book.board, 2);
+    value_by_items(means, by_book, sibling, &frontier, cells)
+}
+
+// The same, where the gate hears of the items of this frontier.
+#[inline(never)]
+fn value_by_items<R, G: Gate, C: Cells>(
+    means: &Means<R, G>,
+    by_book: &Solved,
+    sibling: Option<&Solved>,
+    frontier: &Frontier,
+    cells: &mut C,
+) -> Solved {
+    let (root, _) = awake(by_book.board);
+    let squares = order(&root);
+    let scene = Scene {
+        frontier,
+        root,
+        squares: squares.as_slice(),
+        plan: Plan::of(by_book.scoring, root.empties(), false),
+    };
+    let mut announcer = Announcer::of(&scene, means.gate);
+    let valued = value_of(by_book, sibling, cells, &mut announcer);
+    announcer.finish();
+    valued
+}
+
+// The board of which the book tells so much, with its value, by all workers.
+fn value_together<'t, R: Threads + Sync, G: Gate>(
+    means: &Means<R, G>,
+    by_book: &Solved,
+    access: &mut Option<TableAccess<'t>>,
+) -> Solved
+    requires few { IsSolvable by_book.now.board }
+    requires crew { IsCrew means.now.workers }
+{
+    let board = by_book.board;
+    if is_exact(by_book) {
+        return *by_book;
+    }
+    if board.is_over() {
+        return Solved::of_answer(&ended(board, by_book.scoring));
+    }
+    if board.moves() == 0 {
+        let answer = answer_over(means, &by_book.passed(), access);
+        return Solved::of_answer(&answer).before_pass(&board);
+    }
+    Solved::of_answer(&answer_over(means, by_book, access))
+}
+
+// Whether the bounds are one number.
+fn is_exact(solved: &Solved) -> bool {
+    let Interval { lower, upper } = solved.interval;
+    lower == upper
+}

@@ -1,0 +1,163 @@
+//! That each of several workers searches what it announces, and that sixteen of them agree.
+
+use super::board;
+use super::crews::BOARDS;
+use super::rows::ROWS;
+use super::view::TableView;
+use oth_pool::{Floor, Frontier, Gate, Open, TableAccess, run_workers};
+use oth_rules::{Board, Scoring};
+use oth_search::Kind;
+use oth_table::SharedTable;
+use std::alloc::Global;
+use std::process::Abort;
+use std::sync::atomic::{AtomicU64, Ordering};
+use std::test::Fail;
+use std::thread;
+use std::thread::Threads;
+
+// Lets the first two items begin at once, which two workers draw. When the first search of each has ended, it looks
+// whether the table has the board after the item's move.
+#[derive(Drop)]
+struct Beginning<'t> {
+    view: TableView<'t>,
+    frontier: &'t Frontier,
+    begun: AtomicU64,
+    // The numbers of the two items, each plus one.
+    first: AtomicU64,
+    second: AtomicU64,
+    // Of how many of the two the table had something, and whether no second worker came.
+    searched: AtomicU64,
+    given_up: AtomicU64,
+}
+
+impl<'t> Beginning<'t> {
+    fn of(view: TableView<'t>, frontier: &'t Frontier) -> Beginning<'t> {
+        Beginning {
+            view,
+            frontier,
+            begun: AtomicU64::new(0),
+            first: AtomicU64::new(0),
+            second: AtomicU64::new(0),
+            searched: AtomicU64::new(0),
+            given_up: AtomicU64::new(0),
+        }
+    }
+
+    // Whether this is one of the two items.
+    fn is_early(&self, task: u32) -> bool {
+        let number = u64::from(task).saturating_add(1);
+        self.first.load(Ordering::SeqCst) == number || self.second.load(Ordering::SeqCst) == number
+    }
+
+    // Waits a while until two items have begun.
+    fn wait_for_two(&self) {
+        for _ in 0..10_000_000 {
+            if self.begun.load(Ordering::SeqCst) >= 2 {
+                return;
+            }
+            thread::yield_now();
+        }
+        self.given_up.store(1, Ordering::SeqCst);
+    }
+}
+
+impl<'t> Gate for Beginning<'t> {
+    fn before(&self, task: u32) {
+        let number = u64::from(task).saturating_add(1);
+        match self.begun.fetch_add(1, Ordering::SeqCst) {
+            0 => self.first.store(number, Ordering::SeqCst),
+            1 => self.second.store(number, Ordering::SeqCst),
+            _ => return,
+        }
+        self.wait_for_two();
+    }
+
+    fn after(&self, task: u32) {
+        if !self.is_early(task) {
+            return;
+        }
+        if let Some(item) = self.frontier.entry(task) {
+            if self.view.has(item.square) {
+                self.searched.fetch_add(1, Ordering::SeqCst);
+            }
+        }
+    }
+}
+
+// Lets two workers search the items of the frontier over the table.
+fn search_by_two<'t, R: Threads + Sync + AllocGlobal + Abort, G: Gate>(
+    rt: &R,
+    frontier: &Frontier,
+    root: &Board,
+    access: &mut Option<TableAccess<'t>>,
+    gate: &G,
+) {
+    let alloc = rt.alloc();
+    let Ok((floor, mut seat)) = Floor::new(alloc, root, Scoring::Winner) else {
+        panic!(rt; "no floor")
+    };
+    let found = run_workers(rt, alloc, frontier, &floor, &mut seat, 2, access, gate);
+    assert!(rt; found.drawn.left.is_empty());
+    assert!(rt; found.replies.len() == frontier.len() as usize);
+}
+
+#[test]
+fn each_of_two_workers_searches_its_first_item(rt: HostRuntime) -> Result<(), Fail> {
+    for words in BOARDS {
+        let Some(root) = board(words) else {
+            panic!(rt; "no board")
+        };
+        let frontier = Frontier::of(&root, 2);
+        let Ok((table, own)) = SharedTable::new(rt.alloc(), 4_096, Scoring::Winner) else {
+            panic!(rt; "no table")
+        };
+        let mut access = Some(TableAccess::of(&table, own));
+        let view = TableView::of(rt.alloc(), &mut access, root);
+        let gate = Beginning::of(view, &frontier);
+        search_by_two(&rt, &frontier, &root, &mut access, &gate);
+        assert!(rt; gate.given_up.load(Ordering::SeqCst) == 0);
+        assert!(rt; gate.searched.load(Ordering::SeqCst) == 2);
+    }
+    Ok(())
+}
+
+// The floor of the board of these discs, when sixteen workers over one cell have searched all its items.
+fn floor_by_sixteen<R: Threads + Sync>(rt: &R, alloc: Global, words: [u64; 2]) -> Option<i8> {
+    let root = board(words)?;
+    let frontier = Frontier::of(&root, 2);
+    let Ok((floor, mut seat)) = Floor::new(alloc, &root, Scoring::Winner) else {
+        return None;
+    };
+    let Ok((table, own)) = SharedTable::new(alloc, 1, Scoring::Winner) else {
+        return None;
+    };
+    let mut access = Some(TableAccess::of(&table, own));
+    let found = run_workers(
+        rt,
+        alloc,
+        &frontier,
+        &floor,
+        &mut seat,
+        16,
+        &mut access,
+        &Open,
+    );
+    if found.drawn.left.is_empty() && found.drawn.lists.len() == 16 {
+        Some(floor.read(&mut seat))
+    } else {
+        None
+    }
+}
+
+// `run_workers` starts as many as it is told, whatever the board.
+#[test]
+fn sixteen_workers_raise_the_floor_to_the_value_over_one_cell(rt: HostRuntime) {
+    for _ in 0..100 {
+        for (words, score, _, kind) in &ROWS[4..] {
+            if *kind == Kind::Move {
+                let floor = floor_by_sixteen(&rt, rt.alloc(), *words);
+                assert!(rt; floor == Some(*score), "the board of {}", words[0]);
+            }
+        }
+    }
+}

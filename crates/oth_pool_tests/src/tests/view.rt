@@ -1,0 +1,68 @@
+//! A table as a gate sees it.
+
+use super::has_entry;
+use oth_pool::{TableAccess, WorkerCells};
+use oth_rules::{Board, Scoring, Square};
+use oth_walk::Plan;
+use std::alloc::Global;
+use std::sync::Mutex;
+use std::thread;
+
+// A seat of the table on which a board is searched.
+#[derive(Drop)]
+pub(super) struct TableView<'t> {
+    cells: Mutex<WorkerCells<'t>>,
+    root: Board,
+}
+
+impl<'t> TableView<'t> {
+    pub(super) fn of(
+        alloc: Global,
+        access: &mut Option<TableAccess<'t>>,
+        root: Board,
+    ) -> TableView<'t> {
+        let plan = Plan::of(Scoring::Winner, 0, false);
+        TableView {
+            cells: Mutex::new(WorkerCells::of(alloc, plan, access)),
+            root,
+        }
+    }
+
+    // How many of the boards after the root's moves the table has; 64 where another thread looks at it all the time.
+    pub(super) fn known(&self) -> u64 {
+        for _ in 0..1_000_000 {
+            if let Some(mut cells) = self.cells.try_lock() {
+                return known_children(&mut *cells, &self.root);
+            }
+            thread::yield_now();
+        }
+        64
+    }
+
+    // Whether the table has the board after this move of the root.
+    pub(super) fn has(&self, square: Square) -> bool {
+        let Some(child) = self.root.play(square) else {
+            return false;
+        };
+        for _ in 0..1_000_000 {
+            if let Some(mut cells) = self.cells.try_lock() {
+                return has_entry(&mut *cells, &child);
+            }
+            thread::yield_now();
+        }
+        false
+    }
+}
+
+// How many of the boards after the root's moves the cells have.
+fn known_children<'t>(cells: &mut WorkerCells<'t>, root: &Board) -> u64 {
+    let mut known = 0;
+    for number in 0..64 {
+        if let Some(child) = root.play(Square::numbered(number)) {
+            if has_entry(cells, &child) {
+                known = u64::saturating_add(known, 1);
+            }
+        }
+    }
+    known
+}

@@ -1,0 +1,17 @@
+use Rattle.std.proofs.Common.{◌+◌, ◌*◌}
+use Rattle.oth_rules.specs.Position.{empty_count}
+use Rattle.oth_search.specs.Squares.{In}
+use Rattle.oth_search.proofs.Replies.{ReplyLoop}
+use Rattle.oth_search.proofs.nws.+nws.Given as goal
+
+abbrev pub decreases-nws_with_odd : goal.decreases-nws_with_odd
+decreases-nws_with_odd l = 2 * empty_count l.board + 1
+
+abbrev pub decreases-nws_moves : goal.decreases-nws_moves
+decreases-nws_moves l = 2 * empty_count l.board
+
+abbrev pub invariant-nws_moves-loop-rest : goal.invariant-nws_moves-loop-rest
+invariant-nws_moves-loop-rest l = ReplyLoop l.scoring l.board l.fn.alpha (In l.rest) l.best
+
+abbrev pub decreases-nws_moves-loop-rest : goal.decreases-nws_moves-loop-rest
+decreases-nws_moves-loop-rest l = l.rest

@@ -1,0 +1,229 @@
+//! A guess of how well a board stands by a look a ply ahead, for the order of moves. No answer depends on it.
+ghost use Rattle.std.specs.Prelude.{◌<◌, ◌≤◌, pos, neg_ℤ, ◌≤ℤ◌};
+
+use crate::looking::{Span, look};
+use crate::node::Node;
+use crate::ordering::{CORNERS, X_SQUARES, around, count};
+use crate::squares::{first, without};
+use oth_rules::Board;
+
+/// The children of boards with fewer empty squares are not looked at.
+pub const FEWEST_EMPTIES_LOOKED: u8 = 11;
+
+// Those of boards with fewer empty squares are looked at as they stand, and others a ply ahead.
+const FEWEST_EMPTIES_AHEAD: u8 = 12;
+
+// From so many empty squares on they are looked at three plies ahead.
+const FEWEST_EMPTIES_THREE_AHEAD: u8 = 17;
+
+// From so many on four.
+const FEWEST_EMPTIES_FOUR_AHEAD: u8 = 19;
+
+// And from so many on five.
+const FEWEST_EMPTIES_FIVE_AHEAD: u8 = 21;
+
+// The points above the least so far up to which a child is looked at closely.
+const MARGIN: i16 = 30;
+
+// The points of a disc when the game is over.
+const DISC: i16 = 100;
+
+/// How well a board seems to stand for its mover, -6,400 to 6,400 points.
+#[derive(Clone, Copy)]
+pub struct Evaluation {
+    points: i16,
+    ghost low: { neg_ℤ (pos 6400) ≤ℤ points },
+    ghost high: { points ≤ℤ pos 6400 },
+}
+
+impl Evaluation {
+    /// The worst one.
+    pub const WORST: Evaluation = Evaluation { points: -6400 };
+
+    /// The best one.
+    pub const BEST: Evaluation = Evaluation { points: 6400 };
+
+    /// The same board as the opponent sees it.
+    pub fn turned(self) -> Evaluation {
+        Evaluation {
+            points: -self.points,
+        }
+    }
+
+    /// The one with more points.
+    pub fn better(self, other: Evaluation) -> Evaluation {
+        if other.points > self.points {
+            other
+        } else {
+            self
+        }
+    }
+
+    /// The one with fewer points.
+    pub fn lesser(self, other: Evaluation) -> Evaluation {
+        if other.points < self.points {
+            other
+        } else {
+            self
+        }
+    }
+
+    /// What is enough to be looked at no longer, where this is the least so far.
+    pub fn enough(self) -> Evaluation {
+        Evaluation {
+            points: (self.points + MARGIN).min(6400),
+        }
+    }
+
+    /// Whether it has as many points.
+    pub fn reaches(self, enough: Evaluation) -> bool {
+        self.points >= enough.points
+    }
+
+    /// How much it is above the worst one.
+    pub fn above_worst(self) -> u16
+        ensures { result ≤ 12800 }
+    {
+        (self.points + 6400) as u16
+    }
+}
+
+/// What a child with these moves seems to be worth for its mover, for the order of the children of a board with so many
+/// empty squares: after some plies, or for few as it stands. Less exact from `enough` on.
+pub fn evaluation_of(child: &Board, moves: u64, empties: u8, enough: Evaluation) -> Evaluation {
+    match plies_ahead(empties) {
+        0 => standing(child, moves),
+        1 => a_ply_ahead(child, moves, enough),
+        plies => look(Node::of(*child), plies, Span::up_to(enough)),
+    }
+}
+
+// How far the children of a board with so many empty squares are looked at.
+fn plies_ahead(empties: u8) -> u8 {
+    if empties < FEWEST_EMPTIES_AHEAD {
+        0
+    } else if empties < FEWEST_EMPTIES_THREE_AHEAD {
+        1
+    } else if empties < FEWEST_EMPTIES_FOUR_AHEAD {
+        3
+    } else if empties < FEWEST_EMPTIES_FIVE_AHEAD {
+        4
+    } else {
+        5
+    }
+}
+
+// What a child seems to be worth after a ply, or after a pass as it stands.
+fn a_ply_ahead(child: &Board, moves: u64, enough: Evaluation) -> Evaluation {
+    if moves != 0 {
+        return look_past_moves(child, moves, enough);
+    }
+    let passed = child.pass();
+    let replies = passed.moves_by_lines();
+    if replies != 0 {
+        return standing(&passed, replies).turned();
+    }
+    by_discs(child)
+}
+
+/// The best standing after a move, or one that is enough.
+pub fn look_past_moves(board: &Board, moves: u64, enough: Evaluation) -> Evaluation {
+    let mut best = Evaluation::WORST;
+    let mut rest = moves;
+    while rest != 0 {
+        let square = first(rest);
+        rest = without(rest, square);
+        if let Some(child) = board.play(square) {
+            best = best.better(standing(&child, child.moves_by_lines()).turned());
+        }
+        if best.reaches(enough) {
+            return best;
+        }
+    }
+    best
+}
+
+/// By the discs, when the game is over.
+pub fn by_discs(board: &Board) -> Evaluation {
+    Evaluation {
+        points: DISC * (count(board.own()) as i16 - count(board.opp()) as i16),
+    }
+}
+
+// By the strength of the mover, who has these moves, and the opponent's.
+fn standing(board: &Board, moves: u64) -> Evaluation {
+    let passed = board.pass();
+    Evaluation {
+        points: strength(board, moves) as i16 - strength(&passed, passed.moves_by_lines()) as i16,
+    }
+}
+
+// How strong the mover is: moves, corners among them, squares beside opposing discs, corners that are taken, discs that
+// are held along an edge, and opposing discs that give a corner away.
+fn strength(board: &Board, moves: u64) -> u16
+    ensures { result ≤ 4800 }
+{
+    16 * count(moves)
+        + 16 * count(moves & CORNERS)
+        + 3 * count(around(board.opp()) & board.empty_squares())
+        + 20 * count(board.own() & CORNERS)
+        + 10 * count(stable_edge_discs(board.own()))
+        + 10 * count(board.opp() & diagonal_to(board.empty_squares() & CORNERS))
+}
+
+// The first and the last row.
+const END_ROWS: u64 = 0xff00_0000_0000_00ff;
+
+// The first square of each of them.
+const ROW_STARTS: u64 = 0x0100_0000_0000_0001;
+
+// The squares of the columns a and h.
+const END_COLUMNS: u64 = 0x8181_8181_8181_8181;
+
+// All squares but those of column h.
+const BEFORE_H: u64 = 0x7f7f_7f7f_7f7f_7f7f;
+
+// The squares of the set that stand without a gap in a row with a corner of the set, along an edge: discs there are
+// never flipped.
+fn stable_edge_discs(set: u64) -> u64 {
+    let corners = set & CORNERS;
+    if corners == 0 {
+        return 0;
+    }
+    let rows = set & END_ROWS;
+    let columns = set & END_COLUMNS;
+    let eastwards = rows & !rows.wrapping_add(ROW_STARTS);
+    eastwards
+        | westwards(corners, rows & BEFORE_H)
+        | northwards(corners, columns)
+        | southwards(corners, columns)
+}
+
+// The squares of `from`, and those of the set that follow them to the west without a gap.
+fn westwards(from: u64, set: u64) -> u64 {
+    let one = from | (set & (from >> 1));
+    let pairs = set & (set >> 1);
+    let three = one | (pairs & (one >> 2));
+    three | (pairs & (pairs >> 2) & (three >> 4))
+}
+
+// The same to the north.
+fn northwards(from: u64, set: u64) -> u64 {
+    let one = from | (set & (from >> 8));
+    let pairs = set & (set >> 8);
+    let three = one | (pairs & (one >> 16));
+    three | (pairs & (pairs >> 16) & (three >> 32))
+}
+
+// The same to the south.
+fn southwards(from: u64, set: u64) -> u64 {
+    let one = from | (set & (from << 8));
+    let pairs = set & (set << 8);
+    let three = one | (pairs & (one << 16));
+    three | (pairs & (pairs << 16) & (three << 32))
+}
+
+// The squares diagonal to these corners.
+fn diagonal_to(corners: u64) -> u64 {
+    ((corners << 9) | (corners << 7) | (corners >> 7) | (corners >> 9)) & X_SQUARES
+}
