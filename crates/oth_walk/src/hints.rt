@@ -14,12 +14,11 @@ use rule::{Anything, Step};
 use std::alloc::Global;
 use std::marker::Model;
 
-// The words: for each square whether the root's move to it is settled, how many moves are, a guess, the marks, what
-// boards seem to have, and the orders.
-const SETTLED_COUNT: usize = 64;
+// The words: which of the root's moves are settled, a guess, the marks, what boards seem to have, and the orders.
+const SETTLED: usize = 0;
 
 // A guess of the root's score, raised by so much, and above it the number of the move's square, or 0 for none.
-const GUESS: usize = 65;
+const GUESS: usize = 1;
 
 // What is added to a guess, so that 0 says that there is none.
 const GUESS_RAISED: i16 = 65;
@@ -28,7 +27,7 @@ const GUESS_RAISED: i16 = 65;
 const GUESS_BITS: u32 = 8;
 
 // The first place of a mark.
-const MARKS: usize = 66;
+const MARKS: usize = 2;
 
 // So many boards can be marked, each at a place that its discs tell.
 const MARK_COUNT: usize = 1024;
@@ -177,22 +176,24 @@ impl<'h> HintSeat<'h> {
 
     /// Whether the root's move needs no further search.
     pub fn is_settled(&mut self, square: Square) -> bool {
-        self.load(usize::from(square.number())) != 0
+        self.settled() & square.word() != 0
     }
 
-    /// Tells that the root's move needs no further search.
+    /// Tells that the root's move needs no further search. Where another worker settles a move at the same time it
+    /// tries again, at most once for each square.
     pub fn settle(&mut self, square: Square) {
-        if !self.is_settled(square) {
-            self.store(usize::from(square.number()), 1);
+        for _ in 0..64 {
             let settled = self.settled();
-            self.exchange(SETTLED_COUNT, settled, settled.wrapping_add(1));
+            if settled & square.word() != 0 {
+                return;
+            }
+            self.exchange(SETTLED, settled, settled | square.word());
         }
     }
 
-    /// How many of the root's moves need no further search. Where two are settled at the same time one may not be
-    /// counted.
+    /// Which of the root's moves need no further search: their squares.
     pub fn settled(&mut self) -> u64 {
-        self.load(SETTLED_COUNT)
+        self.load(SETTLED)
     }
 
     /// A guess of the root's score and move, if one was told.

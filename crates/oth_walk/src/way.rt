@@ -105,7 +105,7 @@ impl<'w> Way<'w> {
 
     /// How many of the root's moves need no further search.
     pub fn settled(&mut self) -> u64 {
-        u64::from(self.settled.count_ones()).max(self.hints.settled())
+        u64::from((self.settled | self.hints.settled()).count_ones())
     }
 
     /// Each legal move of the board once, in the order in which it is searched: the one that is kept, where one is.

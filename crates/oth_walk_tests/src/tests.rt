@@ -7,6 +7,7 @@ use oth_search::{Answer, NoCells, order, solve_alone};
 use oth_walk::{HintSeat, Hints, MoveOrder, Open, Plan, RootBound, Scene, Walk, settle_all};
 use std::process::Abort;
 use std::test::Fail;
+use std::thread::join;
 
 // Boards of games, of 14 empty squares.
 const BOARDS: [[u64; 2]; 3] = [
@@ -111,7 +112,31 @@ fn moves_are_settled_one_by_one(rt: HostRuntime) {
         assert!(rt; !theirs.is_settled(square));
         mine.settle(square);
         mine.settle(square);
-        assert!(rt; theirs.is_settled(square) && theirs.settled() == u64::from(number) + 1);
+        assert!(rt; theirs.is_settled(square));
+        assert!(rt; theirs.settled() == u64::MAX >> (63 - u32::from(number)));
+    }
+}
+
+// Settles the move to each square, by rising or by falling number.
+fn settle_each(hints: &Option<Hints>, is_falling: bool) {
+    let mut seat = HintSeat::of(hints);
+    for number in 0..64 {
+        let number = if is_falling { 63 - number } else { number };
+        seat.settle(Square::numbered(number));
+    }
+}
+
+#[test]
+fn no_move_is_lost_that_is_settled_beside_another(rt: HostRuntime) {
+    for _ in 0..200 {
+        let hints = Hints::new(rt.alloc(), 1);
+        assert!(rt; hints.is_some());
+        join(
+            &rt,
+            || { settle_each(&hints, false) },
+            || { settle_each(&hints, true) },
+        );
+        assert!(rt; HintSeat::of(&hints).settled() == u64::MAX);
     }
 }
 
