@@ -15,7 +15,8 @@ It tests, in each document and, where it says so, in the code:
   that isn't listed there or above, a definition nothing that stands below it, and that each definition is one that is named;
 - that each board line has 64 cells;
 - that in each row `| `CONSTANT` | `PATH` | `VALUE` |` of a table the file gives the constant that value, and that in each row
-  `| `EXPRESSION` | `PATH` |` the file has this text;
+  `| `EXPRESSION` | `PATH` |` the file has this text, and that each constant of a `tuning.rt` has a row in
+  docs/TUNING.md;
 - that no page (but those of bench, hostile and examples) says one of the phrases that docs/GLOSSARY.md replaces;
 - of docs/GLOSSARY.md: that each identifier of the column `In the code` is a word of the code or of `specs/`;
 - of docs/ARCHITECTURE.md: that the lemmas which it lists for a crate are those that proofs of other crates import;
@@ -541,6 +542,10 @@ def test_constants():
                 homes.setdefault(name, []).append(shown(path))
     for name, files in homes.items():
         test(len(files) == 1, f"{' and '.join(files)}: constants of the name {name}")
+    table = (ROOT / "docs" / "TUNING.md").read_text(encoding="utf-8")
+    for path in sorted(ROOT.glob("crates/*/src/tuning.rt")):
+        for name in re.findall(r"\bconst (\w+):", path.read_text(encoding="utf-8")):
+            test(f"| `{name}` | `{shown(path)}` |" in table, f"docs/TUNING.md: no row for {name} of {shown(path)}")
 
 
 # ---- what is said more than once, and what is made

@@ -9,10 +9,8 @@ use crate::cells::Cells;
 use crate::interval::{Interval, greater};
 use crate::searching::search;
 use crate::solved::Solved;
+use crate::tuning::WIDEST_STEP;
 use oth_rules::{Board, Scoring};
-
-// The widest step of a search for a value.
-const WIDEST_STEP: i8 = 63;
 
 impl Solved {
     /// The board with its value where that is at most the limit, and else with a lower bound above the limit.

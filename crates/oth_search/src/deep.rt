@@ -12,29 +12,17 @@ use crate::cells::Cells;
 use crate::child::Child;
 use crate::children::{children, looked_at, next_child};
 use crate::entry::Entry;
-use crate::evaluation::FEWEST_EMPTIES_LOOKED;
 use crate::few::nws_few;
 use crate::node::Node;
 use crate::nws::nws;
 use crate::solved::Solved;
 use crate::squares::without;
+use crate::tuning::{
+    FEWEST_EMPTIES_KEPT, FEWEST_EMPTIES_LOOKED, FEWEST_EMPTIES_ORDERED, FEWEST_EMPTIES_RECORDED,
+    FEWEST_EMPTIES_REMEMBERED, LEAST_ALPHA_BOUNDED,
+};
 use arrayvec::ArrayVec;
 use oth_rules::{Board, Scoring};
-
-// Boards with fewer empty squares are searched square by square.
-const FEWEST_EMPTIES_REMEMBERED: u8 = 5;
-
-// Boards with fewer empty squares are searched without an order.
-const FEWEST_EMPTIES_ORDERED: u8 = 6;
-
-// The children of boards with fewer empty squares are not looked up before they are searched.
-const FEWEST_EMPTIES_RECORDED: u8 = 8;
-
-// Where the mover asks for no more than this, the opponent's stable discs seldom stand in the way.
-const LEAST_ALPHA_BOUNDED: i8 = 24;
-
-// Boards with fewer empty squares are always remembered and not kept.
-const FEWEST_EMPTIES_KEPT: u8 = 9;
 
 /// As `nws`, with the cells.
 pub fn nws_with<C: Cells>(board: Board, alpha: i8, cells: &mut C, scoring: Scoring) -> i8

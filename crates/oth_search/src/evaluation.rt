@@ -1,32 +1,16 @@
-//! A guess of how well a board stands by a look a ply ahead, for the order of moves. No answer depends on it.
+//! How well a board seems to stand, as it is or after some plies, for the order of moves. No answer depends on it.
 ghost use Rattle.std.specs.Prelude.{◌<◌, ◌≤◌, pos, neg_ℤ, ◌≤ℤ◌};
 
 use crate::looking::{Span, look};
 use crate::node::Node;
 use crate::ordering::{CORNERS, X_SQUARES, around, count};
 use crate::squares::{first, without};
+use crate::tuning::{
+    CORNER_MOVE, CORNER_TAKEN, DISC, FEWEST_EMPTIES_AHEAD, FEWEST_EMPTIES_FIVE_AHEAD,
+    FEWEST_EMPTIES_FOUR_AHEAD, FEWEST_EMPTIES_THREE_AHEAD, MARGIN, MOVE, OPEN_TO_MOVER,
+    OPPOSING_X_SQUARE, STABLE_EDGE_DISC,
+};
 use oth_rules::Board;
-
-/// The children of boards with fewer empty squares are not looked at.
-pub const FEWEST_EMPTIES_LOOKED: u8 = 11;
-
-// Those of boards with fewer empty squares are looked at as they stand, and others a ply ahead.
-const FEWEST_EMPTIES_AHEAD: u8 = 12;
-
-// From so many empty squares on they are looked at three plies ahead.
-const FEWEST_EMPTIES_THREE_AHEAD: u8 = 17;
-
-// From so many on four.
-const FEWEST_EMPTIES_FOUR_AHEAD: u8 = 19;
-
-// And from so many on five.
-const FEWEST_EMPTIES_FIVE_AHEAD: u8 = 21;
-
-// The points above the least so far up to which a child is looked at closely.
-const MARGIN: i16 = 30;
-
-// The points of a disc when the game is over.
-const DISC: i16 = 100;
 
 /// How well a board seems to stand for its mover, -6,400 to 6,400 points.
 #[derive(Clone, Copy)]
@@ -163,12 +147,12 @@ fn standing(board: &Board, moves: u64) -> Evaluation {
 fn strength(board: &Board, moves: u64) -> u16
     ensures { result ≤ 4800 }
 {
-    16 * count(moves)
-        + 16 * count(moves & CORNERS)
-        + 3 * count(around(board.opp()) & board.empty_squares())
-        + 20 * count(board.own() & CORNERS)
-        + 10 * count(stable_edge_discs(board.own()))
-        + 10 * count(board.opp() & diagonal_to(board.empty_squares() & CORNERS))
+    MOVE * count(moves)
+        + CORNER_MOVE * count(moves & CORNERS)
+        + OPEN_TO_MOVER * count(around(board.opp()) & board.empty_squares())
+        + CORNER_TAKEN * count(board.own() & CORNERS)
+        + STABLE_EDGE_DISC * count(stable_edge_discs(board.own()))
+        + OPPOSING_X_SQUARE * count(board.opp() & diagonal_to(board.empty_squares() & CORNERS))
 }
 
 // The first and the last row.

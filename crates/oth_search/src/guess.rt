@@ -13,32 +13,15 @@ use crate::interval::{Interval, greater, lesser};
 use crate::node::Node;
 use crate::solved::Solved;
 use crate::squares::without;
+use crate::tuning::{
+    FEWEST_EMPTIES_GUESS_LOOKED, FIRST_GUESS_STEP, GUESS_ROUNDS, MANY_PLIES, MOST_EMPTIES_IN_FULL,
+    MOST_RANKED, WIDTH, WIDTH_AT_FIRST,
+};
 use arrayvec::ArrayVec;
 use oth_rules::{Board, Scoring};
 
-// Boards with no more empty squares are searched in full.
-const MOST_EMPTIES_IN_FULL: u8 = 6;
-
 // No board has more moves.
 const ALL_MOVES: usize = 64;
-
-// Of the board after a reply, where many plies follow, so many moves are tried.
-const WIDTH_AT_FIRST: usize = 3;
-
-// Of each further board so many.
-const WIDTH: usize = 2;
-
-// From so many plies on below a reply these are many.
-const MANY_PLIES: u8 = 7;
-
-// So many moves of a board are ranked; any others come last.
-const MOST_RANKED: usize = 12;
-
-// The children of boards with fewer empty squares are ranked without a look at them.
-const FEWEST_EMPTIES_GUESS_LOOKED: u8 = 13;
-
-// The most rounds of a guess.
-const GUESS_ROUNDS: u8 = 12;
 
 // How much a glance sees: so many plies, and so many moves of the first board.
 #[derive(Clone, Copy)]
@@ -106,7 +89,7 @@ pub fn guess<C: Cells>(replies: &mut [Solved], cells: &mut C) -> i8
     let mut high = 64;
     let mut seen = [Interval::all(); 64];
     let mut at = 0;
-    let mut step = 8;
+    let mut step = FIRST_GUESS_STEP;
     for _ in 0..GUESS_ROUNDS {
         let found = least_seen(replies, &mut seen, at, cells);
         if found <= at {

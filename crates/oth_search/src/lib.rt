@@ -34,6 +34,7 @@ mod searching;
 mod solved;
 mod solving;
 mod squares;
+mod tuning;
 mod valuing;
 mod window;
 

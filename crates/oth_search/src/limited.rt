@@ -14,12 +14,10 @@ use crate::observer::{Observer, Unobserved};
 use crate::root::settle_moves;
 use crate::solved::Solved;
 use crate::solving::{before_pass, ended, solve_moves};
+use crate::tuning::FEWEST_EMPTIES_ENDED;
 use oth_rules::{Board, Scoring};
 use std::alloc::Global;
 use thiserror::Error;
-
-// Boards with fewer empty squares are searched to the end.
-const FEWEST_EMPTIES_ENDED: u8 = 11;
 
 /// Cells that may be asked a number of times. A search over them can be ended when that is spent.
 #[derive(Drop)]

@@ -7,10 +7,8 @@ use crate::children::{children, next_child};
 use crate::evaluation::{Evaluation, by_discs, look_past_moves};
 use crate::node::Node;
 use crate::squares::without;
+use crate::tuning::MOST_LOOKED;
 use arrayvec::ArrayVec;
-
-// So many moves of a board are ranked; any others come last.
-const MOST_LOOKED: usize = 16;
 
 /// Where a look is of use: what the mover has at least already, and what is enough.
 #[derive(Clone, Copy)]

@@ -5,17 +5,9 @@ use crate::cells::Cells;
 use crate::entry::Entry;
 use crate::memories::Memories;
 use crate::solved::Solved;
+use crate::tuning::{FOLD, PLACES, SHIFT, large_last_below, last_below};
 use oth_rules::{Board, Scoring};
 use std::alloc::{AllocError, Global};
-
-// So many boards are remembered on the stack: a power of two.
-const PLACES: usize = 4096;
-
-// A hash of a board has 64 bits, of which the highest depend on all squares: those above so many are its place.
-const SHIFT: u32 = 44;
-
-// The places of a smaller memory are the lowest of these bits, to which those that stand so far above are brought.
-const FOLD: u32 = 8;
 
 /// What was found of boards lately, each at the place of its hash, where a later one takes the place of an earlier one.
 /// Nothing is promised of what is remembered, but that it is true. It has 24 bytes a place of the heap, and none of the
@@ -60,28 +52,6 @@ impl Memo {
     pub fn remember(&mut self, solved: &Solved) {
         let place = place(&solved.board, self.last);
         self.places[place] = *solved;
-    }
-}
-
-// The greatest place of a memory for boards with few empty squares below a root with so many: one less than a power of
-// two.
-fn last_below(empties: u8) -> usize
-    ensures { result < 16384 }
-{
-    match empties {
-        0..=13 => 4_095,
-        _ => 16_383,
-    }
-}
-
-// The same for boards with more.
-fn large_last_below(empties: u8) -> usize
-    ensures { result < 1048576 }
-{
-    match empties {
-        0..=19 => 65_535,
-        20..=21 => 262_143,
-        _ => 1_048_575,
     }
 }
 
@@ -155,7 +125,7 @@ impl Cells for MemoCells {
 /// The same with a memory of its own, which takes 96 KB of the stack.
 #[derive(Drop)]
 pub struct StackCells {
-    places: [Solved; 4096],
+    places: [Solved; PLACES],
 }
 
 impl StackCells {

@@ -3,20 +3,12 @@ ghost use Rattle.std.specs.Prelude.{◌≡◌, IfSome};
 
 use crate::memo::Memo;
 use crate::solved::Solved;
+use crate::tuning::{
+    FEWEST_EMPTIES_ALONE, FEWEST_EMPTIES_IN_TABLE, FEWEST_EMPTIES_MORE,
+    FEWEST_ROOT_EMPTIES_REMEMBERED,
+};
 use oth_rules::{Board, Scoring};
 use std::alloc::Global;
-
-// Boards with fewer empty squares go into the memory for few.
-const FEWEST_EMPTIES_MORE: u8 = 9;
-
-// Boards with fewer empty squares go into one of the two memories, where there are both.
-const FEWEST_EMPTIES_IN_TABLE: u8 = 15;
-
-// From so many empty squares at the root on a memory for boards of few empty squares pays: it takes time to make.
-const FEWEST_ROOT_EMPTIES_REMEMBERED: u8 = 10;
-
-// From so many at the root on the memory for boards of more pays, where nobody else could learn what is in it.
-const FEWEST_EMPTIES_ALONE: u8 = 18;
 
 /// What one search remembers: boards of 5 to 8 empty squares where the root has at least 10, and boards of 9 to 14
 /// where it has at least 18 and no other search could learn of them. Each memory is made when the first board is to be

@@ -12,17 +12,12 @@ use crate::interval::Interval;
 use crate::null_window::NullWindow;
 use crate::solved::Solved;
 use crate::squares::{first, without};
+use crate::tuning::{LAST_MOVE_ROUND, MOVE_ROUNDS};
 use oth_rules::{Board, Scoring, Square};
 use std::alloc::Global;
 
 // No such search is deeper.
 const MOST_PLIES: u8 = 30;
-
-// How often the moves of a board are gone through. A board that others are at is left to them but in the last round.
-const MOVE_ROUNDS: u32 = 3;
-
-// In this round no board is left to another worker.
-const LAST_MOVE_ROUND: u32 = 2;
 
 impl Solved {
     /// The board with closer bounds, by a search over its moves. They decide the window unless the search is given up.

@@ -9,10 +9,8 @@ ghost use Rattle.oth_search.specs.Bound.{BoundsAt, IsThreshold};
 use crate::last::nws_last;
 use crate::quadrant::quadrant_of;
 use crate::squares::{odd_quadrants, preferred, without};
+use crate::tuning::MOST_EMPTIES_LAST;
 use oth_rules::{Board, Scoring};
-
-// Boards with no more empty squares have bodies of their own.
-const MOST_EMPTIES_LAST: u8 = 4;
 
 /// Whether the value of the board is above `alpha`: a bound of the value on its side of `alpha`.
 pub fn nws(board: Board, alpha: i8, scoring: Scoring) -> i8

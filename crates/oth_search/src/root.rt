@@ -10,14 +10,9 @@ use crate::interval::{Interval, greater, lesser};
 use crate::observer::Observer;
 use crate::ordering::order;
 use crate::solved::Solved;
+use crate::tuning::{FEWEST_EMPTIES_GUESSED, START_ROUNDS};
 use arrayvec::ArrayVec;
 use oth_rules::{Board, Scoring};
-
-// From so many empty squares on a guess tells where to start.
-const FEWEST_EMPTIES_GUESSED: u8 = 12;
-
-// So often a start that no move reaches is lowered: first to the most that the root may still have, and then further.
-const START_ROUNDS: u8 = 6;
 
 // Each question of a value leaves fewer of the 129 scores.
 const MOST_QUESTIONS: u8 = 128;

@@ -8,6 +8,7 @@ use crate::interval::{Interval, greater, lesser};
 use crate::observer::Observer;
 use crate::root::{exact_at, leader, replies_of, start};
 use crate::solved::Solved;
+use crate::tuning::MOST_EMPTIES_BY_SIBLING;
 use arrayvec::ArrayVec;
 
 /// The board with its value, by what is known of it and a search. Of the boards after its moves one is searched to its
@@ -30,9 +31,6 @@ pub fn value_of<C: Cells, O: Observer<C>>(
     let told = known_below(known.board, 1, replies.as_slice(), known.scoring);
     known.joined(&told).exact(cells)
 }
-
-// Of boards with more empty squares a guess is nearer than the score of a sibling.
-const MOST_EMPTIES_BY_SIBLING: u8 = 15;
 
 // The score of a sibling, as the side sees it that moves first on this board, if it is of use.
 fn likely_score(known: &Solved, sibling: Option<&Solved>) -> Option<i8>
