@@ -122,12 +122,11 @@ static void moves_line(FILE *file, const char *line) {
     fputc('\n', file);
 }
 
-static void transcript_line(FILE *file, const char *line) {
-    uint8_t buffer[OTH_BOARD_LINE], place;
-    oth_position position;
-    uint32_t code = oth_read_transcript((const uint8_t *)line, strlen(line), &position, &place);
+/* The line of the board that a call wrote, or of its refusal. */
+static void board_or_refusal(FILE *file, uint32_t code, const oth_position *position, uint8_t place) {
+    uint8_t buffer[OTH_BOARD_LINE];
     if (code == OTH_DONE) {
-        code = oth_print_board(position, buffer, sizeof buffer);
+        code = oth_print_board(*position, buffer, sizeof buffer);
     }
     if (code == OTH_DONE) {
         fwrite(buffer, 1, sizeof buffer, file);
@@ -137,8 +136,15 @@ static void transcript_line(FILE *file, const char *line) {
     fputc('\n', file);
 }
 
+static void transcript_line(FILE *file, const char *line) {
+    uint8_t place;
+    oth_position position;
+    uint32_t code = oth_read_transcript((const uint8_t *)line, strlen(line), &position, &place);
+    board_or_refusal(file, code, &position, place);
+}
+
 static void play_line(FILE *file, const char *line) {
-    uint8_t buffer[OTH_BOARD_LINE], place;
+    uint8_t place;
     size_t length = strlen(line), board = length > OTH_BOARD_LINE && line[OTH_BOARD_LINE] == ' ' ? OTH_BOARD_LINE : length;
     const char *moves = line + (board < length ? board + 1 : length);
     oth_position position;
@@ -146,15 +152,7 @@ static void play_line(FILE *file, const char *line) {
     if (code == OTH_DONE) {
         code = oth_play_game(position, (const uint8_t *)moves, strlen(moves), &position, &place);
     }
-    if (code == OTH_DONE) {
-        code = oth_print_board(position, buffer, sizeof buffer);
-    }
-    if (code == OTH_DONE) {
-        fwrite(buffer, 1, sizeof buffer, file);
-    } else {
-        print_refusal(file, code, place, 0);
-    }
-    fputc('\n', file);
+    board_or_refusal(file, code, &position, place);
 }
 
 static _Atomic long unfit_scores;

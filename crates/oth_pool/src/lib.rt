@@ -10,6 +10,7 @@ mod queue;
 pub mod run;
 mod scoring_moves;
 mod solving;
+mod tuning;
 mod valuing;
 pub mod work;
 mod workers;

@@ -8,7 +8,8 @@ ghost use Rattle.oth_pieces.specs.Hands.{IsCrew};
 
 use crate::queue::Queue;
 use crate::run::Means;
-use crate::solving::{SolveError, accepted, cells_for, crew, solve};
+use crate::solving::{SolveError, accepted, crew, solve};
+use crate::tuning::cells_for;
 use crate::valuing::{valued_apart, valued_together};
 use arrayvec::ArrayVec;
 use oth_book::Book;

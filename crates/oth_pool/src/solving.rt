@@ -11,6 +11,7 @@ ghost use Rattle.oth_pieces.specs.Watch.{IsSeatOf};
 use crate::announcing::Announcer;
 use crate::book_lookup::{answer_in, bounds_in};
 use crate::run::{Gathered, Means, room_for, run};
+use crate::tuning::{FEWEST_EMPTIES_CREWED, cells_for};
 use oth_book::Book;
 use oth_pieces::{Floor, FloorSeat, Frontier, is_crew};
 use oth_rules::{Board, Scoring};
@@ -25,9 +26,6 @@ use oth_walk::{
 use std::alloc::Global;
 use std::thread::Threads;
 use thiserror::Error;
-
-// Below fewer empty squares more than two workers cost more than they bring.
-const FEWEST_EMPTIES_CREWED: u8 = 12;
 
 /// Why a board isn't solved: the first of these that holds.
 #[derive(Clone, Copy, PartialEq, Eq, Debug, Error)]
@@ -142,18 +140,6 @@ fn answer_moves<R: Threads + Sync, G: Gate>(
             answer_over(means, by_book, &mut access)
         }
         Err(_) => answer_over(means, by_book, &mut None),
-    }
-}
-
-/// So many of the cells as a search of so many empty squares can use, since it takes time to make a table.
-pub(crate) fn cells_for(cells: u32, empties: u8) -> u32 {
-    match empties {
-        0..=9 => cells.min(1 << 6),
-        10..=12 => cells.min(1 << 10),
-        13..=14 => cells.min(1 << 12),
-        15..=16 => cells.min(1 << 14),
-        17 => cells.min(1 << 15),
-        _ => cells,
     }
 }
 

@@ -109,8 +109,8 @@ fn exact_below<C: Cells>(board: &Board, most: i8, cells: &mut C, scoring: Scorin
     rest
 }
 
-/// The next step after one that was reached.
-pub(crate) fn wider(step: i8) -> i8
+/// The next step of a search for a value after one by which a bound moved: 1, 3, 7 and so on, in discs.
+pub fn wider(step: i8) -> i8
     requires low { pos 1 ≤ℤ step }
     requires high { step ≤ℤ pos 63 }
     ensures low { pos 1 ≤ℤ result }

@@ -39,6 +39,7 @@ mod valuing;
 mod window;
 
 pub use answer::Answer;
+pub use asking::wider;
 pub use cells::{Cells, NoCells};
 pub use combining::{known_below, known_of};
 pub use company::Company;

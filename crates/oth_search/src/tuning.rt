@@ -173,7 +173,7 @@ pub(crate) const FEWEST_EMPTIES_GUESS_LOOKED: u8 = 13;
 /// Null windows of one guess, at the most.
 pub(crate) const GUESS_ROUNDS: u8 = 12;
 
-/// Discs: the first step of a guess away from 0, which then doubles or halves.
+/// Discs: the first step of a guess away from 0, which doubles each time.
 pub(crate) const FIRST_GUESS_STEP: i8 = 8;
 
 /// Rounds: how often a first guess that no move reaches is lowered by a step before the least possible score is tried.

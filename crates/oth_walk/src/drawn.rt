@@ -7,23 +7,11 @@ use crate::gate::Gate;
 use crate::leading::{lead, moves_of};
 use crate::root_move::RootMove;
 use crate::scene::Scene;
+use crate::tuning::{LAST_SWEEP, MOVES_BEFORE, MOVES_TOGETHER, SWEEPS};
 use crate::walk::Walk;
 use oth_pieces::Item;
 use oth_rules::{Board, Square};
 use oth_search::{Cells, Solved};
-
-// A worker helps with so many of the root's moves that come first, before that of its item.
-const MOVES_BEFORE: usize = 1;
-
-// How often a worker that has no item left goes through the root's moves. One that others are at is left to them but in
-// the last round.
-const SWEEPS: u32 = 3;
-
-// In this round no move is left to another worker.
-const LAST_SWEEP: u32 = 2;
-
-// So many of the root's moves are searched by all workers together when no item is left.
-const MOVES_TOGETHER: u64 = 3;
 
 /// Searches the item of this number, of which the gate hears, and what it leaves open of its move of the root.
 pub fn search_item<G: Gate, C: Cells>(

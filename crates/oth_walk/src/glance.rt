@@ -3,21 +3,10 @@
 ghost use Rattle.std.specs.Prelude.{pos, negsuc, ◌≤ℤ◌};
 
 use crate::move_order::beginning_with;
+use crate::tuning::{CLOSE, FIRST_STEP, GLANCE_ROUNDS, TURNS};
 use crate::walk::Walk;
 use oth_rules::{Board, Square};
 use oth_search::{Cells, NullWindow, seeming_value};
-
-// The most scores that are asked for.
-const GLANCE_ROUNDS: u8 = 12;
-
-// A guess is close enough where so few scores are left.
-const CLOSE: i8 = 4;
-
-// The first step from the first score that is asked for.
-const FIRST_STEP: i8 = 8;
-
-// How often moves are gone through. One that another worker is at is left for the second time.
-const TURNS: u8 = 2;
 
 /// A score that the root seems to reach, from -63 on, and the move by which it seems to.
 #[derive(Clone, Copy)]

@@ -8,6 +8,7 @@ mod rule;
 
 use crate::glance::Guess;
 use crate::move_order::MoveOrder;
+use crate::tuning::{MARK_COUNT, SEEN_COUNT};
 use atomic_table::{Seat, Table};
 use oth_rules::{Board, Square};
 use rule::{Anything, Step};
@@ -29,15 +30,8 @@ const GUESS_BITS: u32 = 8;
 // The first place of a mark.
 const MARKS: usize = 2;
 
-// So many boards can be marked, each at a place that its discs tell.
-const MARK_COUNT: usize = 1024;
-
 // The first place of what a board seems to have.
 const SEEN: usize = MARKS + MARK_COUNT;
-
-// For so many boards it can be told whether they seem to have a score, each at a place that its discs and the score
-// tell.
-const SEEN_COUNT: usize = 256;
 
 // The first place of a kept order.
 const ORDERS: usize = SEEN + SEEN_COUNT;

@@ -2,16 +2,11 @@
 use crate::move_order::beginning_with;
 use crate::root_move::RootMove;
 use crate::scene::Scene;
+use crate::tuning::{LEAD_ROUNDS, SECOND_STEP};
 use crate::walk::Walk;
 use arrayvec::ArrayVec;
 use oth_rules::Square;
 use oth_search::Cells;
-
-// So often a guess that no move reaches is lowered: first to the most that the root may still reach.
-const LEAD_ROUNDS: u32 = 6;
-
-// The second time it is lowered by so much below that.
-const SECOND_STEP: i8 = 2;
 
 /// Asks the root's moves for what the root seems to reach until there is a floor, the move that seems best first. Where
 /// no move reaches it, they are asked for less.

@@ -1,9 +1,7 @@
 //! Orders of the moves of a board: one of which the first ten are told, and one that begins with a given move.
+use crate::tuning::TOLD;
 use arrayvec::ArrayVec;
 use oth_rules::Square;
-
-// How many squares are told, in six bits each.
-const TOLD: u32 = 10;
 
 /// Ten squares, the first to be searched lowest; the last one may stand several times.
 #[derive(Clone, Copy)]

@@ -1,16 +1,11 @@
 //! A move of the root, searched until it needs no further search.
 ghost use Rattle.std.specs.Prelude.{◌≡◌, pos, negsuc, ◌≤ℤ◌};
 
+use crate::tuning::{MOST_IN_VAIN, MOST_WINDOWS};
 use crate::walk::Walk;
 use crate::window::{Pace, is_settled, shared_window};
 use oth_rules::{Board, Square};
 use oth_search::{Cells, Interval, NullWindow, Solved, known_below};
-
-// How often the window is set anew, by a risen floor or a closer bound.
-const MOST_WINDOWS: u32 = 256;
-
-// How many searches may bring nothing new.
-const MOST_IN_VAIN: u8 = 4;
 
 /// A move of the root, and the board after it.
 #[derive(Clone, Copy)]

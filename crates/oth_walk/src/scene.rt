@@ -1,11 +1,9 @@
 //! What all workers of a search have in common.
 ghost use Rattle.std.specs.Prelude.{◌≡◌};
 
+use crate::tuning::{FEWEST_EMPTIES_GUESSED_TOGETHER, shared_empties};
 use oth_pieces::Frontier;
 use oth_rules::{Board, Scoring, Square};
-
-// From so many empty squares on a guess that workers make pays.
-const FEWEST_EMPTIES_GUESSED_TOGETHER: u8 = 14;
 
 /// The board that is solved, its frontier, its moves in the order in which they are searched, and how the search is
 /// made.
@@ -41,10 +39,7 @@ impl Plan {
     pub fn of(scoring: Scoring, empties: u8, has_table: bool) -> Plan
         ensures { result.scoring ≡ scoring }
     {
-        let (fewest, dealt) = match empties {
-            0..=19 => (10, 12),
-            _ => (11, 14),
-        };
+        let (fewest, dealt) = shared_empties(empties);
         Plan {
             scoring,
             fewest,
@@ -64,15 +59,5 @@ impl Plan {
             is_alone: true,
             ..self
         }
-    }
-}
-
-/// For so many boards an order of moves is kept, where the root has so many empty squares.
-pub fn orders_for(empties: u8) -> u16 {
-    match empties {
-        0..=13 => 1,
-        14..=15 => 1_024,
-        16..=17 => 4_096,
-        _ => 8_192,
     }
 }

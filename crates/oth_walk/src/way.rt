@@ -7,23 +7,11 @@ use crate::hints::HintSeat;
 use crate::move_order::MoveOrder;
 use crate::root_bound::RootBound;
 use crate::scene::Plan;
+use crate::tuning::{CHILDREN_TOGETHER, FEW_TOGETHER, FEWEST_EMPTIES_PREFERRED, SMALL};
 use arrayvec::ArrayVec;
 use oth_rules::{Board, Square};
 use oth_search::{Cells, Company, NullWindow, Solved, order};
 use std::alloc::Global;
-
-// Boards with fewer empty squares are ordered anew each time.
-const FEWEST_EMPTIES_PREFERRED: u8 = 12;
-
-// Boards with fewer empty squares than this, beyond those of the smallest that workers share, are small: see
-// `goals_after`.
-const SMALL: u8 = 2;
-
-// The moves of a board with many empty squares that are searched whether or not another worker is at them, and of one
-// with few.
-const CHILDREN_TOGETHER: usize = 2;
-
-const FEW_TOGETHER: usize = 1;
 
 // A search under way: the canonical image of its board, and what it is to decide.
 #[derive(Clone, Copy)]

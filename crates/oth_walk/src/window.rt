@@ -1,7 +1,8 @@
 //! The null windows by which workers narrow what is known of the board after a root's move.
 ghost use Rattle.std.specs.Prelude.{pos, negsuc, ◌≤ℤ◌};
 
-use oth_search::{Interval, NullWindow, Solved};
+use crate::tuning::OFF;
+use oth_search::{Interval, NullWindow, Solved, wider};
 
 /// Whether the value of the board after a root's move is known, or that the root gets less than so much by it.
 pub fn is_settled(child: &Solved, least: i8) -> bool
@@ -10,12 +11,6 @@ pub fn is_settled(child: &Solved, least: i8) -> bool
 {
     child.interval.lower == child.interval.upper || child.interval.lower > -least
 }
-
-// A guess that is off by more is no good one.
-const OFF: i8 = 4;
-
-// The widest step.
-const WIDEST_PACE: i8 = 63;
 
 /// How far beyond a bound a search for a value asks next.
 #[derive(Clone, Copy)]
@@ -81,14 +76,4 @@ fn threshold(alpha: i8) -> i8
         return 63;
     }
     alpha
-}
-
-// The next step after one that was reached.
-fn wider(step: i8) -> i8
-    requires low { pos 1 ≤ℤ step }
-    requires high { step ≤ℤ pos 63 }
-    ensures low { pos 1 ≤ℤ result }
-    ensures high { result ≤ℤ pos 63 }
-{
-    if step < 31 { 2 * step + 1 } else { WIDEST_PACE }
 }

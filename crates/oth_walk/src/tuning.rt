@@ -1,0 +1,95 @@
+//! The numbers that choose how fast several workers search one tree. No answer depends on one, and no contract names
+//! one. What each was measured to bring stands in docs/TUNING.md.
+
+// ---- What workers share
+
+/// Empty squares: the smallest nodes that workers share, whose searches are deferred and given up, and the greatest of
+/// which no more than `FEW_TOGETHER` children are undeferred. Deeper roots have so many nodes that sharing small ones
+/// takes longer than it saves.
+pub(crate) fn shared_empties(root: u8) -> (u8, u8) {
+    match root {
+        0..=19 => (10, 12),
+        _ => (11, 14),
+    }
+}
+
+/// Children that a worker searches at a large node whether or not another one is there: the most is lost there if they
+/// turn out not to matter (young brothers wait).
+pub(crate) const CHILDREN_TOGETHER: usize = 2;
+
+/// The same at a small node.
+pub(crate) const FEW_TOGETHER: usize = 1;
+
+/// Empty squares above the smallest shared nodes: below that the last two searches under way are looked up in the
+/// table after each node, and from there on all of them, which takes little beside the search of a large node.
+pub(crate) const SMALL: u8 = 2;
+
+// ---- Hints, which workers leave for each other
+
+/// Marks: nodes that can be marked as being searched, so that other workers defer them. A power of two.
+pub(crate) const MARK_COUNT: usize = 1024;
+
+/// Entries: nodes of the selective search of which others are told what was found. A power of two.
+pub(crate) const SEEN_COUNT: usize = 256;
+
+/// Entries: nodes of which the order of moves is kept for all workers, by the empty squares of the root.
+pub fn orders_for(empties: u8) -> u16 {
+    match empties {
+        0..=13 => 1,
+        14..=15 => 1_024,
+        16..=17 => 4_096,
+        _ => 8_192,
+    }
+}
+
+/// Empty squares: from here on the order of a node's moves is kept. Below it a worker makes it anew in less time.
+pub(crate) const FEWEST_EMPTIES_PREFERRED: u8 = 12;
+
+/// Squares of a kept order: as many as one 64-bit word has room for at six bits each.
+pub(crate) const TOLD: u32 = 10;
+
+// ---- The shared first guess, a selective search by all workers
+
+/// Empty squares of the root: from here on workers make the first guess together. Below it each one searches at once.
+pub(crate) const FEWEST_EMPTIES_GUESSED_TOGETHER: u8 = 14;
+
+/// Scores that a guess asks for, at the most.
+pub(crate) const GLANCE_ROUNDS: u8 = 12;
+
+/// Scores that a guess leaves open: to close them takes longer than it saves.
+pub(crate) const CLOSE: i8 = 4;
+
+/// Discs: the first step of a guess away from 0, which doubles each time.
+pub(crate) const FIRST_STEP: i8 = 8;
+
+/// Rounds through the moves of a node of the guess: a move that another worker is at is left to it in the first.
+pub(crate) const TURNS: u8 = 2;
+
+/// Rounds: how often a guess that no move reaches is lowered, first to the most that the root may still reach.
+pub(crate) const LEAD_ROUNDS: u32 = 6;
+
+/// Discs below that most by which it is lowered the second time, and by more than twice as much each further time.
+pub(crate) const SECOND_STEP: i8 = 2;
+
+// ---- The root's moves
+
+/// Root moves of higher rank that a worker helps to finish before its own item's: what they reach bounds its search.
+pub(crate) const MOVES_BEFORE: usize = 1;
+
+/// Rounds through the root's moves of a worker that has no item left. Until the last one it leaves moves to others.
+pub(crate) const SWEEPS: u32 = 3;
+
+/// The number of the last of these rounds, from 0.
+pub(crate) const LAST_SWEEP: u32 = SWEEPS - 1;
+
+/// Root moves that all workers search together then, before any is left to another one.
+pub(crate) const MOVES_TOGETHER: u64 = 3;
+
+/// Null windows of one root move by one worker, at the most: each narrows what is known of it.
+pub(crate) const MOST_WINDOWS: u32 = 256;
+
+/// Searches of a root move that may bring nothing new before a worker leaves it to the others.
+pub(crate) const MOST_IN_VAIN: u8 = 4;
+
+/// Discs: a first guess that is further off than this lets the next null window step further.
+pub(crate) const OFF: i8 = 4;
