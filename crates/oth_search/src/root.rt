@@ -17,6 +17,18 @@ use oth_rules::{Board, Scoring};
 // Each question of a value leaves fewer of the 129 scores.
 const MOST_QUESTIONS: u8 = 128;
 
+/// What is asked of the boards after a root's moves.
+#[derive(Clone, Copy)]
+pub(crate) struct Quest {
+    /// The value that they are first asked for.
+    pub start: i8,
+    /// A value that one of them is known to have at most.
+    pub limit: i8,
+    /// Whether each that is as good as the best is told from the rest: without it the best value alone is asked for.
+    pub tells_ties: bool,
+    ghost range: { IsScore start × IsScore limit },
+}
+
 /// The boards after the root's moves, each with bounds of its value. One with the best score is searched to its value,
 /// and each other so far that it is exact or worse. Where `known` tells as much of a board, it is not searched. The
 /// observer hears of each search of one of them; it hears nothing of a guess of the score, which comes first where many
@@ -31,8 +43,12 @@ pub fn settle_moves<C: Cells, O: Observer<C>>(
 {
     let mut replies = replies_of(root, known);
     let limit = -root.interval.lower;
-    let start = start(replies.as_mut_slice(), limit, root.board.empties(), cells);
-    settle(replies.as_mut_slice(), start, limit, cells, observer);
+    let quest = Quest {
+        start: start(replies.as_mut_slice(), limit, root.board.empties(), cells),
+        limit,
+        tells_ties: true,
+    };
+    settle(replies.as_mut_slice(), quest, cells, observer);
     replies
 }
 
@@ -61,21 +77,17 @@ pub fn guessed_score<C: Cells>(root: &Board, cells: &mut C, scoring: Scoring) ->
     -guess(replies.as_mut_slice(), cells)
 }
 
-// Narrows what is known of the replies, one of which is known to have at most the value `limit`. They are first asked
-// for `start`.
-fn settle<C: Cells, O: Observer<C>>(
+/// Narrows what is known of the replies until it answers what is asked.
+pub(crate) fn settle<C: Cells, O: Observer<C>>(
     replies: &mut [Solved],
-    start: i8,
-    limit: i8,
+    quest: Quest,
     cells: &mut C,
     observer: &mut O,
 )
     requires few { length replies.old ≤ 64 }
-    requires start { IsScore start }
-    requires limit { IsScore limit }
     ensures fixed { C.fixed cells.new ≡ C.fixed cells.old }
 {
-    let mut leader = leader(replies, start, limit, cells, observer);
+    let mut leader = leader(replies, quest, cells, observer);
     for _ in 0..replies.len() {
         let Some(place) = leader else {
             return;
@@ -84,12 +96,12 @@ fn settle<C: Cells, O: Observer<C>>(
             return;
         }
         let value = exact_at(replies, place, cells, observer);
-        leader = better(replies, value, cells, observer);
+        leader = better(replies, value, quest.tells_ties, cells, observer);
     }
 }
 
-/// The value of the reply at this place.
-pub(crate) fn exact_at<C: Cells, O: Observer<C>>(
+// The value of the reply at this place.
+fn exact_at<C: Cells, O: Observer<C>>(
     replies: &mut [Solved],
     place: usize,
     cells: &mut C,
@@ -133,30 +145,27 @@ pub(crate) fn start<C: Cells>(replies: &mut [Solved], limit: i8, empties: u8, ce
     guess(replies, cells)
 }
 
-/// The place of a reply with at most the least value that is found to be reached, from `start` up to `limit`.
-pub(crate) fn leader<C: Cells, O: Observer<C>>(
+// The place of a reply with at most the least value that is found to be reached, from the start up to the limit.
+fn leader<C: Cells, O: Observer<C>>(
     replies: &mut [Solved],
-    start: i8,
-    limit: i8,
+    quest: Quest,
     cells: &mut C,
     observer: &mut O,
 ) -> Option<usize>
-    requires start { IsScore start }
-    requires limit { IsScore limit }
     ensures within { IfSome result (λ place. place < length replies.new) }
     ensures fixed { C.fixed cells.new ≡ C.fixed cells.old }
 {
-    let mut most = start;
+    let mut most = quest.start;
     let mut step = 1;
     for _ in 0..START_ROUNDS {
         let found = reaching(replies, most, cells, observer);
         if found.is_some() || observer.is_over(cells) {
             return found;
         }
-        most = lowered(least_lower(replies), step - 1, limit);
+        most = lowered(least_lower(replies), step - 1, quest.limit);
         step = wider(step);
     }
-    reaching(replies, limit, cells, observer)
+    reaching(replies, quest.limit, cells, observer)
 }
 
 // A start so much above the least lower bound, and at most the limit.
@@ -218,10 +227,12 @@ fn reaching<C: Cells, O: Observer<C>>(
     None
 }
 
-// The place of a reply whose value is below `most`. Where there is none, each is exact or above `most`.
+// The place of a reply whose value is below `most`. Where there is none, each is at least `most`, and where ties are
+// told each is exact or above it.
 fn better<C: Cells, O: Observer<C>>(
     replies: &mut [Solved],
     most: i8,
+    tells_ties: bool,
     cells: &mut C,
     observer: &mut O,
 ) -> Option<usize>
@@ -231,9 +242,10 @@ fn better<C: Cells, O: Observer<C>>(
 {
     for place in 0..replies.len() {
         let known = replies[place];
-        if !known.interval.decides(most - 1, most + 1) {
+        let above = if tells_ties { most + 1 } else { most };
+        if !known.interval.decides(most - 1, above) {
             observer.before(&known.board);
-            replies[place] = against(&known, most, cells, observer);
+            replies[place] = against(&known, most, tells_ties, cells, observer);
             observer.after(&known.board, &*replies);
         }
         if replies[place].interval.upper < most {
@@ -246,11 +258,12 @@ fn better<C: Cells, O: Observer<C>>(
     None
 }
 
-// The board with bounds that tell whether its value is above `most`, below it, or which number it is, unless the search
-// is over before.
+// The board with bounds that tell whether its value is below `most`, and where ties are told whether it is above it,
+// unless the search is over before.
 fn against<C: Cells, O: Observer<C>>(
     known: &Solved,
     most: i8,
+    tells_ties: bool,
     cells: &mut C,
     observer: &mut O,
 ) -> Solved
@@ -259,6 +272,9 @@ fn against<C: Cells, O: Observer<C>>(
     ensures scoring { result.scoring ≡ known.now.scoring }
     ensures fixed { C.fixed cells.new ≡ C.fixed cells.old }
 {
+    if !tells_ties {
+        return observer.decide(known, most - 1, cells);
+    }
     let reply = observer.decide(known, most, cells);
     if reply.interval.lower > most || observer.is_over(cells) {
         return reply;

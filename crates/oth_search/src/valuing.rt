@@ -6,7 +6,7 @@ use crate::cells::Cells;
 use crate::combining::known_below;
 use crate::interval::{Interval, greater, lesser};
 use crate::observer::Observer;
-use crate::root::{exact_at, leader, replies_of, start};
+use crate::root::{Quest, replies_of, settle, start};
 use crate::solved::Solved;
 use crate::tuning::MOST_EMPTIES_BY_SIBLING;
 use arrayvec::ArrayVec;
@@ -59,8 +59,12 @@ fn settled_replies<C: Cells, O: Observer<C>>(
 {
     let mut replies = replies_of(root, &[]);
     let limit = -root.interval.lower;
-    let start = first_asked(root, replies.as_mut_slice(), likely, cells);
-    settle_value(replies.as_mut_slice(), start, limit, cells, observer);
+    let quest = Quest {
+        start: first_asked(root, replies.as_mut_slice(), likely, cells),
+        limit,
+        tells_ties: false,
+    };
+    settle(replies.as_mut_slice(), quest, cells, observer);
     replies
 }
 
@@ -88,53 +92,4 @@ fn within(interval: Interval, score: i8) -> i8
     ensures { IsScore result }
 {
     greater(interval.lower, lesser(score, interval.upper))
-}
-
-// Narrows what is known of the replies, one of which is known to have at most the value `limit`, until the least value
-// is known. They are first asked for `start`.
-fn settle_value<C: Cells, O: Observer<C>>(
-    replies: &mut [Solved],
-    start: i8,
-    limit: i8,
-    cells: &mut C,
-    observer: &mut O,
-)
-    requires few { length replies.old ≤ 64 }
-    requires start { IsScore start }
-    requires limit { IsScore limit }
-    ensures fixed { C.fixed cells.new ≡ C.fixed cells.old }
-{
-    let mut leader = leader(replies, start, limit, cells, observer);
-    for _ in 0..replies.len() {
-        let Some(place) = leader else {
-            return;
-        };
-        let value = exact_at(replies, place, cells, observer);
-        leader = lesser_than(replies, value, cells, observer);
-    }
-}
-
-// The place of a reply whose value is below `most`. Where there is none, each is at least `most`.
-fn lesser_than<C: Cells, O: Observer<C>>(
-    replies: &mut [Solved],
-    most: i8,
-    cells: &mut C,
-    observer: &mut O,
-) -> Option<usize>
-    requires { IsScore most }
-    ensures within { IfSome result (λ place. place < length replies.new) }
-    ensures fixed { C.fixed cells.new ≡ C.fixed cells.old }
-{
-    for place in 0..replies.len() {
-        let known = replies[place];
-        if !known.interval.decides(most - 1, most) {
-            observer.before(&known.board);
-            replies[place] = observer.decide(&known, most - 1, cells);
-            observer.after(&known.board, &*replies);
-        }
-        if replies[place].interval.upper < most {
-            return Some(place);
-        }
-    }
-    None
 }
