@@ -18,6 +18,8 @@ mod stable;
 mod sym;
 
 pub use board::{Board, Overlap};
+pub use direction::NOT_H;
+pub use masks::INNER;
 pub use scoring::Scoring;
 pub use square::Square;
 pub use sym::{Sym, map, unmap};

@@ -10,7 +10,7 @@ use crate::tuning::{
     FEWEST_EMPTIES_FOUR_AHEAD, FEWEST_EMPTIES_THREE_AHEAD, MARGIN, MOVE, OPEN_TO_MOVER,
     OPPOSING_X_SQUARE, STABLE_EDGE_DISC,
 };
-use oth_rules::Board;
+use oth_rules::{Board, NOT_H};
 
 /// How well a board seems to stand for its mover, -6,400 to 6,400 points.
 #[derive(Clone, Copy)]
@@ -164,9 +164,6 @@ const ROW_STARTS: u64 = 0x0100_0000_0000_0001;
 // The squares of the columns a and h.
 const END_COLUMNS: u64 = 0x8181_8181_8181_8181;
 
-// All squares but those of column h.
-const BEFORE_H: u64 = 0x7f7f_7f7f_7f7f_7f7f;
-
 // The squares of the set that stand without a gap in a row with a corner of the set, along an edge: discs there are
 // never flipped.
 fn stable_edge_discs(set: u64) -> u64 {
@@ -178,7 +175,7 @@ fn stable_edge_discs(set: u64) -> u64 {
     let columns = set & END_COLUMNS;
     let eastwards = rows & !rows.wrapping_add(ROW_STARTS);
     eastwards
-        | westwards(corners, rows & BEFORE_H)
+        | westwards(corners, rows & NOT_H)
         | northwards(corners, columns)
         | southwards(corners, columns)
 }

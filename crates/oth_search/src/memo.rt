@@ -3,6 +3,7 @@ ghost use Rattle.std.specs.Prelude.{◌≡◌, ◌<◌, ◌≤◌, IfSome, IsNon
 
 use crate::cells::Cells;
 use crate::entry::Entry;
+use crate::hash::board_hash;
 use crate::memories::Memories;
 use crate::solved::Solved;
 use crate::tuning::{FOLD, PLACES, SHIFT, large_last_below, last_below};
@@ -75,9 +76,7 @@ fn told_by(kept: &Solved, board: &Board, scoring: Scoring) -> Option<Solved>
 fn place(board: &Board, last: usize) -> usize
     ensures { result ≤ last }
 {
-    let own = board.own().wrapping_mul(0x9e37_79b9_7f4a_7c15);
-    let opp = board.opp().wrapping_mul(0xc2b2_ae3d_27d4_eb4f);
-    let hash = own.wrapping_add(opp);
+    let hash = board_hash(board);
     ((hash ^ (hash >> FOLD)) >> SHIFT) as usize & last
 }
 

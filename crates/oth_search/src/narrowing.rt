@@ -11,13 +11,11 @@ use crate::entry::Entry;
 use crate::interval::Interval;
 use crate::null_window::NullWindow;
 use crate::solved::Solved;
+use crate::solving::MOST_EMPTIES;
 use crate::squares::{first, without};
 use crate::tuning::{LAST_MOVE_ROUND, MOVE_ROUNDS};
 use oth_rules::{Board, Scoring, Square};
 use std::alloc::Global;
-
-// No such search is deeper.
-const MOST_PLIES: u8 = 30;
 
 impl Solved {
     /// The board with closer bounds, by a search over its moves. They decide the window unless the search is given up.
@@ -37,7 +35,7 @@ impl Solved {
             return *self;
         }
         let unknown = Solved::unknown(self.board, self.scoring);
-        self.joined(&narrow(&unknown, window, MOST_PLIES, cells, company))
+        self.joined(&narrow(&unknown, window, MOST_EMPTIES, cells, company))
     }
 }
 

@@ -1,16 +1,14 @@
 //! The quadrants of the board, for the order of moves. No answer depends on them.
 
+use crate::squares::FIRST_QUADRANT;
 use oth_rules::Square;
-
-// The first quadrant, of the rows 1 to 4 and the columns a to d.
-const FIRST: u64 = 0x0000_0000_0f0f_0f0f;
 
 // The bits of a square's number that tell its quadrant: its half of the columns and of the rows.
 const HALVES: u8 = 0x24;
 
 /// The squares of the square's quadrant.
 pub fn quadrant_of(square: Square) -> u64 {
-    FIRST.wrapping_shl(u32::from(square.number() & HALVES))
+    FIRST_QUADRANT.wrapping_shl(u32::from(square.number() & HALVES))
 }
 
 /// Whether both squares lie in one quadrant.

@@ -42,8 +42,8 @@ pub fn odd_quadrants(set: u64) -> u64 {
 // The first square of each quadrant of the board, of 16 squares each.
 const FIRST_OF_QUADRANTS: u64 = 0x0000_0011_0000_0011;
 
-// The squares of the first quadrant.
-const FIRST_QUADRANT: u64 = 0x0000_0000_0f0f_0f0f;
+/// The squares of the first quadrant, of the rows 1 to 4 and the columns a to d.
+pub const FIRST_QUADRANT: u64 = 0x0000_0000_0f0f_0f0f;
 
 /// Whether the square is in the set.
 pub fn holds(set: u64, square: Square) -> bool

@@ -7,13 +7,7 @@ ghost use Rattle.oth_table.specs.Sizes.{IsSize};
 
 use crate::table::Look;
 use oth_rules::Board;
-use oth_search::Entry;
-
-// The factor of the mover's discs in a board's hash.
-const OWN_FACTOR: u64 = 0x9e37_79b9_7f4a_7c15;
-
-// The factor of the opposing discs.
-const OPPOSING_FACTOR: u64 = 0xc2b2_ae3d_27d4_eb4f;
+use oth_search::{Entry, OPPOSING_FACTOR, OWN_FACTOR};
 
 /// The first cell of a canonical board in a table of `cells` cells, below `cells`. `cells` is 1, 2, 4 .. 262,144.
 /// It is the number of the highest `k` bits, for `2^k` cells, of `own * 9e3779b97f4a7c15 +

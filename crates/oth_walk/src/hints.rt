@@ -11,6 +11,7 @@ use crate::move_order::MoveOrder;
 use crate::tuning::{MARK_COUNT, SEEN_COUNT};
 use atomic_table::{Seat, Table};
 use oth_rules::{Board, Square};
+use oth_search::board_hash;
 use rule::{Anything, Step};
 use std::alloc::Global;
 use std::marker::Model;
@@ -286,9 +287,7 @@ impl<'h> HintSeat<'h> {
 
 // A number that tells the board from most others, and is not 0.
 fn key_of(board: &Board) -> u64 {
-    let own = board.own().wrapping_mul(0x9e37_79b9_7f4a_7c15);
-    let opposing = board.opp().wrapping_mul(0xc2b2_ae3d_27d4_eb4f);
-    own.wrapping_add(opposing) | 1
+    board_hash(board) | 1
 }
 
 // An odd number that tells the board and the score from most others.

@@ -1,0 +1,17 @@
+//! The hash of a board, by which tables and hints find its place.
+
+use oth_rules::Board;
+
+/// The factor of the mover's discs: odd, with about as many ones as zeros (2^64 by the golden ratio).
+pub const OWN_FACTOR: u64 = 0x9e37_79b9_7f4a_7c15;
+
+/// The factor of the opposing discs: odd, and unlike the other one (a prime of the hash XXH64).
+pub const OPPOSING_FACTOR: u64 = 0xc2b2_ae3d_27d4_eb4f;
+
+/// The hash of a board, of which the highest bits depend on all squares.
+#[inline(always)]
+pub fn board_hash(board: &Board) -> u64 {
+    let own = board.own().wrapping_mul(OWN_FACTOR);
+    let opposing = board.opp().wrapping_mul(OPPOSING_FACTOR);
+    own.wrapping_add(opposing)
+}
