@@ -26,13 +26,14 @@ pub struct Frontier {
 
 impl Model for Frontier {
     ghost use Rattle.std.specs.Prelude.{List, length, ◌≤◌};
+    ghost use Rattle.oth_pieces.specs.declared.frontier.TheConstants.{MOST_ITEMS};
     ghost use Rattle.oth_pieces.specs.declared.frontier.item.Item.{Item};
 
     ghost Value = { List Item };
 
     ghost view = { λ f. f.items.items };
 
-    ghost invariant = { λ f. length f.items.items ≤ 870 };
+    ghost invariant = { λ f. length f.items.items ≤ MOST_ITEMS };
 }
 
 impl Frontier {
@@ -58,7 +59,7 @@ impl Frontier {
     /// How many items there are, at most 870.
     pub fn len(&self) -> u32
         ensures value { result ≡ length self.now }
-        ensures most { result ≤ 870 }
+        ensures most { result ≤ MOST_ITEMS }
     {
         self.items.len() as u32
     }
@@ -98,7 +99,7 @@ pub fn awake(board: Board) -> (Board, bool)
 
 // Where the move is legal, adds the item after it.
 fn push_child(items: &mut ArrayVec<Item, MOST_ITEMS>, parent: &Item, square: Square)
-    requires { length items.old.items + length (child_of parent.now square) ≤ 870 }
+    requires { length items.old.items + length (child_of parent.now square) ≤ MOST_ITEMS }
     ensures { items.new.items ≡ items.old.items ++ child_of parent.now square }
 {
     if let Some(after) = parent.board.play(square) {
@@ -124,7 +125,7 @@ fn item_after(parent: &Item, after: Board) -> Item
 
 // Adds the items one ply below.
 fn push_children(items: &mut ArrayVec<Item, MOST_ITEMS>, parent: &Item)
-    requires { length items.old.items + length (children parent.now) ≤ 870 }
+    requires { length items.old.items + length (children parent.now) ≤ MOST_ITEMS }
     ensures { items.new.items ≡ items.old.items ++ children parent.now }
 {
     for number in 0..64 {
@@ -134,7 +135,7 @@ fn push_children(items: &mut ArrayVec<Item, MOST_ITEMS>, parent: &Item)
 
 // The items one ply below these. One that is over stands itself.
 fn second_ply(first: &[Item]) -> ArrayVec<Item, MOST_ITEMS>
-    requires { length (flat_map below first.now) ≤ 870 }
+    requires { length (flat_map below first.now) ≤ MOST_ITEMS }
     ensures { result.items ≡ flat_map below first.now }
 {
     let mut items = ArrayVec::new();
@@ -146,7 +147,7 @@ fn second_ply(first: &[Item]) -> ArrayVec<Item, MOST_ITEMS>
 
 // The boards after the item's moves, or the item itself where its game is over.
 fn push_below(items: &mut ArrayVec<Item, MOST_ITEMS>, item: &Item)
-    requires { length items.old.items + length (below item.now) ≤ 870 }
+    requires { length items.old.items + length (below item.now) ≤ MOST_ITEMS }
     ensures { items.new.items ≡ items.old.items ++ below item.now }
 {
     if item.board.is_over() {
@@ -186,7 +187,7 @@ fn push_move(items: &mut ArrayVec<Item, MOST_MOVES>, from: &Item, square: Square
 
 // These items, with room for as many as a frontier has.
 fn all_of(first: &[Item]) -> ArrayVec<Item, MOST_ITEMS>
-    requires { length first.now ≤ 870 }
+    requires { length first.now ≤ MOST_ITEMS }
     ensures { result.items ≡ first.now }
 {
     let mut items = ArrayVec::new();

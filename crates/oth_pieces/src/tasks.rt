@@ -7,6 +7,7 @@ ghost use Rattle.oth_pieces.specs.Dealing.{Took};
 ghost use Rattle.oth_pieces.specs.Hands.{AreAllHands, IsHandOf, Fits, Draws, AreFresh, HaveRoom, IsCrew, list_of};
 ghost use Rattle.oth_pieces.specs.Hands.{number_of, has_ended, room_of, count_of};
 ghost use Rattle.oth_pieces.specs.Drawing.{lists_of, AreOnce};
+ghost use Rattle.oth_pieces.specs.declared.frontier.TheConstants.{MOST_ITEMS};
 
 mod closing;
 mod dealing;
@@ -88,7 +89,7 @@ impl Tasks {
     /// How many numbers there are.
     pub fn count(&self) -> u32
         ensures value { result ≡ count_of self.now }
-        ensures most { result ≤ 870 }
+        ensures most { result ≤ MOST_ITEMS }
     {
         self.count
     }
@@ -168,7 +169,7 @@ impl Tasks {
 impl Drawn {
     /// No list, and all numbers below the count are left. It takes no memory.
     pub fn nothing(alloc: Global, count: u32) -> Drawn
-        requires { count ≤ 870 }
+        requires { count ≤ MOST_ITEMS }
         ensures lists { lists_of result ≡ [] }
         ensures once { AreOnce count result }
     {

@@ -82,7 +82,7 @@ fn is_drawn(lists: &[Vec<u32>], number: u32) -> bool
 
 /// The numbers below the count that are in no list, rising.
 pub fn left_of(count: u32, lists: &[Vec<u32>]) -> ArrayVec<u32, MOST_ITEMS>
-    requires { count ≤ 870 }
+    requires { count ≤ MOST_ITEMS }
     ensures { result.items ≡ left_of count lists.now }
 {
     let mut left = ArrayVec::new();

@@ -11,7 +11,7 @@ use std::alloc::{AllocError, Global};
 
 /// Tasks of the numbers, dealt in the order of their turns, and their hands.
 pub fn dealt(alloc: Global, turns: &Turns, hands: usize) -> Result<(Tasks, Vec<Hand>), AllocError>
-    requires { length turns.now.numbers.items ≤ 870 }
+    requires { length turns.now.numbers.items ≤ MOST_ITEMS }
     ensures hands { IfOk result (λ made. AreHandsOf made.0 hands made.1.items) }
     ensures count { IfOk result (λ made. count_of made.0 ≡ length turns.now.numbers.items) }
 {

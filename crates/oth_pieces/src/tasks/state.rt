@@ -1,5 +1,6 @@
 //! The tasks, the hands that draw them, and what all hands hold.
 ghost use Rattle.std.specs.Prelude.{◌≤◌};
+ghost use Rattle.oth_pieces.specs.declared.frontier.TheConstants.{MOST_ITEMS};
 
 use super::rule::Deal;
 use super::share::Share;
@@ -31,7 +32,7 @@ pub struct Tasks {
     pub(crate) thieves: Vec<Thief>,
     /// How many numbers there are.
     pub(crate) count: u32,
-    pub(crate) ghost few: { count ≤ 870 },
+    pub(crate) ghost few: { count ≤ MOST_ITEMS },
 }
 
 /// What one thread draws numbers with. It has a deque of its own, and a pass for each deque.
