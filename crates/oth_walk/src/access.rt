@@ -71,7 +71,7 @@ impl<'t> WorkerCells<'t> {
     pub fn of(alloc: Global, plan: Plan, access: &mut Option<TableAccess<'t>>) -> WorkerCells<'t>
         ensures lends { LendsTable access.old access.new }
     {
-        let memories = Memories::of(alloc, plan.root, plan.is_alone);
+        let memories = Memories::of(alloc, plan.root, plan.is_alone());
         match access {
             Some(access) => WorkerCells {
                 cells: access.cells(alloc),
