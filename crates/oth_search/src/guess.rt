@@ -79,16 +79,18 @@ fn width_after_reply(plies: u8) -> usize {
     }
 }
 
-/// The least value that a reply seems to have. The reply that seems to have it comes to the front.
-pub fn guess<C: Cells>(replies: &mut [Solved], cells: &mut C) -> i8
-    requires { length replies.old ≤ 64 }
+/// The least value that a reply seems to have, which is first asked for this one. The reply that seems to have it comes
+/// to the front.
+pub fn guess<C: Cells>(replies: &mut [Solved], likely: i8, cells: &mut C) -> i8
+    requires few { length replies.old ≤ 64 }
+    requires likely { IsThreshold likely }
     ensures score { IsScore result }
     ensures fixed { C.fixed cells.new ≡ C.fixed cells.old }
 {
     let mut low = -64;
     let mut high = 64;
     let mut seen = [Interval::all(); 64];
-    let mut at = 0;
+    let mut at = likely;
     let mut step = FIRST_GUESS_STEP;
     for _ in 0..GUESS_ROUNDS {
         let found = least_seen(replies, &mut seen, at, cells);
