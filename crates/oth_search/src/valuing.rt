@@ -14,8 +14,8 @@ use arrayvec::ArrayVec;
 
 /// The board with its value, by what is known of it and a search. Of the boards after its moves one is searched to its
 /// value, and each other only so far that it is no better for the mover. The observer hears of each search of one of
-/// them. A sibling, a board after another move of the same parent, tells which score is asked for first, or where a guess
-/// of it starts: that of siblings is often near. No value depends on it.
+/// them. A sibling, a board after another move of the same parent, tells which score is asked for first, or where a
+/// guess of it starts: that of siblings is often near. No value depends on it.
 pub fn value_of<C: Cells, O: Observer<C>>(
     known: &Solved,
     sibling: Option<&Solved>,
