@@ -3,15 +3,12 @@
 ghost use Rattle.std.specs.Prelude.{◌≡◌, ◌≤◌, ◌<◌, ◌↔◌, ◌++◌, ◌∷◌, [], length, true, IfOk};
 ghost use Rattle.oth_rules.specs.Position.{empty_count};
 
-use crate::effort::MOST_EMPTIES_FOR_ONE;
+use crate::tuning::{MOST_BOARDS, MOST_EMPTIES_FOR_ONE};
 use oth_rules::Board;
 use std::alloc::{AllocError, Global};
 use std::marker::Model;
 
-/// The most boards of a batch.
-pub const MOST_BOARDS: usize = 1_024;
-
-/// Boards that wait to be solved together: at most 1,024.
+/// Boards that wait to be solved together: at most `MOST_BOARDS`.
 #[derive(Drop)]
 pub struct Boards {
     list: Vec<Board>,
@@ -20,12 +17,13 @@ pub struct Boards {
 impl Model for Boards {
     ghost use Rattle.std.specs.Prelude.{◌≤◌, List, vec_capacity};
     ghost use Rattle.oth_rules.specs.Position.{Position};
+    ghost use Rattle.oth_batch.specs.declared.tuning.TheConstants.{MOST_BOARDS};
 
     ghost Value = { List Position };
 
     ghost view = { λ b. b.list.items };
 
-    ghost invariant = { λ b. 1024 ≤ vec_capacity b.list };
+    ghost invariant = { λ b. MOST_BOARDS ≤ vec_capacity b.list };
 }
 
 impl Boards {
@@ -45,7 +43,7 @@ impl Boards {
         self.list.len() >= MOST_BOARDS
     }
 
-    /// Lets the board wait too, behind the others, if fewer than 1,024 wait and one worker is enough for it.
+    /// Lets the board wait too, behind the others, if fewer than `MOST_BOARDS` wait and one worker is enough for it.
     pub fn push(&mut self, board: Board)
         ensures waits { empty_count board ≤ MOST_EMPTIES_FOR_ONE → length self.old < MOST_BOARDS
             → self.new ≡ self.old ++ board ∷ [] }

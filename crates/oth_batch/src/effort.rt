@@ -3,25 +3,16 @@
 ghost use Rattle.std.specs.Prelude.{◌≤◌};
 
 use crate::asked::Asked;
+use crate::tuning::{EFFORT_OF_A_THREAD, EMPTIES_FOR_SCORES, effort_of};
 use oth_rules::Board;
 
-// What starting a thread is worth, and a little more: some 0.3 milliseconds.
-const EFFORT_OF_A_THREAD: u64 = 1 << 13;
-
-/// Boards of more empty squares are left to all workers together, so that answers don't wait long for each other.
-pub const MOST_EMPTIES_FOR_ONE: u8 = 18;
-
-// The scores of all moves of a board take about as long as the answer of one with so many more empty squares.
-const EMPTIES_FOR_SCORES: u32 = 2;
-
-/// How long it takes to find what is asked of a board, in units of some 40 nanoseconds: with two more empty squares
-/// five to six times as long.
+/// How long it takes to find what is asked of a board, in units of some 40 nanoseconds.
 pub fn effort(asked: Asked, board: &Board) -> u64 {
     let empties = match asked {
-        Asked::Answer => board.empties() as u32,
-        Asked::Scores => board.empties() as u32 + EMPTIES_FOR_SCORES,
+        Asked::Answer => board.empties(),
+        Asked::Scores => board.empties() + EMPTIES_FOR_SCORES,
     };
-    1 << (empties * 5 / 4).min(40)
+    effort_of(empties)
 }
 
 /// Who solves which boards of a batch.

@@ -9,12 +9,13 @@ mod boards;
 mod effort;
 mod found;
 mod jobs;
+mod tuning;
 mod verifying;
 
 pub use asked::Asked;
 pub use batch::Batch;
-pub use boards::{Boards, MOST_BOARDS};
-pub use effort::MOST_EMPTIES_FOR_ONE;
+pub use boards::Boards;
 pub use found::answer_among;
 pub use jobs::Jobs;
+pub use tuning::{MOST_BOARDS, MOST_EMPTIES_FOR_ONE};
 pub use verifying::verify_by;

@@ -8,16 +8,13 @@ ghost use Rattle.oth_book.specs.Book.{IsTrueBook};
 use crate::batch::Batch;
 use crate::boards::Boards;
 use crate::found::answer_among;
+use crate::tuning::FEWEST_EMPTIES_TOGETHER;
 use oth_book::{Book, Claim, Claims, Wrong, verify_knowing};
 use oth_pool::{Open, solve};
 use oth_rules::Board;
 use oth_search::Answer;
 use std::alloc::Global;
 use std::thread::Threads;
-
-// Boards of fewer empty squares that are not in a batch are left to the caller's thread alone: starting a thread takes
-// longer.
-const FEWEST_EMPTIES_TOGETHER: u8 = 13;
 
 /// The book of claims that are all true, or the first that isn't, as [`oth_book::verify`] gives it. Boards that one
 /// worker is enough for are solved side by side, larger ones one after the other by all workers, over tables of at most

@@ -6,7 +6,7 @@ ghost use Rattle.oth_rules.specs.Position.{empty_count};
 use crate::checking::Lawful;
 use crate::lines::split_line;
 use crate::solver::Solver;
-use oth_batch::{Asked, Batch, Boards, Jobs, answer_among};
+use oth_batch::{Asked, Batch, Boards, Jobs, MOST_BOARDS, answer_among};
 use oth_pool::Gate;
 use oth_rules::Board;
 use oth_search::{Answer, MOST_EMPTIES, TooManyEmpties};
@@ -14,9 +14,6 @@ use oth_text::read_solvable;
 use oth_words::Command;
 use std::alloc::Global;
 use std::thread::Threads;
-
-// The most lines that are looked at together.
-const MOST_LINES: usize = 1_024;
 
 /// Answers of boards of the next lines. A board whose answer isn't there is solved when its line's turn comes.
 #[derive(Drop)]
@@ -122,10 +119,11 @@ pub(crate) fn jobs_of<'b, T: Threads + Sync, G: Gate>(
     }
 }
 
-// Lets the boards of the whole lines in these bytes wait, up to a batch, and gives the number of these lines.
+// Lets the boards of the whole lines in these bytes wait, up to a batch, and gives the number of these lines: no more
+// than a batch has boards.
 fn gather(boards: &mut Boards, bytes: &[u8]) -> usize {
     let mut rest = bytes;
-    for lines in 0..MOST_LINES {
+    for lines in 0..MOST_BOARDS {
         if boards.is_full() {
             return lines;
         }
@@ -137,5 +135,5 @@ fn gather(boards: &mut Boards, bytes: &[u8]) -> usize {
         }
         rest = others;
     }
-    MOST_LINES
+    MOST_BOARDS
 }

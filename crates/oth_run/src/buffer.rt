@@ -2,13 +2,8 @@
 
 ghost use Rattle.std.specs.Prelude.{◌<◌, length};
 
+use crate::tuning::LONG;
 use std::alloc::Global;
-
-// So many bytes are read at once.
-const LONG: usize = 65_536;
-
-/// So many bytes are read at once where there is no memory.
-pub const SHORT: usize = 4_096;
 
 /// Room on the heap, so that it takes none of the stack below a search. There is none where memory is refused.
 pub fn long_buffer(alloc: Global) -> Vec<u8> {

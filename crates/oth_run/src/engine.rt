@@ -9,12 +9,13 @@ ghost use Rattle.oth_run.specs.Report.{last_report, with_end};
 ghost use Rattle.oth_run.specs.Run.{FailsBy};
 
 use crate::ahead::{asked_by, jobs_of};
-use crate::buffer::{SHORT, long_buffer, longer};
+use crate::buffer::{long_buffer, longer};
 use crate::checking::Lawful;
 use crate::fault::RunFault;
 use crate::line::Line;
 use crate::lines::split_line;
 use crate::solver::Solver;
+use crate::tuning::SHORT;
 use crate::waiting::Waiting;
 use oth_batch::Jobs;
 use oth_pool::Gate;

@@ -10,6 +10,7 @@ mod line;
 mod lines;
 mod running;
 mod solver;
+mod tuning;
 mod waiting;
 
 pub use ahead::Ahead;

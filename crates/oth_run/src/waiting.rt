@@ -3,11 +3,9 @@
 ghost use Rattle.std.specs.Prelude.{◌≡◌, ◌≤◌, [], length, true, OnOk, OnErr};
 ghost use Rattle.oth_run.specs.Gathered.{Gathers, KeepsGathered, StopsInWaiting, WritesOut};
 
+use crate::tuning::WAITING_LEN;
 use arrayvec::ArrayVec;
 use oth_text::{Failed, Sink, write_all};
-
-// So many bytes wait at most.
-const WAITING_LEN: usize = 16_384;
 
 /// Bytes that wait to be written.
 #[derive(Drop)]
@@ -27,7 +25,7 @@ impl Waiting {
 
     /// Adds the text, and writes those before it where there is no room for it.
     pub fn push_text<W: Sink>(&mut self, writer: &mut W, text: &[u8]) -> Result<(), Failed>
-        requires { length text.now ≤ 16384 }
+        requires { length text.now ≤ WAITING_LEN }
         ensures ok { OnOk result (Gathers (W.contents writer.old) (W.contents writer.new)
             self.old.bytes.items self.new.bytes.items text.now) }
         ensures err { OnErr result

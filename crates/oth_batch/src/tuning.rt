@@ -1,0 +1,27 @@
+//! The numbers that choose how boards are shared out among workers. No answer depends on one. What each was measured
+//! to bring stands in docs/TUNING.md.
+
+/// Boards of a batch, at the most: enough that each of 16 workers has some, and so few that answers come soon.
+pub const MOST_BOARDS: usize = 1_024;
+
+/// Empty squares: up to here a board may have one worker for itself. All workers solve a larger one together, so that
+/// the answers behind it do not wait long.
+pub const MOST_EMPTIES_FOR_ONE: u8 = 18;
+
+/// Units of some 40 nanoseconds: the work that pays for a further thread, which takes some 0.3 milliseconds to start.
+pub(crate) const EFFORT_OF_A_THREAD: u64 = 1 << 13;
+
+/// Empty squares: the scores of all moves of a board take about as long as the answer of one with so many more.
+pub(crate) const EMPTIES_FOR_SCORES: u8 = 2;
+
+/// How long a board with so many empty squares takes, in units of some 40 nanoseconds: with two more 5.7 times as long.
+pub(crate) fn effort_of(empties: u8) -> u64 {
+    1 << (u32::from(empties) * 5 / 4).min(40)
+}
+
+/// Tries of a steal from another worker's deque that lost a race.
+pub(crate) const TAKE_TRIES: u32 = 1_000;
+
+/// Empty squares: from here on all workers together solve a claim of a book that no batch had. Below it the caller's
+/// thread does, since starting others takes longer.
+pub(crate) const FEWEST_EMPTIES_TOGETHER: u8 = 13;
