@@ -205,7 +205,7 @@ fn looked_at_or_recorded<C: Cells>(
     let list: ArrayVec<Child, 32> = children(node);
     match recorded_above(&node.board, list.as_slice(), alpha, cells, scoring) {
         Some(found) => Err(found),
-        None => Ok(looked_at(node, list.as_slice())),
+        None => Ok(looked_at(node, list.as_slice(), node.board.empties())),
     }
 }
 

@@ -14,8 +14,8 @@ use crate::node::Node;
 use crate::solved::Solved;
 use crate::squares::without;
 use crate::tuning::{
-    FEWEST_EMPTIES_GUESS_LOOKED, FIRST_GUESS_STEP, GUESS_ROUNDS, MANY_PLIES, MOST_EMPTIES_IN_FULL,
-    MOST_RANKED, WIDTH, WIDTH_AT_FIRST,
+    FEWEST_EMPTIES_GUESS_LOOKED, FIRST_GUESS_STEP, GUESS_ROUNDS, MANY_PLIES,
+    MOST_EMPTIES_GUESS_LOOKED, MOST_EMPTIES_IN_FULL, MOST_RANKED, WIDTH, WIDTH_AT_FIRST,
 };
 use arrayvec::ArrayVec;
 use oth_rules::{Board, Scoring};
@@ -250,8 +250,13 @@ fn ranked(node: &Node) -> ArrayVec<Child, MOST_RANKED>
     ensures { All (IsChild node.now.board) result.items }
 {
     let found = children(node);
-    if node.board.empties() < FEWEST_EMPTIES_GUESS_LOOKED {
+    let empties = node.board.empties();
+    if empties < FEWEST_EMPTIES_GUESS_LOOKED {
         return found;
     }
-    looked_at(node, found.as_slice())
+    looked_at(
+        node,
+        found.as_slice(),
+        empties.min(MOST_EMPTIES_GUESS_LOOKED),
+    )
 }

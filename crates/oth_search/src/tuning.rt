@@ -87,7 +87,7 @@ pub(crate) const MARGIN: i16 = 30;
 pub(crate) const FEWEST_EMPTIES_AHEAD: u8 = 12;
 
 /// Empty squares of the parent: from here on it is that after three plies, by a search over evaluations.
-pub(crate) const FEWEST_EMPTIES_THREE_AHEAD: u8 = 17;
+pub(crate) const FEWEST_EMPTIES_THREE_AHEAD: u8 = 16;
 
 /// Empty squares of the parent: from here on it is that after four plies.
 pub(crate) const FEWEST_EMPTIES_FOUR_AHEAD: u8 = 19;
@@ -169,6 +169,10 @@ pub(crate) const MOST_RANKED: usize = 12;
 
 /// Empty squares: from here on it ranks children by their evaluation.
 pub(crate) const FEWEST_EMPTIES_GUESS_LOOKED: u8 = 13;
+
+/// Empty squares: at nodes with more the guess looks no further ahead than at one with so many, which is a ply. Looks
+/// of more plies make it dearer and no nearer.
+pub(crate) const MOST_EMPTIES_GUESS_LOOKED: u8 = 14;
 
 /// Null windows of one guess, at the most.
 pub(crate) const GUESS_ROUNDS: u8 = 12;
