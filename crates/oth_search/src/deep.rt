@@ -5,7 +5,7 @@ ghost use Rattle.oth_rules.specs.Move.{can_move};
 ghost use Rattle.oth_rules.specs.Score.{score_of};
 ghost use Rattle.oth_rules.specs.Value.{value};
 ghost use Rattle.oth_rules.specs.Symmetry.{IsCanonical};
-ghost use Rattle.oth_search.specs.Bound.{BoundsAt, Encloses, IsThreshold};
+ghost use Rattle.oth_search.specs.Interval.{BoundsAt, Encloses, IsThreshold};
 ghost use Rattle.oth_search.specs.Children.{IsChild};
 
 use crate::cells::Cells;

@@ -2,7 +2,7 @@
 ghost use Rattle.std.specs.Prelude.{◌≡◌, ◌<◌, ◌≤◌, ◌≤ℤ◌, pos, length};
 ghost use Rattle.std.specs.List.{All};
 ghost use Rattle.oth_rules.specs.Laws.{IsScore};
-ghost use Rattle.oth_search.specs.Bound.{IsThreshold};
+ghost use Rattle.oth_search.specs.Interval.{IsThreshold};
 ghost use Rattle.oth_search.specs.Children.{IsChild};
 
 use crate::cells::Cells;

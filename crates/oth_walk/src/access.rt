@@ -1,7 +1,7 @@
 //! A table as workers get at it, and the cells that one worker has of it.
 ghost use Rattle.std.specs.Prelude.{◌≡◌, IfSome};
 ghost use Rattle.oth_rules.specs.Symmetry.{IsCanonical};
-ghost use Rattle.oth_table.specs.Calls.{IsSeatOf};
+ghost use Rattle.oth_table.specs.SharedTable.{IsSeatOf};
 ghost use Rattle.oth_walk.specs.Lending.{LendsSeat, LendsTable};
 
 use crate::scene::Plan;
@@ -20,7 +20,7 @@ pub struct TableAccess<'t> {
 
 impl<'t> Model for TableAccess<'t> {
     ghost use Rattle.oth_table.specs.Parts.{Use};
-    ghost use Rattle.oth_table.specs.Calls.{IsSeatOf};
+    ghost use Rattle.oth_table.specs.SharedTable.{IsSeatOf};
 
     ghost Value = { Use };
 
