@@ -18,9 +18,10 @@ use crate::board::OthBoard;
 use crate::cells::CallCells;
 use crate::refusal::{DONE, Refusal};
 use crate::seat::OthSeat;
+use crate::sharing::lifted;
 use crate::solving::{accepted, own_table};
 use oth_rules::{Board, Scoring};
-use oth_search::{MOST_EMPTIES, MemoCells, Memories, ScoredMove, Scores, scores_with};
+use oth_search::{MemoCells, Memories, ScoredMove, Scores, scores_with};
 use oth_table::{SharedTable, TableCells, TableSeat};
 use std::alloc::Global;
 
@@ -161,16 +162,7 @@ fn scored_over(alloc: Global, seat: &mut OthSeat, board: OthBoard) -> Result<Sco
     ensures same { IsKept seat.old.held seat.new.held }
     ensures err { IfErr result (λ r. RefusesBoard seat.old.held board r × (seat.new.held ≡ seat.old.held)) }
 {
-    let board = board.board()?;
-    if board.empties() > MOST_EMPTIES {
-        return Err(Refusal::Empties);
-    }
-    let Some(mut place) = seat.take(alloc) else {
-        return Err(Refusal::NoSeat);
-    };
-    let Some(seated) = place.seated.take() else {
-        return Err(Refusal::NoSeat);
-    };
+    let (board, seated, mut place) = lifted(alloc, seat, board)?;
     let (seated, scores) = seated.scores(alloc, board);
     place.seated = Some(seated);
     seat.put(place);

@@ -1,7 +1,9 @@
 //! The solver for several threads over one table. Each has a seat of it, and makes its calls by itself.
 
-ghost use Rattle.std.specs.Prelude.{◌≡◌, ◌≢◌, IfOk, IfErr, None};
+ghost use Rattle.std.specs.Prelude.{◌≡◌, ◌≢◌, ◌≤◌, IfOk, IfErr, None, Some, false};
+ghost use Rattle.oth_rules.specs.Position.{empty_count};
 ghost use Rattle.oth_table.specs.Sizes.{IsSize};
+ghost use Rattle.oth_c.specs.Boards.{overlaps, position};
 ghost use Rattle.oth_c.specs.Codes.{code_of};
 ghost use Rattle.oth_c.specs.Seats.{is_held, IsOpenedAt, Opens, Joins, Solves, SolvesFully, IsKept};
 ghost use Rattle.oth_c.specs.Seats.{RefusesCells, RefusesTable, RefusesSeat, RefusesBoard};
@@ -12,7 +14,7 @@ use crate::board::OthBoard;
 use crate::refusal::{DONE, Refusal};
 use crate::seat::OthSeat;
 use crate::seated::{Place, Seated};
-use oth_rules::Scoring;
+use oth_rules::{Board, Scoring};
 use oth_search::{Answer, MOST_EMPTIES};
 use std::alloc::Global;
 
@@ -122,6 +124,31 @@ fn joined_at(alloc: Global, seated: &mut Option<Seated>, more: &mut OthSeat) -> 
     Ok(())
 }
 
+/// The board, what is at the seat, and its place, into which that is put again after the search of the board; or the
+/// first refusal.
+pub fn lifted(
+    alloc: Global,
+    seat: &mut OthSeat,
+    board: OthBoard,
+) -> Result<(Board, Seated, Box<Place>), Refusal>
+    ensures board { IfOk result (λ x. (overlaps board ≡ false) × (empty_count (position board) ≤ 30)
+        × (x.0 ≡ position board)) }
+    ensures seated { IfOk result (λ x. seat.old.held ≡ Some x.1) }
+    ensures err { IfErr result (λ r. RefusesBoard seat.old.held board r × (seat.new.held ≡ seat.old.held)) }
+{
+    let board = board.board()?;
+    if board.empties() > MOST_EMPTIES {
+        return Err(Refusal::Empties);
+    }
+    let Some(mut place) = seat.take(alloc) else {
+        return Err(Refusal::NoSeat);
+    };
+    match place.seated.take() {
+        Some(seated) => Ok((board, seated, place)),
+        None => Err(Refusal::NoSeat),
+    }
+}
+
 /// Writes the score and all best moves of a board of at most 30 empty squares by full minimax and the table's scoring,
 /// and what its mover does: exact, whatever other threads do over the table meanwhile. Refusals 1, 5 and 31, tested in
 /// this order; they leave the seat as it was.
@@ -152,16 +179,7 @@ fn solved_over(alloc: Global, seat: &mut OthSeat, board: OthBoard) -> Result<Ans
     ensures same { IsKept seat.old.held seat.new.held }
     ensures err { IfErr result (λ r. RefusesBoard seat.old.held board r × (seat.new.held ≡ seat.old.held)) }
 {
-    let board = board.board()?;
-    if board.empties() > MOST_EMPTIES {
-        return Err(Refusal::Empties);
-    }
-    let Some(mut place) = seat.take(alloc) else {
-        return Err(Refusal::NoSeat);
-    };
-    let Some(seated) = place.seated.take() else {
-        return Err(Refusal::NoSeat);
-    };
+    let (board, seated, mut place) = lifted(alloc, seat, board)?;
     let (seated, answer) = seated.solve(alloc, board);
     place.seated = Some(seated);
     seat.put(place);

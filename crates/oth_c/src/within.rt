@@ -9,7 +9,8 @@ use crate::answer::OthAnswer;
 use crate::board::OthBoard;
 use crate::refusal::{DONE, Refusal, STOPPED};
 use crate::seat::OthSeat;
-use oth_search::{Answer, Interval, MOST_EMPTIES, Solved, Stopped};
+use crate::sharing::lifted;
+use oth_search::{Answer, Interval, Solved, Stopped};
 use std::alloc::Global;
 
 /// Bounds of the value of a board for its mover, -64 to 64.
@@ -77,16 +78,7 @@ fn found_within(
     ensures same { IsKept seat.old.held seat.new.held }
     ensures err { IfErr result (λ r. RefusesBoard seat.old.held board r × (seat.new.held ≡ seat.old.held)) }
 {
-    let board = board.board()?;
-    if board.empties() > MOST_EMPTIES {
-        return Err(Refusal::Empties);
-    }
-    let Some(mut place) = seat.take(alloc) else {
-        return Err(Refusal::NoSeat);
-    };
-    let Some(seated) = place.seated.take() else {
-        return Err(Refusal::NoSeat);
-    };
+    let (board, seated, mut place) = lifted(alloc, seat, board)?;
     let (seated, found) = seated.solve_within(alloc, board, most);
     place.seated = Some(seated);
     seat.put(place);
