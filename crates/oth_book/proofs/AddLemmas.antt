@@ -15,7 +15,7 @@ use Rattle.oth_rules.specs.Value.{value}
 use Rattle.oth_rules.specs.declared.scoring.Scoring.{Scoring}
 use Rattle.oth_rules.proofs.Values.{int_max-keeps}
 use Rattle.oth_rules.proofs.Canonical.{value-canonical, IsBoard-canonical, canonical-canonical}
-use Rattle.oth_search.specs.Bound.{Encloses}
+use Rattle.oth_search.specs.Interval.{Encloses}
 use Rattle.oth_search.specs.declared.solved.Solved.{Solved}
 use Rattle.oth_book.specs.declared.claim.Claim.{Claim}
 use Rattle.oth_book.specs.Order.{IsBelow}

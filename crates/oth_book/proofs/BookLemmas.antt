@@ -22,7 +22,7 @@ use Rattle.oth_rules.proofs.Exchanges.{unmap_map}
 use Rattle.oth_rules.proofs.Words.{word_fits}
 use Rattle.oth_rules.proofs.SearchLaws.{IsScore-value}
 use Rattle.oth_rules.specs.Laws.{IsScore}
-use Rattle.oth_search.specs.Bound.{Encloses, IsInterval}
+use Rattle.oth_search.specs.Interval.{Encloses, IsInterval}
 use Rattle.oth_search.specs.declared.answer.Answer.{Answer}
 use Rattle.oth_book.specs.declared.claim.Claim.{Claim}
 use Rattle.oth_book.specs.Order.{cells, board_cmp, IsBelow}

@@ -8,7 +8,7 @@ use Rattle.std.specs.Prelude.{◌≡◌, ℕ, ◌<◌, ◌≤◌, ◌^◌, ℤ, 
 use Rattle.std.specs.List.{flat_map}
 use Rattle.oth_rules.specs.Position.{IsBoard}
 use Rattle.oth_rules.specs.Symmetry.{canonical}
-use Rattle.oth_search.specs.Bound.{IsInterval}
+use Rattle.oth_search.specs.Interval.{IsInterval}
 use Rattle.oth_book.specs.declared.version.Version.{Version}
 use Rattle.oth_book.specs.declared.version.Version.TheVariants.{One, Two}
 use Rattle.oth_book.specs.declared.claim.Claim.{Claim}

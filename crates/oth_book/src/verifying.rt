@@ -2,7 +2,7 @@
 
 ghost use Rattle.std.specs.Prelude.{◌≡◌, ◌≤◌, ◌<◌, ◌≤ℤ◌, ℕ, ◌↔◌, IsTrue, IfOk, IfErr, OnOk, length, All};
 ghost use Rattle.oth_rules.specs.Position.{empty_count};
-ghost use Rattle.oth_search.specs.Bound.{IsInterval};
+ghost use Rattle.oth_search.specs.Interval.{IsInterval};
 ghost use Rattle.oth_book.specs.declared.version.Version.{Version as AnyVersion};
 ghost use Rattle.oth_book.specs.Text.{AreClaims};
 ghost use Rattle.oth_book.specs.True.{IsTrueClaim, IsExact, IsCause, IsWrong, HoldsValue};

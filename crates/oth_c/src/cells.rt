@@ -2,7 +2,7 @@
 
 ghost use Rattle.std.specs.Prelude.{◌≡◌};
 ghost use Rattle.oth_table.specs.Parts.{fixed_of};
-ghost use Rattle.oth_table.specs.Calls.{IsSeatOf};
+ghost use Rattle.oth_table.specs.SharedTable.{IsSeatOf};
 
 use oth_rules::{Board, Scoring};
 use oth_search::{Cells, Entry, Memories, Solved};

@@ -4,7 +4,7 @@ ghost use Rattle.std.specs.Prelude.{◌≡◌, ◌≢◌, ◌<◌, ◌≤◌, If
 ghost use Rattle.oth_rules.specs.declared.scoring.Scoring.{Scoring as ScoredBy};
 ghost use Rattle.oth_rules.specs.Position.{Position, empty_count};
 ghost use Rattle.oth_search.specs.Scores.{AreScores};
-ghost use Rattle.oth_table.specs.Calls.{IsSeatOf};
+ghost use Rattle.oth_table.specs.SharedTable.{IsSeatOf};
 ghost use Rattle.oth_c.specs.Answers.{scoring_of};
 ghost use Rattle.oth_c.specs.Boards.{position};
 ghost use Rattle.oth_c.specs.Codes.{code_of};

@@ -2,7 +2,7 @@
 
 ghost use Rattle.std.specs.Prelude.{◌≡◌, IfOk, IfErr};
 ghost use Rattle.oth_search.specs.Full.{IsFullMinimax};
-ghost use Rattle.oth_table.specs.Calls.{IsSeatOf, IsSame, Makes};
+ghost use Rattle.oth_table.specs.SharedTable.{IsSeatOf, IsSame, Makes};
 ghost use Rattle.oth_table.specs.Sizes.{IsSize};
 ghost use Rattle.oth_table.specs.Parts.{fixed_of};
 ghost use Rattle.oth_c.specs.Seats.{IsOpened, RefusesCells};
@@ -28,7 +28,7 @@ pub struct Seated {
 
 impl Model for Seated {
     ghost use Rattle.oth_table.specs.Parts.{Use};
-    ghost use Rattle.oth_table.specs.Calls.{IsSeatOf};
+    ghost use Rattle.oth_table.specs.SharedTable.{IsSeatOf};
 
     ghost Value = { Use };
 

@@ -3,7 +3,7 @@
 ghost use Rattle.std.specs.Prelude.{◌≡◌, ◌≢◌, ◌≤◌, IfOk, IfErr, IfSome};
 ghost use Rattle.oth_rules.specs.Position.{empty_count};
 ghost use Rattle.oth_search.specs.Full.{IsFullMinimax};
-ghost use Rattle.oth_table.specs.Calls.{IsSeatOf};
+ghost use Rattle.oth_table.specs.SharedTable.{IsSeatOf};
 ghost use Rattle.oth_c.specs.Answers.{IsAnswer, scoring_of};
 ghost use Rattle.oth_c.specs.Boards.{position};
 ghost use Rattle.oth_c.specs.Codes.{code_of};

@@ -1,7 +1,7 @@
 -- The items below a root, square by square.
 use Rattle.std.proofs.Common.{◌≡◌, ℕ, zero, suc, ◌+◌, ◌-◌, ◌<◌, ◌≤◌, Bool, true, false, not, cond, if◌then◌else◌, List, [], ◌∷◌, ◌++◌, map, length, take, get_or, sym, refl, ap, ◌∙◌, subst, arith, append_assoc, length-append}
 use Rattle.std.specs.List.{filter, flat_map, range_with_len}
-use Rattle.oth_pieces.specs.Below.{below}
+use Rattle.oth_pieces.specs.Frontier.{below}
 use Rattle.std.proofs.lemmas.List.{map-append}
 use Rattle.std.proofs.lemmas.List.Elements.{filter-append}
 use Rattle.oth_rules.specs.Square.{squares}

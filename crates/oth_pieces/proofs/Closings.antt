@@ -11,7 +11,7 @@ use Rattle.std.specs.declared.alloc.Global.{Global}
 use mathlib.Core.Logic.{dite}
 use native.Mathlib.Decide.{ℕ_discrete}
 use Rattle.oth_pieces.specs.declared.tasks.state.Drawn.{Drawn}
-use Rattle.oth_pieces.specs.Drawing.{lists_of, times_in_all, left_of, AreOnce}
+use Rattle.oth_pieces.specs.Drawn.{lists_of, times_in_all, left_of, AreOnce}
 use Rattle.oth_pieces.specs.Hands.{list_of, Thief, taken_by, taken_with, dealt_of, AreAllHands}
 use Rattle.oth_pieces.specs.Settling.{Owner, Pile, pile_sum, owner_taken, owner_sum, CanSettle}
 

@@ -8,7 +8,7 @@ use Rattle.std.proofs.lemmas.List.{take_more}
 use Rattle.std.proofs.lemmas.List.Elements.{filter-append}
 use Rattle.std.proofs.lemmas.List.Sums.{sum_by-cons, sum_by_push, get_or-le-sum_by}
 use Rattle.oth_pieces.specs.Dealing.{times}
-use Rattle.oth_pieces.specs.Drawing.{times_in_all, left_of}
+use Rattle.oth_pieces.specs.Drawn.{times_in_all, left_of}
 use Rattle.oth_pieces.proofs.Belows.{range_split, zero_plus}
 
 any_times : (x : ℕ) (xs : List ℕ) → list_any (λ y. y == x) xs ≡ true → 0 < times x xs

@@ -14,7 +14,7 @@ use Rattle.std.specs.List.{list_any}
 use Rattle.oth_rules.proofs.Legal.{legal-is}
 use Rattle.oth_rules.proofs.SearchLaws.{empty_count-after, empty_count-pass, IsLegal-from_contains}
 use Rattle.oth_pieces.specs.declared.frontier.item.Item.{Item}
-use Rattle.oth_pieces.specs.Below.{awake, only_passes, item_after, children, move_of, one_ply, below, two_plies}
+use Rattle.oth_pieces.specs.Frontier.{awake, only_passes, item_after, children, move_of, one_ply, below, two_plies}
 
 fewer : (f g : ℕ → Bool) (a n : ℕ) → ((s : ℕ) → s < a + n → f s ≡ true → g s ≡ true) → length (filter f (range_with_len a n)) ≤ length (filter g (range_with_len a n))
 fewer f g a zero each = omega arith

@@ -1,10 +1,10 @@
 pub mod History
 pub mod Floor
 pub mod Watch
-pub mod Below
-pub mod Collecting
+pub mod Frontier
+pub mod Collector
 pub mod Dealing
 pub mod Hands
 pub mod Settling
-pub mod Drawing
-pub mod Turning
+pub mod Drawn
+pub mod Turns

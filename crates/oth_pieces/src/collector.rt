@@ -1,6 +1,6 @@
 //! What was found of the items of a frontier.
 ghost use Rattle.std.specs.Prelude.{◌≡◌, Some, OnOk, OnErr, slice_get};
-ghost use Rattle.oth_pieces.specs.Collecting.{is_winner, same_scoring, nothing_of, refusal, with_reply, joined, err_of};
+ghost use Rattle.oth_pieces.specs.Collector.{is_winner, same_scoring, nothing_of, refusal, with_reply, joined, err_of};
 
 use crate::frontier::{Frontier, MOST_ITEMS};
 use crate::reply::{Refusal, Reply};
@@ -19,7 +19,7 @@ pub struct Collector<'f> {
 
 impl<'f> Model for Collector<'f> {
     ghost use Rattle.std.specs.Prelude.{◌≡◌, length};
-    ghost use Rattle.oth_pieces.specs.Collecting.{Collected};
+    ghost use Rattle.oth_pieces.specs.Collector.{Collected};
 
     ghost Value = { Collected };
 

@@ -2,8 +2,8 @@
 ghost use Rattle.std.specs.Prelude.{◌≡◌, ◌+◌, ◌<◌, ◌≤◌, ◌++◌, option_map, slice_get, length, flat_map};
 ghost use Rattle.oth_rules.specs.Position.{empty_count};
 ghost use Rattle.oth_rules.specs.Move.{can_move};
-ghost use Rattle.oth_pieces.specs.Below.{awake, only_passes, item_after, child_of, children, moves_of, one_ply};
-ghost use Rattle.oth_pieces.specs.Below.{two_plies, frontier, below, board_of, IsPlies};
+ghost use Rattle.oth_pieces.specs.Frontier.{awake, only_passes, item_after, child_of, children, moves_of, one_ply};
+ghost use Rattle.oth_pieces.specs.Frontier.{two_plies, frontier, below, board_of, IsPlies};
 
 mod item;
 

@@ -6,7 +6,7 @@ ghost use Rattle.crossbeam_deque.specs.Handles.{view, IsPassOf, stealer_deque};
 ghost use Rattle.oth_pieces.specs.Dealing.{Took};
 ghost use Rattle.oth_pieces.specs.Hands.{AreAllHands, IsHandOf, Fits, Draws, AreFresh, HaveRoom, IsCrew, list_of};
 ghost use Rattle.oth_pieces.specs.Hands.{number_of, has_ended, room_of, count_of};
-ghost use Rattle.oth_pieces.specs.Drawing.{lists_of, AreOnce};
+ghost use Rattle.oth_pieces.specs.Drawn.{lists_of, AreOnce};
 ghost use Rattle.oth_pieces.specs.declared.frontier.TheConstants.{MOST_ITEMS};
 
 mod closing;

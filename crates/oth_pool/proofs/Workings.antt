@@ -13,7 +13,7 @@ use Rattle.oth_pool.specs.declared.work.Job.{Job}
 use Rattle.oth_pieces.specs.declared.tasks.state.Tasks.{Tasks}
 use Rattle.oth_pieces.specs.declared.tasks.state.Hand.{Hand}
 use Rattle.oth_pieces.specs.Hands.{IsHandOf, AreAllHands, list_of, number_of}
-use Rattle.oth_pieces.specs.Drawing.{lists_of, times_in_all, AreOnce}
+use Rattle.oth_pieces.specs.Drawn.{lists_of, times_in_all, AreOnce}
 use Rattle.oth_pool.specs.declared.run.Gathered.{Gathered}
 use Rattle.oth_pieces.proofs.Closings.{get_or_map, length_map}
 use Rattle.oth_pieces.proofs.Handouts.{each_drew}

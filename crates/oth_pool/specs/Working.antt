@@ -11,10 +11,10 @@ use Rattle.oth_pool.specs.declared.work.Work.{Work}
 use Rattle.oth_pool.specs.declared.run.Gathered.{Gathered}
 use Rattle.oth_pieces.specs.declared.tasks.state.Tasks.{Tasks}
 use Rattle.oth_pieces.specs.declared.tasks.state.Hand.{Hand}
-use Rattle.oth_pieces.specs.Below.{board_of}
+use Rattle.oth_pieces.specs.Frontier.{board_of}
 use Rattle.oth_pieces.specs.Hands.{IsHandOf, list_of}
 use Rattle.oth_pieces.specs.Dealing.{times}
-use Rattle.oth_pieces.specs.Drawing.{lists_of, times_in_all, AreOnce}
+use Rattle.oth_pieces.specs.Drawn.{lists_of, times_in_all, AreOnce}
 use Rattle.oth_pieces.specs.declared.tasks.state.Drawn.{Drawn}
 
 pub record IsReplyOf (items : List Item) (scoring : Scoring) (r : Reply) : Type 0 where

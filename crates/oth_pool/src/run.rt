@@ -3,7 +3,7 @@ ghost use Rattle.std.specs.Prelude.{◌≡◌, ◌+◌, ◌≤◌, ℕ, IfSome, 
 ghost use Rattle.oth_pieces.specs.Watch.{IsSeatOf};
 ghost use Rattle.oth_pieces.specs.Hands.{AreAllHands, IsCrew, count_of};
 ghost use Rattle.oth_pieces.specs.Dealing.{times};
-ghost use Rattle.oth_pieces.specs.Drawing.{lists_of};
+ghost use Rattle.oth_pieces.specs.Drawn.{lists_of};
 ghost use Rattle.oth_walk.specs.Lending.{LendsFloor, LendsTable};
 ghost use Rattle.oth_pool.specs.Working.{Holds, HasLists, AreGathered, IsReplyOf, numbers_of, times_by};
 

@@ -99,6 +99,11 @@ fn replies_over<'t, R: Threads + Sync, G: Gate>(
     if queue.len() < crewed.workers as usize {
         return valued_together(&crewed, &queue, access);
     }
-    let plan = Plan::of(scoring, board.empties(), access.is_some());
+    let shared = Plan::of(scoring, board.empties(), access.is_some());
+    let plan = if crewed.workers == 1 {
+        shared.for_one()
+    } else {
+        shared
+    };
     valued_apart(&crewed, &queue, plan, access)
 }

@@ -13,7 +13,7 @@ use Rattle.oth_rules.proofs.SearchLaws.{IsScore-value, IsScore-score_of, is_over
 use Rattle.oth_rules.specs.Move.{is_over, after, can_move}
 use Rattle.oth_search.proofs.SquareSets.{Takes}
 use Rattle.oth_search.proofs.Replies.{NoneAbove, NoneAbove-next, NoneAbove-end}
-use Rattle.oth_search.specs.Bound.{BoundsAt, IsInterval, Encloses, Decides}
+use Rattle.oth_search.specs.Interval.{BoundsAt, IsInterval, Encloses, Decides}
 
 -- the canonical image has the same value
 pub Encloses-canonical : (g : Scoring) (p q : Position) (lower upper : ℤ) → q ≡ canonical p → Encloses lower upper (value (score_of g) p) → Encloses lower upper (value (score_of g) q)

@@ -13,8 +13,8 @@ use Rattle.oth_rules.specs.Symmetry.{canonical}
 use Rattle.oth_rules.proofs.Canonical.{IsBoard-canonical}
 use Rattle.oth_rules.proofs.Scores.{kept}
 use Rattle.oth_rules.proofs.Values.{int_max-keeps}
-use Rattle.oth_search.specs.Bound.{IsInterval, Encloses}
-use Rattle.oth_search.specs.Entries.{Bounded, IsTrueEntry, packed, words_of, narrowed, joined}
+use Rattle.oth_search.specs.Interval.{IsInterval, Encloses}
+use Rattle.oth_search.specs.Entry.{Bounded, IsTrueEntry, packed, words_of, narrowed, joined}
 use Rattle.oth_search.proofs.Enclosing.{Encloses-canonical, IsCanonical-canonical}
 
 pub IsBoard-entry : (x : Bounded) → IsTrueEntry x → IsBoard x.board

@@ -6,7 +6,7 @@ use Rattle.oth_rules.specs.Position.{Position}
 use Rattle.oth_rules.specs.Score.{score_of}
 use Rattle.oth_rules.specs.Value.{value, is_best}
 use Rattle.oth_search.specs.declared.answer.Answer.{Answer}
-use Rattle.oth_search.specs.Answers.{kind_of}
+use Rattle.oth_search.specs.Answer.{kind_of}
 use Rattle.oth_search.specs.Full.{IsFullMinimax}
 
 pub full_minimax : (a : Answer) (p : Position) (g : Scoring) → a.board ≡ p → a.scoring ≡ g → IsFullMinimax p g a

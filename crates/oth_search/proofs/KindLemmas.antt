@@ -4,7 +4,7 @@ use Rattle.oth_rules.specs.Square.{word_of}
 use Rattle.oth_rules.specs.Position.{Position, pass}
 use Rattle.oth_rules.specs.Move.{can_move, is_legal}
 use Rattle.oth_rules.proofs.Scores.{cannot_move, does_move}
-use Rattle.oth_search.specs.Answers.{kind_of}
+use Rattle.oth_search.specs.Answer.{kind_of}
 use Rattle.oth_search.specs.declared.kind.Kind.TheVariants.{Move, Pass, End}
 
 pub kind-move : (b : Position) (w : ℕ) → w ≡ word_of (is_legal b) → (w ≡ 0 → ⊥) → Move ≡ kind_of b

@@ -16,7 +16,7 @@ use Rattle.oth_rules.proofs.Counts.{count_upto, count_by-squares, counts}
 use Rattle.oth_rules.proofs.LastMoves.{discs_after}
 use Rattle.oth_rules.proofs.Scores.{won, lost, drawn}
 use Rattle.oth_rules.proofs.SearchLaws.{value-over, some_legal, legal-empty, IsScore-score_of}
-use Rattle.oth_search.specs.Bound.{BoundsAt}
+use Rattle.oth_search.specs.Interval.{BoundsAt}
 use Rattle.oth_search.specs.Lasts.{Leaves}
 use Rattle.oth_search.proofs.Lasts.{value-one_passed, no_empties, only_move, Leaves-after, Leaves-pass}
 use Rattle.oth_search.proofs.Replies.{fewer_after, same_after_pass}

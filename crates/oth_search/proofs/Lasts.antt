@@ -13,7 +13,7 @@ use Rattle.oth_rules.specs.Score.{score_of}
 use Rattle.oth_rules.specs.Value.{value}
 use Rattle.oth_rules.specs.Laws.{IsLegal, IsScore}
 use Rattle.oth_rules.proofs.SearchLaws.{value-move_reached, can_move-legal, some_legal, value-over, value-pass, IsScore-value, IsScore-score_of}
-use Rattle.oth_search.specs.Bound.{BoundsAt, IsThreshold}
+use Rattle.oth_search.specs.Interval.{BoundsAt, IsThreshold}
 use Rattle.oth_search.specs.Squares.{In, Without}
 use Rattle.oth_rules.proofs.SearchLaws.{legal-empty, empty_before, empty_before_pass, empty-word}
 use Rattle.oth_search.specs.Lasts.{OneOf, AreEmpty, Leaves, no_move, GivesAt, MovesAt}

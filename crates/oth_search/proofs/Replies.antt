@@ -13,7 +13,7 @@ use Rattle.oth_rules.specs.Laws.{IsLegal, IsScore}
 use Rattle.oth_rules.proofs.SearchLaws.{value-move_bound, value-move_reached, value-pass, value-over, has-moves, can_move-moves, can_move-no_moves, IsScore-score_of, empty_count-after, empty_count-pass, Contains-legal_squares, IsLegal-from_contains}
 use Rattle.std.specs.List.Sorted.{IsPermutation}
 use Rattle.std.proofs.lemmas.List.Sorted.{IsPermutation-sym, Contains-permutation}
-use Rattle.oth_search.specs.Bound.{BoundsAt}
+use Rattle.oth_search.specs.Interval.{BoundsAt}
 use Rattle.oth_search.specs.Squares.{In}
 use Rattle.oth_search.proofs.SquareSets.{Takes, FromPlace}
 

@@ -3,7 +3,7 @@ use Rattle.std.proofs.Common.{◌≡◌, ◌⊎◌, inl, inr, ◌<◌, arith}
 use Rattle.std.specs.Prelude.{unsigned_abs, ℤ, pos, neg_ℤ, ◌+ℤ◌, ◌-ℤ◌, ◌≤ℤ◌, ◌<ℤ◌}
 use Rattle.std.proofs.lemmas.Int.{ints}
 use Rattle.oth_rules.specs.Laws.{IsScore}
-use Rattle.oth_search.specs.Bound.{IsInterval, IsThreshold, Decides}
+use Rattle.oth_search.specs.Interval.{IsInterval, IsThreshold, Decides}
 
 -- closer bounds decide what wider ones decide
 pub Decides-closer : (a b lower upper alpha beta alpha' beta' : ℤ) → IsInterval lower upper → a ≤ℤ lower → upper ≤ℤ b → alpha' ≡ alpha → beta' ≡ beta → Decides a b alpha' beta' → Decides lower upper alpha beta

@@ -11,14 +11,14 @@ use Rattle.oth_rules.specs.declared.scoring.Scoring.{Scoring}
 use Rattle.oth_rules.specs.Square.{has, word_of}
 use Rattle.oth_rules.specs.Position.{Position, pass}
 use Rattle.oth_search.specs.declared.kind.Kind.TheVariants.{Move, Pass, End}
-use Rattle.oth_search.specs.Answers.{kind_of}
+use Rattle.oth_search.specs.Answer.{kind_of}
 use Rattle.oth_rules.specs.Move.{is_legal, can_move, after}
 use Rattle.oth_rules.specs.Score.{score_of}
 use Rattle.oth_rules.specs.Value.{value, is_best}
 use Rattle.oth_rules.specs.Laws.{IsLegal, IsScore}
 use Rattle.oth_rules.proofs.SearchLaws.{value-move_bound, value-move_reached, value-pass, IsScore-value, can_move-legal}
 use Rattle.oth_rules.proofs.Bits.{is_word_of, has-zero}
-use Rattle.oth_search.specs.Bound.{Encloses, Decides, IsInterval}
+use Rattle.oth_search.specs.Interval.{Encloses, Decides, IsInterval}
 use Rattle.oth_search.specs.Squares.{With}
 use Rattle.oth_search.proofs.SquareSets.{Takes}
 

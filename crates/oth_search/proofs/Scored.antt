@@ -9,7 +9,7 @@ use Rattle.oth_rules.specs.Move.{after}
 use Rattle.oth_rules.specs.Score.{score_of}
 use Rattle.oth_rules.specs.Value.{value}
 use Rattle.oth_search.specs.declared.scores.ScoredMove.{ScoredMove}
-use Rattle.oth_search.specs.Bound.{Encloses}
+use Rattle.oth_search.specs.Interval.{Encloses}
 use Rattle.oth_search.specs.Scores.{IsScored}
 
 -- no move is listed yet

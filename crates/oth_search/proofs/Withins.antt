@@ -9,7 +9,7 @@ use Rattle.oth_rules.specs.Score.{score_of}
 use Rattle.oth_rules.specs.Value.{value}
 use Rattle.oth_rules.specs.Laws.{IsLegal, IsScore}
 use Rattle.oth_rules.proofs.SearchLaws.{value-move_bound, value-pass, value-over, IsScore-score_of}
-use Rattle.oth_search.specs.Bound.{BoundsAt, WithinAt, IsInner, IsInterval, Encloses, Decides, IsOpen, IsWindow}
+use Rattle.oth_search.specs.Interval.{BoundsAt, WithinAt, IsInner, IsInterval, Encloses, Decides, IsOpen, IsWindow}
 use Rattle.oth_search.proofs.SquareSets.{Takes}
 use Rattle.oth_search.proofs.Lasts.{IsGreater}
 use Rattle.oth_search.proofs.Replies.{NoneAbove, NoneAbove-next, NoneAbove-end}

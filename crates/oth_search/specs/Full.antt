@@ -7,7 +7,7 @@ use Rattle.oth_rules.specs.Position.{Position}
 use Rattle.oth_rules.specs.Score.{score_of}
 use Rattle.oth_rules.specs.Value.{value, is_best}
 use Rattle.oth_search.specs.declared.answer.Answer.{Answer}
-use Rattle.oth_search.specs.Answers.{kind_of}
+use Rattle.oth_search.specs.Answer.{kind_of}
 
 pub record IsFullMinimax (p : Position) (g : Scoring) (a : Answer) : Type 0 where
   pub board : a.board ≡ p

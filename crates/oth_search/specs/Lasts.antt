@@ -9,7 +9,7 @@ use Rattle.oth_rules.specs.Position.{Position, is_empty}
 use Rattle.oth_rules.specs.Move.{can_move}
 use Rattle.oth_rules.specs.Laws.{IsLegal}
 use Rattle.oth_rules.specs.Value.{value}
-use Rattle.oth_search.specs.Bound.{BoundsAt}
+use Rattle.oth_search.specs.Interval.{BoundsAt}
 use Rattle.oth_search.specs.Replies.{ReplyAt}
 
 abbrev pub OneOf : List ℕ → ℕ → Type 0

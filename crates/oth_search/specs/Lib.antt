@@ -1,9 +1,9 @@
-pub mod Bound
+pub mod Interval
 pub mod Squares
-pub mod Answers
-pub mod Candidates
+pub mod Answer
+pub mod Candidate
 pub mod Replies
-pub mod Entries
+pub mod Entry
 pub mod Lasts
 pub mod Full
 pub mod Children

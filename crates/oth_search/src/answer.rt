@@ -4,7 +4,7 @@ ghost use Rattle.oth_rules.specs.Square.{word_of};
 ghost use Rattle.oth_rules.specs.Symmetry.{image, map_word};
 ghost use Rattle.oth_rules.specs.Score.{score_of};
 ghost use Rattle.oth_rules.specs.Value.{value, is_best};
-ghost use Rattle.oth_search.specs.Answers.{kind_of};
+ghost use Rattle.oth_search.specs.Answer.{kind_of};
 
 use crate::kind::Kind;
 use oth_rules::{Board, Scoring, Sym, map};

@@ -3,7 +3,7 @@ ghost use Rattle.std.specs.Prelude.{◌≡◌, negsuc, pos, ◌≤ℤ◌, ◌+�
 ghost use Rattle.oth_rules.specs.Laws.{IsScore};
 ghost use Rattle.oth_rules.specs.Score.{score_of};
 ghost use Rattle.oth_rules.specs.Value.{value};
-ghost use Rattle.oth_search.specs.Bound.{Encloses, Decides};
+ghost use Rattle.oth_search.specs.Interval.{Encloses, Decides};
 
 use crate::cells::Cells;
 use crate::interval::{Interval, greater};

@@ -5,7 +5,7 @@ ghost use Rattle.oth_rules.specs.Move.{can_move};
 ghost use Rattle.oth_rules.specs.Score.{score_of};
 ghost use Rattle.oth_rules.specs.Value.{value};
 ghost use Rattle.oth_rules.specs.Symmetry.{IsCanonical};
-ghost use Rattle.oth_search.specs.Bound.{BoundsAt, Encloses, IsThreshold};
+ghost use Rattle.oth_search.specs.Interval.{BoundsAt, Encloses, IsThreshold};
 ghost use Rattle.oth_search.specs.Children.{IsChild};
 
 use crate::cells::Cells;
@@ -205,7 +205,7 @@ fn looked_at_or_recorded<C: Cells>(
     let list: ArrayVec<Child, 32> = children(node);
     match recorded_above(&node.board, list.as_slice(), alpha, cells, scoring) {
         Some(found) => Err(found),
-        None => Ok(looked_at(node, list.as_slice())),
+        None => Ok(looked_at(node, list.as_slice(), node.board.empties())),
     }
 }
 

@@ -1,7 +1,7 @@
 //! Entries: canonical boards with true bounds, and the three words that a table keeps of one.
 ghost use Rattle.std.specs.Prelude.{◌≡◌, ℕ, ◌≤◌, ℤ, pos, neg_ℤ, ◌-ℤ◌, ◌≤ℤ◌, Some};
 ghost use Rattle.oth_rules.specs.Symmetry.{canonical, IsCanonical};
-ghost use Rattle.oth_search.specs.Entries.{Bounded, IsTrueEntry, raised, words_of, joined};
+ghost use Rattle.oth_search.specs.Entry.{Bounded, IsTrueEntry, raised, words_of, joined};
 
 use crate::interval::Interval;
 use crate::solved::Solved;
@@ -18,7 +18,7 @@ pub struct Entry {
 }
 
 impl Model for Entry {
-    ghost use Rattle.oth_search.specs.Entries.{Bounded, IsTrueEntry};
+    ghost use Rattle.oth_search.specs.Entry.{Bounded, IsTrueEntry};
 
     ghost Value = { Bounded };
 

@@ -2,7 +2,7 @@
 ghost use Rattle.std.specs.Prelude.{◌≡◌, ◌<◌, ◌≤◌, ◌≤ℤ◌, pos, length};
 ghost use Rattle.std.specs.List.{All};
 ghost use Rattle.oth_rules.specs.Laws.{IsScore};
-ghost use Rattle.oth_search.specs.Bound.{IsThreshold};
+ghost use Rattle.oth_search.specs.Interval.{IsThreshold};
 ghost use Rattle.oth_search.specs.Children.{IsChild};
 
 use crate::cells::Cells;
@@ -14,8 +14,8 @@ use crate::node::Node;
 use crate::solved::Solved;
 use crate::squares::without;
 use crate::tuning::{
-    FEWEST_EMPTIES_GUESS_LOOKED, FIRST_GUESS_STEP, GUESS_ROUNDS, MANY_PLIES, MOST_EMPTIES_IN_FULL,
-    MOST_RANKED, WIDTH, WIDTH_AT_FIRST,
+    FEWEST_EMPTIES_GUESS_LOOKED, FIRST_GUESS_STEP, GUESS_ROUNDS, MANY_PLIES,
+    MOST_EMPTIES_GUESS_LOOKED, MOST_EMPTIES_IN_FULL, MOST_RANKED, WIDTH, WIDTH_AT_FIRST,
 };
 use arrayvec::ArrayVec;
 use oth_rules::{Board, Scoring};
@@ -79,16 +79,18 @@ fn width_after_reply(plies: u8) -> usize {
     }
 }
 
-/// The least value that a reply seems to have. The reply that seems to have it comes to the front.
-pub fn guess<C: Cells>(replies: &mut [Solved], cells: &mut C) -> i8
-    requires { length replies.old ≤ 64 }
+/// The least value that a reply seems to have, which is first asked for this one. The reply that seems to have it comes
+/// to the front.
+pub fn guess<C: Cells>(replies: &mut [Solved], likely: i8, cells: &mut C) -> i8
+    requires few { length replies.old ≤ 64 }
+    requires likely { IsThreshold likely }
     ensures score { IsScore result }
     ensures fixed { C.fixed cells.new ≡ C.fixed cells.old }
 {
     let mut low = -64;
     let mut high = 64;
     let mut seen = [Interval::all(); 64];
-    let mut at = 0;
+    let mut at = likely;
     let mut step = FIRST_GUESS_STEP;
     for _ in 0..GUESS_ROUNDS {
         let found = least_seen(replies, &mut seen, at, cells);
@@ -248,8 +250,13 @@ fn ranked(node: &Node) -> ArrayVec<Child, MOST_RANKED>
     ensures { All (IsChild node.now.board) result.items }
 {
     let found = children(node);
-    if node.board.empties() < FEWEST_EMPTIES_GUESS_LOOKED {
+    let empties = node.board.empties();
+    if empties < FEWEST_EMPTIES_GUESS_LOOKED {
         return found;
     }
-    looked_at(node, found.as_slice())
+    looked_at(
+        node,
+        found.as_slice(),
+        empties.min(MOST_EMPTIES_GUESS_LOOKED),
+    )
 }

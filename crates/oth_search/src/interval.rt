@@ -1,7 +1,7 @@
 //! Intervals of scores, and which of two scores is the greater.
 ghost use Rattle.std.specs.Prelude.{◌≡◌, ◌⊎◌, ℤ, ◌↔◌, IsSome, IfSome, IsTrue, IsFalse, ◌≤ℤ◌, ◌<ℤ◌, neg_ℤ, pos};
 ghost use Rattle.oth_rules.specs.Laws.{IsScore};
-ghost use Rattle.oth_search.specs.Bound.{IsInterval, Decides, IsOpen};
+ghost use Rattle.oth_search.specs.Interval.{IsInterval, Decides, IsOpen};
 
 /// A lower and an upper bound of a score, `-64 <= lower <= upper <= 64`.
 #[derive(Clone, Copy, PartialEq, Eq, Debug)]

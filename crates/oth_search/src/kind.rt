@@ -1,6 +1,6 @@
 //! Move, pass or end.
 ghost use Rattle.std.specs.Prelude.{◌≡◌};
-ghost use Rattle.oth_search.specs.Answers.{kind_of};
+ghost use Rattle.oth_search.specs.Answer.{kind_of};
 
 use oth_rules::Board;
 

@@ -7,7 +7,7 @@ ghost use Rattle.oth_rules.specs.Laws.{IsLegal};
 ghost use Rattle.oth_rules.specs.Score.{score_of};
 ghost use Rattle.oth_rules.specs.declared.scoring.Scoring.{Scoring as ScoringBy};
 ghost use Rattle.oth_rules.specs.Value.{value};
-ghost use Rattle.oth_search.specs.Bound.{BoundsAt, IsThreshold};
+ghost use Rattle.oth_search.specs.Interval.{BoundsAt, IsThreshold};
 ghost use Rattle.oth_search.specs.Lasts.{Leaves, GivesAt, MovesAt};
 
 use crate::interval::greater;

@@ -1,6 +1,6 @@
 //! A null window: the question whether a value is above a threshold or not.
 ghost use Rattle.std.specs.Prelude.{◌≡◌, pos, negsuc, ◌≤ℤ◌, ◌+ℤ◌};
-ghost use Rattle.oth_search.specs.Bound.{IsThreshold, Decides};
+ghost use Rattle.oth_search.specs.Interval.{IsThreshold, Decides};
 
 use crate::cells::Cells;
 use crate::interval::Interval;

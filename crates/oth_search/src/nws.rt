@@ -4,7 +4,7 @@ ghost use Rattle.oth_rules.specs.Square.{word_of};
 ghost use Rattle.oth_rules.specs.Move.{is_legal, can_move};
 ghost use Rattle.oth_rules.specs.Score.{score_of};
 ghost use Rattle.oth_rules.specs.Value.{value};
-ghost use Rattle.oth_search.specs.Bound.{BoundsAt, IsThreshold};
+ghost use Rattle.oth_search.specs.Interval.{BoundsAt, IsThreshold};
 
 use crate::last::nws_last;
 use crate::quadrant::quadrant_of;

@@ -74,7 +74,7 @@ pub fn guessed_score<C: Cells>(root: &Board, cells: &mut C, scoring: Scoring) ->
         return 0;
     }
     let mut replies = replies_of(&Solved::unknown(*root, scoring), &[]);
-    -guess(replies.as_mut_slice(), cells)
+    -guess(replies.as_mut_slice(), 0, cells)
 }
 
 /// Narrows what is known of the replies until it answers what is asked.
@@ -142,7 +142,7 @@ pub(crate) fn start<C: Cells>(replies: &mut [Solved], limit: i8, empties: u8, ce
     if empties < FEWEST_EMPTIES_GUESSED {
         return 0;
     }
-    guess(replies, cells)
+    guess(replies, 0, cells)
 }
 
 // The place of a reply with at most the least value that is found to be reached, from the start up to the limit.

@@ -3,7 +3,7 @@ ghost use Rattle.std.specs.Prelude.{◌≡◌, ℤ, ◌<◌, pos, ◌+ℤ◌};
 ghost use Rattle.oth_rules.specs.Score.{score_of};
 ghost use Rattle.oth_rules.specs.Value.{value};
 ghost use Rattle.oth_rules.specs.Symmetry.{canonical};
-ghost use Rattle.oth_search.specs.Bound.{IsThreshold, IsWindow, Encloses, Decides, IsOpen};
+ghost use Rattle.oth_search.specs.Interval.{IsThreshold, IsWindow, Encloses, Decides, IsOpen};
 
 use crate::cells::Cells;
 use crate::deep::{known, nws_with};

@@ -6,7 +6,7 @@ ghost use Rattle.oth_rules.specs.Move.{can_move, after};
 ghost use Rattle.oth_rules.specs.Laws.{IsLegal};
 ghost use Rattle.oth_rules.specs.Score.{score_of};
 ghost use Rattle.oth_rules.specs.Value.{value};
-ghost use Rattle.oth_search.specs.Bound.{IsWider, IsInterval, Encloses, BoundsAt};
+ghost use Rattle.oth_search.specs.Interval.{IsWider, IsInterval, Encloses, BoundsAt};
 
 use crate::answer::Answer;
 use crate::interval::{Interval, greater, lesser};

@@ -5,7 +5,7 @@ ghost use Rattle.oth_rules.specs.Move.{can_move, is_over};
 ghost use Rattle.oth_rules.specs.Score.{score_of};
 ghost use Rattle.oth_rules.specs.Value.{value};
 ghost use Rattle.oth_rules.specs.Laws.{IsScore};
-ghost use Rattle.oth_search.specs.Bound.{Encloses, Decides};
+ghost use Rattle.oth_search.specs.Interval.{Encloses, Decides};
 ghost use Rattle.oth_search.specs.Full.{IsFullMinimax};
 
 use crate::answer::Answer;

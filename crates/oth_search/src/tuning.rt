@@ -87,7 +87,7 @@ pub(crate) const MARGIN: i16 = 30;
 pub(crate) const FEWEST_EMPTIES_AHEAD: u8 = 12;
 
 /// Empty squares of the parent: from here on it is that after three plies, by a search over evaluations.
-pub(crate) const FEWEST_EMPTIES_THREE_AHEAD: u8 = 17;
+pub(crate) const FEWEST_EMPTIES_THREE_AHEAD: u8 = 16;
 
 /// Empty squares of the parent: from here on it is that after four plies.
 pub(crate) const FEWEST_EMPTIES_FOUR_AHEAD: u8 = 19;
@@ -170,18 +170,22 @@ pub(crate) const MOST_RANKED: usize = 12;
 /// Empty squares: from here on it ranks children by their evaluation.
 pub(crate) const FEWEST_EMPTIES_GUESS_LOOKED: u8 = 13;
 
+/// Empty squares: at nodes with more the guess looks no further ahead than at one with so many, which is a ply. Looks
+/// of more plies make it dearer and no nearer.
+pub(crate) const MOST_EMPTIES_GUESS_LOOKED: u8 = 14;
+
 /// Null windows of one guess, at the most.
 pub(crate) const GUESS_ROUNDS: u8 = 12;
 
-/// Discs: the first step of a guess away from 0, which doubles each time.
+/// Discs: the first step of a guess away from where it starts, which doubles each time.
 pub(crate) const FIRST_GUESS_STEP: i8 = 8;
 
 /// Rounds: how often a first guess that no move reaches is lowered by a step before the least possible score is tried.
 pub(crate) const START_ROUNDS: u8 = 6;
 
 /// Empty squares: up to here the score of the sibling before starts the search of a child, where the scores of all
-/// moves are asked for. Beyond it a guess is nearer.
-pub(crate) const MOST_EMPTIES_BY_SIBLING: u8 = 15;
+/// moves are asked for. Beyond it a guess that starts there is nearer.
+pub(crate) const MOST_EMPTIES_BY_SIBLING: u8 = 13;
 
 /// Discs: the widest step from one null window to the next of a search for a value.
 pub(crate) const WIDEST_STEP: i8 = 63;

@@ -4,6 +4,7 @@ ghost use Rattle.oth_rules.specs.Laws.{IsScore};
 
 use crate::cells::Cells;
 use crate::combining::known_below;
+use crate::guess::guess;
 use crate::interval::{Interval, greater, lesser};
 use crate::observer::Observer;
 use crate::root::{Quest, replies_of, settle, start};
@@ -13,8 +14,8 @@ use arrayvec::ArrayVec;
 
 /// The board with its value, by what is known of it and a search. Of the boards after its moves one is searched to its
 /// value, and each other only so far that it is no better for the mover. The observer hears of each search of one of
-/// them. A sibling, a board after another move of the same parent, tells which score is asked for first: that of
-/// siblings is often near. No value depends on it.
+/// them. A sibling, a board after another move of the same parent, tells which score is asked for first, or where a
+/// guess of it starts: that of siblings is often near. No value depends on it.
 pub fn value_of<C: Cells, O: Observer<C>>(
     known: &Solved,
     sibling: Option<&Solved>,
@@ -32,13 +33,10 @@ pub fn value_of<C: Cells, O: Observer<C>>(
     known.joined(&told).exact(cells)
 }
 
-// The score of a sibling, as the side sees it that moves first on this board, if it is of use.
+// The score of a sibling, as the side sees it that moves first on this board.
 fn likely_score(known: &Solved, sibling: Option<&Solved>) -> Option<i8>
     ensures { IfSome result IsScore }
 {
-    if known.board.empties() > MOST_EMPTIES_BY_SIBLING {
-        return None;
-    }
     let score = sibling?.interval.upper;
     Some(if known.board.can_move() {
         score
@@ -68,7 +66,8 @@ fn settled_replies<C: Cells, O: Observer<C>>(
     replies
 }
 
-// The value that a reply is first asked for: by the root's likely score, or else as `start` tells.
+// The value that a reply is first asked for: by the root's likely score where few squares are empty, by a guess from
+// there where many are, and as `start` tells where no score is likely.
 fn first_asked<C: Cells>(
     root: &Solved,
     replies: &mut [Solved],
@@ -80,10 +79,14 @@ fn first_asked<C: Cells>(
     ensures score { IsScore result }
     ensures fixed { C.fixed cells.new ≡ C.fixed cells.old }
 {
-    if let Some(score) = likely {
-        return -within(root.interval, score);
+    let Some(score) = likely else {
+        return start(replies, -root.interval.lower, root.board.empties(), cells);
+    };
+    let likely = -within(root.interval, score);
+    if root.board.empties() <= MOST_EMPTIES_BY_SIBLING {
+        return likely;
     }
-    start(replies, -root.interval.lower, root.board.empties(), cells)
+    guess(replies, lesser(63, likely), cells)
 }
 
 // The score of the interval that is nearest to this one.

@@ -4,7 +4,7 @@ ghost use Rattle.oth_rules.specs.Position.{empty_count};
 ghost use Rattle.oth_rules.specs.Move.{can_move};
 ghost use Rattle.oth_rules.specs.Score.{score_of};
 ghost use Rattle.oth_rules.specs.Value.{value};
-ghost use Rattle.oth_search.specs.Bound.{WithinAt, IsInner};
+ghost use Rattle.oth_search.specs.Interval.{WithinAt, IsInner};
 
 use crate::cells::Cells;
 use crate::deep::nws_with;

@@ -7,7 +7,7 @@ use Rattle.oth_table.specs.History.{makes, author, owner, claims, IsLegal, Ends,
 use Rattle.oth_table.specs.Cells.{held}
 use Rattle.oth_table.specs.Alone.{IsOwn, IsAlone, IsUsedAlone, LooksAlone, PutsAlone, CountsAlone, SearchesAlone, StoresAlone}
 use Rattle.oth_rules.specs.Position.{Position}
-use Rattle.oth_table.specs.Calls.{Looks, Puts}
+use Rattle.oth_table.specs.SharedTable.{Looks, Puts}
 use Rattle.oth_table.specs.Choices.{picked_of, place_of, second_of}
 use Rattle.oth_table.specs.Pairs.{LooksBoth}
 use Rattle.oth_table.specs.Parts.{Use}

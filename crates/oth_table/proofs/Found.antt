@@ -4,7 +4,7 @@ use Rattle.std.specs.Prelude.{Option, Some, None, IfSome, if◌then◌else◌, �
 use Rattle.std.specs.Option.{option_or}
 use Rattle.oth_rules.specs.declared.scoring.Scoring.{Scoring}
 use Rattle.oth_rules.specs.Position.{Position}
-use Rattle.oth_search.specs.Entries.{Bounded}
+use Rattle.oth_search.specs.Entry.{Bounded}
 use Rattle.oth_search.proofs.Entries.{same_board_words}
 use Rattle.oth_table.specs.declared.history.Terms.{Terms}
 use Rattle.oth_table.specs.declared.history.Event.{Event}
@@ -12,7 +12,7 @@ use Rattle.oth_table.specs.declared.table.Look.{Look}
 use Rattle.oth_table.specs.declared.table.Look.TheVariants.{Empty, Whole, Busy}
 use Rattle.oth_history.specs.History.{Name}
 use Rattle.oth_table.specs.declared.table.Put.{Put}
-use Rattle.oth_table.specs.Calls.{Looks, Puts, IsFoundBy}
+use Rattle.oth_table.specs.SharedTable.{Looks, Puts, IsFoundBy}
 use Rattle.oth_table.specs.Choices.{entry_in}
 use Rattle.oth_table.specs.Parts.{Use, Fixed, fixed_of}
 use Rattle.oth_table.specs.Pairs.{LooksAt, PutsAt}

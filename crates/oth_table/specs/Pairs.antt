@@ -6,11 +6,11 @@
 use Rattle.std.specs.Prelude.{◌≡◌, ◌≢◌, ℕ, List, Option}
 use Rattle.std.specs.Option.{option_or}
 use Rattle.oth_rules.specs.Position.{Position}
-use Rattle.oth_search.specs.Entries.{Bounded}
+use Rattle.oth_search.specs.Entry.{Bounded}
 use Rattle.oth_table.specs.declared.history.Event.{Event}
 use Rattle.oth_table.specs.declared.table.Look.{Look}
 use Rattle.oth_table.specs.declared.table.Put.{Put}
-use Rattle.oth_table.specs.Calls.{Looks, Puts}
+use Rattle.oth_table.specs.SharedTable.{Looks, Puts}
 use Rattle.oth_table.specs.Choices.{place_of, second_of, entry_in, picked_of}
 use Rattle.oth_table.specs.Parts.{Use}
 

@@ -2,7 +2,7 @@
 ghost use Rattle.std.specs.Prelude.{◌≡◌, ◌≢◌, ◌<◌, IfSome, None};
 ghost use Rattle.oth_rules.specs.Symmetry.{IsCanonical};
 ghost use Rattle.oth_table.specs.Sizes.{IsSize};
-ghost use Rattle.oth_table.specs.Calls.{IsSeatOf, IsFoundBy};
+ghost use Rattle.oth_table.specs.SharedTable.{IsSeatOf, IsFoundBy};
 ghost use Rattle.oth_table.specs.Pairs.{LooksAt, PutsAt, LooksBoth, LooksFor, PutsFor};
 ghost use Rattle.oth_table.specs.Parts.{fixed_of};
 
@@ -22,7 +22,7 @@ pub struct TableCells<'a> {
 
 impl<'a> Model for TableCells<'a> {
     ghost use Rattle.oth_table.specs.Parts.{Use};
-    ghost use Rattle.oth_table.specs.Calls.{IsSeatOf};
+    ghost use Rattle.oth_table.specs.SharedTable.{IsSeatOf};
 
     ghost Value = { Use };
 

@@ -3,7 +3,7 @@
 //! models?, 2012).
 ghost use Rattle.std.specs.Prelude.{◌≡◌, ℕ, MatchBool, Option, ◌+◌, ◌*◌, ◌/◌, ◌%◌, ◌^◌, ◌<◌, ◌≤◌, List, [], Some, IfOk};
 ghost use Rattle.std.specs.Prelude.{IfErr, ◌-◌};
-ghost use Rattle.oth_search.specs.Entries.{Bounded, joined, words_of};
+ghost use Rattle.oth_search.specs.Entry.{Bounded, joined, words_of};
 ghost use Rattle.oth_history.specs.History.{Since};
 ghost use Rattle.oth_table.specs.Cells.{first_word};
 ghost use Rattle.oth_table.specs.History.{author, Ends, IsLegal, publishes};
@@ -11,7 +11,8 @@ ghost use Rattle.oth_table.specs.Steps.{glanced, read, checked, aimed, claimed, 
 ghost use Rattle.oth_table.specs.Steps.{IsSameSeat, IsReading, IsClaimed, Stays, Did, WentAway, Claims, WillKeep};
 ghost use Rattle.oth_table.specs.Steps.{MayReadClaimed, MayStore, MayPublish};
 ghost use Rattle.oth_table.specs.Sizes.{IsSize};
-ghost use Rattle.oth_table.specs.Calls.{IsWear, Refuses, Opens, IsSeatOf, IsSame, IsFoundBy, Looks, Puts, Makes, Meet};
+ghost use Rattle.oth_table.specs.SharedTable.{IsWear, Refuses, Opens, IsSeatOf, IsSame, IsFoundBy};
+ghost use Rattle.oth_table.specs.SharedTable.{Looks, Puts, Makes, Meet};
 ghost use Rattle.oth_table.specs.declared.history.Stage.TheVariants.{Idle, Reading};
 ghost use Rattle.oth_table.specs.declared.table.TableError.TheVariants as refusal;
 ghost use Rattle.oth_table.specs.declared.history.Event.TheVariants as event;

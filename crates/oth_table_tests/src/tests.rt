@@ -5,7 +5,7 @@ mod refused;
 
 ghost use Rattle.std.specs.Prelude.{◌≡◌, ◌+◌, ◌<◌, IfSome};
 ghost use Rattle.std.specs.Thread.{IsSync};
-ghost use Rattle.oth_table.specs.Calls.{IsSeatOf};
+ghost use Rattle.oth_table.specs.SharedTable.{IsSeatOf};
 ghost use Rattle.oth_rules.specs.declared.scoring.Scoring.TheVariants.{Winner};
 
 use oth_rules::{Board, Scoring};

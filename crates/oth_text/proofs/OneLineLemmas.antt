@@ -14,7 +14,7 @@ use Rattle.oth_rules.specs.Score.{score_of}
 use Rattle.oth_rules.specs.Value.{value}
 use Rattle.oth_rules.specs.declared.scoring.Scoring.{Scoring}
 use Rattle.oth_rules.proofs.SearchLaws.{IsScore-value}
-use Rattle.oth_search.specs.Answers.{kind_of}
+use Rattle.oth_search.specs.Answer.{kind_of}
 use Rattle.oth_search.specs.declared.kind.Kind.{Kind}
 use Rattle.oth_search.specs.declared.kind.Kind.TheVariants.{Move, Pass, End}
 use Rattle.oth_text.specs.declared.position.Side.{Side}

@@ -11,7 +11,7 @@ use Rattle.oth_rules.specs.Move.{legal_squares}
 use Rattle.oth_rules.specs.Score.{score_of}
 use Rattle.oth_rules.specs.Value.{value, is_best}
 use Rattle.oth_rules.specs.declared.scoring.Scoring.{Scoring}
-use Rattle.oth_search.specs.Answers.{kind_of}
+use Rattle.oth_search.specs.Answer.{kind_of}
 use Rattle.oth_search.specs.declared.kind.Kind.{Kind}
 use Rattle.oth_search.specs.declared.kind.Kind.TheVariants.{Move, Pass, End}
 

@@ -2,7 +2,7 @@
 
 ghost use Rattle.std.specs.Prelude.{IfOk};
 ghost use Rattle.oth_search.specs.Full.{IsFullMinimax};
-ghost use Rattle.oth_table.specs.Calls.{IsSeatOf};
+ghost use Rattle.oth_table.specs.SharedTable.{IsSeatOf};
 
 use oth_rules::{Board, Scoring};
 use oth_search::{Answer, solve_with};

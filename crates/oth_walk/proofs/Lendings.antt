@@ -4,7 +4,7 @@ use Rattle.std.proofs.lemmas.List.Elements.{All-nil, All-cons, All-append}
 use Rattle.oth_history.specs.History.{Name, Begins, events_of, EndsBy}
 use Rattle.oth_history.proofs.Histories.{begins_then, ends_begins, events_of-own, events_of-since}
 use Rattle.oth_table.specs.Parts.{Use, Shape, Sitting}
-use Rattle.oth_table.specs.Calls.{Makes}
+use Rattle.oth_table.specs.SharedTable.{Makes}
 use Rattle.oth_table.specs.History as tables
 use Rattle.oth_table.specs.declared.history.Event as table_events
 use Rattle.oth_pieces.specs.History.{author, makes, Fits, IsLegal}

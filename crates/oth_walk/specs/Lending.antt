@@ -5,7 +5,7 @@
 use Rattle.std.specs.Prelude.{◌≡◌, List, ◌++◌, Option, Some, None, All}
 use Rattle.oth_history.specs.History.{Name, Begins, events_of}
 use Rattle.oth_table.specs.Parts.{Use}
-use Rattle.oth_table.specs.Calls.{IsSame}
+use Rattle.oth_table.specs.SharedTable.{IsSame}
 use Rattle.oth_table.specs.History as tables
 use Rattle.oth_pieces.specs.History.{author, makes, IsLegal}
 use Rattle.oth_pieces.specs.Watch as floors

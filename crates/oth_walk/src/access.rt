@@ -1,7 +1,7 @@
 //! A table as workers get at it, and the cells that one worker has of it.
 ghost use Rattle.std.specs.Prelude.{◌≡◌, IfSome};
 ghost use Rattle.oth_rules.specs.Symmetry.{IsCanonical};
-ghost use Rattle.oth_table.specs.Calls.{IsSeatOf};
+ghost use Rattle.oth_table.specs.SharedTable.{IsSeatOf};
 ghost use Rattle.oth_walk.specs.Lending.{LendsSeat, LendsTable};
 
 use crate::scene::Plan;
@@ -20,7 +20,7 @@ pub struct TableAccess<'t> {
 
 impl<'t> Model for TableAccess<'t> {
     ghost use Rattle.oth_table.specs.Parts.{Use};
-    ghost use Rattle.oth_table.specs.Calls.{IsSeatOf};
+    ghost use Rattle.oth_table.specs.SharedTable.{IsSeatOf};
 
     ghost Value = { Use };
 
@@ -71,7 +71,7 @@ impl<'t> WorkerCells<'t> {
     pub fn of(alloc: Global, plan: Plan, access: &mut Option<TableAccess<'t>>) -> WorkerCells<'t>
         ensures lends { LendsTable access.old access.new }
     {
-        let memories = Memories::of(alloc, plan.root, plan.is_alone);
+        let memories = Memories::of(alloc, plan.root, plan.is_alone());
         match access {
             Some(access) => WorkerCells {
                 cells: access.cells(alloc),

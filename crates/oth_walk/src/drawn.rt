@@ -49,7 +49,7 @@ fn search_drawn<G: Gate, C: Cells>(
     let Some(root_move) = RootMove::of(scene.root, item.square) else {
         return walk.look_up(&item.board);
     };
-    if !walk.plan.shares {
+    if !walk.plan.shares() {
         settle_alone(&root_move, walk);
         return walk.look_up(&item.board);
     }
@@ -113,7 +113,7 @@ fn search_elder_brother<C: Cells>(root_move: &RootMove, board: &Board, walk: &mu
 
 /// Searches what is open of the root's moves, when no item is left.
 pub fn settle_all<G: Gate, C: Cells>(scene: &Scene, gate: &G, walk: &mut Walk<C>) {
-    let rounds = if walk.plan.shares { SWEEPS } else { 1 };
+    let rounds = if walk.plan.shares() { SWEEPS } else { 1 };
     let squares = moves_of(scene, walk);
     for round in 0..rounds {
         for square in squares.as_slice() {
@@ -127,7 +127,7 @@ pub fn settle_all<G: Gate, C: Cells>(scene: &Scene, gate: &G, walk: &mut Walk<C>
 
 // Settles the move, unless it is left to another worker in this round.
 fn settle_in_round<C: Cells>(root_move: &RootMove, round: u32, walk: &mut Walk<C>) {
-    let together = walk.plan.shares && walk.settled() < MOVES_TOGETHER;
+    let together = walk.plan.shares() && walk.settled() < MOVES_TOGETHER;
     if together || round == LAST_SWEEP || !walk.is_taken(&root_move.child) {
         root_move.settle(walk);
     }

@@ -24,7 +24,7 @@ pub use hints::{HintSeat, Hints};
 pub use move_order::MoveOrder;
 pub use root_bound::RootBound;
 pub use root_move::RootMove;
-pub use scene::{Plan, Scene};
+pub use scene::{Plan, Scene, Sharing};
 pub use tuning::orders_for;
 pub use walk::Walk;
 pub use window::is_settled;

@@ -98,7 +98,7 @@ impl RootMove {
             return NullWindow::at(1 - least);
         }
         let guess = walk.guess(&self.root);
-        if walk.plan.guesses {
+        if walk.plan.guesses() {
             return shared_window(found, -guess.score);
         }
         if found == Interval::all() {

@@ -15,23 +15,29 @@ pub struct Scene<'s> {
     pub plan: Plan,
 }
 
+/// Who searches, and how one learns what another found.
+#[derive(Clone, Copy)]
+pub enum Sharing {
+    /// One worker, from whom nobody learns.
+    Alone,
+    /// Several without a table: each searches whole moves of the root, and learns no more than its floor.
+    Apart,
+    /// Several over one table.
+    OverTable,
+}
+
 /// How a search is made and shared out.
 #[derive(Clone, Copy)]
 pub struct Plan {
     pub scoring: Scoring,
+    /// How many squares of the root are empty: what a worker remembers of its own rests on it.
+    pub root: u8,
     /// Boards with fewer empty squares are searched to the end by whoever is there.
     pub fewest: u8,
     /// The moves of boards with more empty squares are searched by several workers together for longer, since what is
     /// searched in vain costs most there.
     pub dealt: u8,
-    /// Whether several workers learn from a table what the others found.
-    pub shares: bool,
-    /// Whether they make a guess together of where the search for the root's value starts.
-    pub guesses: bool,
-    /// How many squares of the root are empty: what a worker remembers of its own rests on it.
-    pub root: u8,
-    /// Whether there is one worker alone, and so none to learn from the table what it finds.
-    pub is_alone: bool,
+    pub sharing: Sharing,
 }
 
 impl Plan {
@@ -42,12 +48,14 @@ impl Plan {
         let (fewest, dealt) = shared_empties(empties);
         Plan {
             scoring,
+            root: empties,
             fewest,
             dealt,
-            shares: has_table,
-            guesses: has_table && empties >= FEWEST_EMPTIES_GUESSED_TOGETHER,
-            root: empties,
-            is_alone: false,
+            sharing: if has_table {
+                Sharing::OverTable
+            } else {
+                Sharing::Apart
+            },
         }
     }
 
@@ -56,8 +64,23 @@ impl Plan {
         ensures { result.scoring ≡ self.scoring }
     {
         Plan {
-            is_alone: true,
+            sharing: Sharing::Alone,
             ..self
         }
+    }
+
+    /// Whether several workers learn from a table what the others found.
+    pub fn shares(&self) -> bool {
+        matches!(self.sharing, Sharing::OverTable)
+    }
+
+    /// Whether they make a guess together of where the search for the root's value starts.
+    pub fn guesses(&self) -> bool {
+        self.shares() && self.root >= FEWEST_EMPTIES_GUESSED_TOGETHER
+    }
+
+    /// Whether nobody learns what a worker finds.
+    pub fn is_alone(&self) -> bool {
+        matches!(self.sharing, Sharing::Alone)
     }
 }

@@ -105,7 +105,7 @@ impl<'w, C: Cells> Walk<'w, C> {
 
     // Makes a guess, together with the others where that pays.
     fn make_guess(&mut self, root: &Board) {
-        if !self.plan.guesses {
+        if !self.plan.guesses() {
             self.guess = Some(self.guess_alone(root));
             return;
         }
@@ -122,7 +122,7 @@ impl<'w, C: Cells> Walk<'w, C> {
 
     // A guess by this worker alone, where others can't learn from it, or without a search where the board is small.
     fn guess_alone(&mut self, root: &Board) -> Guess {
-        let score = if self.plan.shares {
+        let score = if self.plan.shares() {
             0
         } else {
             guessed_score(root, &mut self.cells, self.plan.scoring)
@@ -224,7 +224,7 @@ impl<'w, C: Cells> Walk<'w, C> {
 
     /// Whether another worker seems to search the board, of which this one could learn what it finds.
     pub(crate) fn is_left(&mut self, board: &Board) -> bool {
-        self.plan.shares && self.is_taken(board)
+        self.plan.shares() && self.is_taken(board)
     }
 
     /// Marks the board as one that is being searched.

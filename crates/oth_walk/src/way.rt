@@ -165,7 +165,7 @@ impl<'w, C: Cells> Company<C> for Way<'w> {
 
     // Another worker seems to search the board, of which this one could learn what it finds.
     fn is_left(&mut self, board: &Board) -> bool {
-        self.plan.shares && self.hints.is_searched(board)
+        self.plan.shares() && self.hints.is_searched(board)
     }
 
     fn begin(&mut self, board: &Board) {
@@ -178,7 +178,7 @@ impl<'w, C: Cells> Company<C> for Way<'w> {
 
     fn enter(&mut self, board: &Board, window: NullWindow) -> usize {
         let depth = self.goals.len();
-        if self.plan.shares {
+        if self.plan.shares() {
             let (image, _) = board.canonical();
             let _ = self.goals.push(Goal { image, window });
         }

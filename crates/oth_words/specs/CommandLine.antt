@@ -12,6 +12,8 @@ use Rattle.clap.specs.Kinds.{HasKind}
 use Rattle.clap.specs.Walk.{texts}
 use Rattle.clap.specs.Words.{App, Row, Rule, Text, fault_of, first_of, kind_of, new_app, new_rule, one_of, subcommand_of, takes, with_rule, with_subcommand}
 use Rattle.clap.specs.declared.builder.action.ArgAction.TheVariants.{Set}
+use Rattle.clap.specs.declared.builder.texts.Texts.{Texts}
+use Rattle.clap.specs.declared.builder.texts.Texts.TheVariants.{One, Many}
 use Rattle.clap.specs.declared.builder.value_parser.ValueParser.TheVariants as parser
 use Rattle.oth_rules.specs.declared.scoring.Scoring.{Scoring}
 use Rattle.oth_rules.specs.declared.scoring.Scoring.TheVariants.{Winner, Discs}
@@ -26,6 +28,11 @@ use Rattle.oth_words.specs.declared.settings.Words.TheVariants.{Run, Verify, Add
 -- an option with one value, which has a name in help
 abbrev pub option_rule : Text → Rule
 option_rule name = record (new_rule name) { long = Some name; action = Some Set; value_names = 1 }
+
+-- what help calls the value of an option
+abbrev pub IsCalled : Texts → Text → Type 0
+IsCalled (One name) called = name.now ≡ called
+IsCalled (Many names) called = ⊥
 
 -- an option with a number, which has a default
 abbrev pub number_option : Text → ℕ → ℕ → Text → Rule

@@ -6,7 +6,8 @@ ghost use Rattle.clap.specs.Words.{app_of, first_of, found_of, kind_of, new_app,
 ghost use Rattle.clap.specs.Words.{subcommand_of, subcommand_rows_of, takes};
 ghost use Rattle.clap.specs.declared.builder.command.Command.TheViews.{out-Command};
 ghost use Rattle.clap.specs.declared.builder.texts.Texts.TheVariants.{One};
-ghost use Rattle.oth_words.specs.CommandLine.{AreScorings, HasNumbers, IsNumber, IsPlain, IsReading, Meaning, Means};
+ghost use Rattle.oth_words.specs.CommandLine.{AreScorings, HasNumbers, IsCalled, IsNumber, IsPlain, IsReading};
+ghost use Rattle.oth_words.specs.CommandLine.{Meaning, Means};
 ghost use Rattle.oth_words.specs.CommandLine.{ScoringWords, add_app, book_rule, cells_rule, file_rule, meaning_of};
 ghost use Rattle.oth_words.specs.CommandLine.{option_rule, othsolve, run, scores_app, scoring_rule, scoring_word};
 ghost use Rattle.oth_words.specs.CommandLine.{searcher_app, solve_app, titled, verify_app, workers_rule};
@@ -165,6 +166,7 @@ fn option<'a>(alloc: Global, name: &'a str, value: &'a str) -> Arg<'a>
 // The option `--workers N`.
 fn workers_option<'a>(alloc: Global) -> Arg<'a>
     ensures rule { rule_of result ≡ workers_rule }
+    ensures value { IsCalled result.val_names (codes "N") }
     ensures local { result.global ≡ false }
 {
     option(alloc, "workers", "N")
@@ -176,6 +178,7 @@ fn workers_option<'a>(alloc: Global) -> Arg<'a>
 // The option `--cells N`.
 fn cells_option<'a>(alloc: Global) -> Arg<'a>
     ensures rule { rule_of result ≡ cells_rule }
+    ensures value { IsCalled result.val_names (codes "N") }
     ensures local { result.global ≡ false }
 {
     option(alloc, "cells", "N")
@@ -190,6 +193,7 @@ fn cells_option<'a>(alloc: Global) -> Arg<'a>
 // The option `--scoring`, with its two words.
 fn scoring_option<'a>(alloc: Global, scorings: &'a [&'a str]) -> Arg<'a>
     ensures rule { rule_of result ≡ scoring_rule scorings.entry }
+    ensures value { IsCalled result.val_names (codes "SCORING") }
     ensures local { result.global ≡ false }
 {
     option(alloc, "scoring", "SCORING")
@@ -204,6 +208,7 @@ fn scoring_option<'a>(alloc: Global, scorings: &'a [&'a str]) -> Arg<'a>
 // The option `--book FILE`.
 fn book_option<'a>(alloc: Global) -> Arg<'a>
     ensures rule { rule_of result ≡ book_rule }
+    ensures value { IsCalled result.val_names (codes "FILE") }
     ensures local { result.global ≡ false }
 {
     option(alloc, "book", "FILE").help(
@@ -214,6 +219,7 @@ fn book_option<'a>(alloc: Global) -> Arg<'a>
 // The argument `FILE` of the commands of the book.
 fn file_argument<'a>(alloc: Global) -> Arg<'a>
     ensures rule { rule_of result ≡ file_rule }
+    ensures value { IsCalled result.val_names (codes "FILE") }
     ensures local { result.global ≡ false }
 {
     Arg::new(alloc, "file")

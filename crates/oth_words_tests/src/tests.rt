@@ -2,7 +2,7 @@
 use clap::Error;
 use clap::error::ErrorKind;
 use oth_rules::Scoring;
-use oth_words::{Command, Settings, Words, read_words};
+use oth_words::{Command, DEFAULT_CELLS, Settings, Words, read_words};
 use std::alloc::Global;
 
 fn kind_of_error(alloc: Global, words: &[&str]) -> Option<ErrorKind> {
@@ -23,7 +23,10 @@ const DEFAULTS: Settings = Settings {
 fn solve_has_defaults_and_takes_values(rt: HostRuntime) {
     let words = ["othsolve", "solve"];
     match read_words(rt.alloc(), words.as_slice()).expect(&rt, "words") {
-        Words::Run(settings, None) => assert!(rt; settings == DEFAULTS),
+        Words::Run(settings, None) => {
+            assert!(rt; settings == DEFAULTS);
+            assert!(rt; settings.cells == DEFAULT_CELLS);
+        }
         _ => panic!(rt; "another command"),
     }
     let words = [

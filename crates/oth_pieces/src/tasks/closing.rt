@@ -1,7 +1,7 @@
 //! What all hands hold, when they are closed, and the numbers that none of them drew.
 ghost use Rattle.std.specs.Prelude.{◌≡◌, ◌+◌, ◌<◌, ◌≤◌, true, false, map, length, slice_index_or, vec_len, ℕ};
 ghost use Rattle.oth_pieces.specs.Hands.{HasRoom, HasPlace};
-ghost use Rattle.oth_pieces.specs.Drawing.{times_in_all, left_of};
+ghost use Rattle.oth_pieces.specs.Drawn.{times_in_all, left_of};
 
 use super::state::{Hand, Parts};
 use crate::frontier::MOST_ITEMS;

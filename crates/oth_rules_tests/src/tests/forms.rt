@@ -2,7 +2,7 @@
 //! them, and on the images of both.
 
 use super::{START, board, check_forms};
-use oth_rules::samples::after_least_moves;
+use oth_rules::samples::{self, after_least_moves};
 use oth_rules::{Board, Square, Sym};
 use std::process::Abort;
 
@@ -93,4 +93,24 @@ fn forms_on_the_boards_of_the_least_moves(rt: HostRuntime) {
         fewest = board.empties();
     }
     assert!(rt; fewest < 10);
+}
+
+// The boards to which the least-numbered moves lead from the start, at so many empty squares, as another program plays
+// them.
+const LEAST_MOVES: [(u8, u64, u64); 5] = [
+    (60, 0x0000_0008_1000_0000, 0x0000_0010_0800_0000),
+    (59, 0x0000_0010_0000_0000, 0x0000_0008_1808_0000),
+    (30, 0x0000_0006_0e5f_3f7f, 0x0000_0139_3120_4000),
+    (10, 0x0180_e080_90a0_c080, 0x000f_1f7f_6f5f_3f7f),
+    (0, 0x3fb0_8880_90a0_c080, 0xc04f_777f_6f5f_3f7f),
+];
+
+#[test]
+fn the_least_moves_lead_to_these_boards(rt: HostRuntime) {
+    for (empties, own, opp) in LEAST_MOVES {
+        let board = after_least_moves(empties).expect(&rt, "a sample");
+        assert_eq!(rt; (board.own(), board.opp()), (own, opp));
+        let sample = samples::board([own, opp]);
+        assert!(rt; sample == if empties > 30 { None } else { Some(board) });
+    }
 }

@@ -1,7 +1,7 @@
 use Rattle.std.proofs.Common.{◌≡◌, [], arith, ap, ◌∙◌, length}
 use Rattle.oth_rules.specs.Position.{Position}
 use Rattle.oth_rules.specs.Move.{is_legal}
-use Rattle.oth_pieces.specs.Below.{move_of, moves_of}
+use Rattle.oth_pieces.specs.Frontier.{move_of, moves_of}
 use Rattle.oth_pieces.proofs.Belows.{items_below, grows, room, whole}
 use Rattle.oth_pieces.proofs.frontier.first_ply.Goals as goal
 

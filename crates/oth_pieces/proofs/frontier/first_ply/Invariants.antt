@@ -1,6 +1,6 @@
 use Rattle.std.proofs.Common.{◌≡◌}
 use Rattle.oth_rules.specs.Move.{is_legal}
-use Rattle.oth_pieces.specs.Below.{move_of}
+use Rattle.oth_pieces.specs.Frontier.{move_of}
 use Rattle.oth_pieces.proofs.Belows.{items_below}
 use Rattle.oth_pieces.proofs.frontier.first_ply.Given as goal
 

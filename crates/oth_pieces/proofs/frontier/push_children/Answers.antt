@@ -1,7 +1,7 @@
 use Rattle.std.proofs.Common.{◌≡◌, ◌++◌, ℕ, arith, ap, ◌∙◌, length}
 use Rattle.oth_rules.specs.Move.{is_legal, after}
 use Rattle.oth_pieces.specs.declared.frontier.item.Item.{Item}
-use Rattle.oth_pieces.specs.Below.{item_after, children}
+use Rattle.oth_pieces.specs.Frontier.{item_after, children}
 use Rattle.oth_pieces.proofs.Belows.{items_below, grows, room, whole}
 use Rattle.oth_pieces.proofs.frontier.push_children.Goals as goal
 

@@ -1,6 +1,6 @@
 use Rattle.std.proofs.Common.{◌≡◌, ◌++◌}
 use Rattle.oth_rules.specs.Move.{is_legal, after}
-use Rattle.oth_pieces.specs.Below.{item_after}
+use Rattle.oth_pieces.specs.Frontier.{item_after}
 use Rattle.oth_pieces.proofs.Belows.{items_below}
 use Rattle.oth_pieces.proofs.frontier.push_children.Given as goal
 

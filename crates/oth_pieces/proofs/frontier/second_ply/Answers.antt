@@ -1,7 +1,7 @@
 use Rattle.std.proofs.Common.{◌≡◌, List, ap, length, arith}
 use Rattle.std.specs.List.{flat_map}
 use Rattle.oth_pieces.specs.declared.frontier.item.Item.{Item}
-use Rattle.oth_pieces.specs.Below.{below}
+use Rattle.oth_pieces.specs.Frontier.{below}
 use Rattle.oth_pieces.proofs.Belows.{room_below}
 use Rattle.oth_pieces.proofs.frontier.second_ply.Goals as goal
 

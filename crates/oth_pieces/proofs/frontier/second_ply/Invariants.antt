@@ -1,6 +1,6 @@
 use Rattle.std.proofs.Common.{◌≡◌, take}
 use Rattle.std.specs.List.{flat_map}
-use Rattle.oth_pieces.specs.Below.{below}
+use Rattle.oth_pieces.specs.Frontier.{below}
 use Rattle.oth_pieces.proofs.frontier.second_ply.Given as goal
 
 abbrev pub invariant-loop-item : goal.invariant-loop-item

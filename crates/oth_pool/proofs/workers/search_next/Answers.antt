@@ -1,6 +1,6 @@
 use Rattle.std.proofs.Common.{ap, sym, ◌∙◌, refl, Some}
 use Rattle.std.specs.Prelude.{option_map}
-use Rattle.oth_pieces.specs.Below.{board_of}
+use Rattle.oth_pieces.specs.Frontier.{board_of}
 use Rattle.oth_pool.proofs.Workings.{ended, drew, replied}
 use Rattle.oth_pool.proofs.workers.search_next.Goals as goal
 

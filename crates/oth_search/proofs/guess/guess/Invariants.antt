@@ -1,7 +1,7 @@
 use Rattle.std.proofs.Common.{◌≡◌}
 use Rattle.std.specs.Prelude.{◌≤ℤ◌, pos}
 use Rattle.oth_rules.specs.Laws.{IsScore}
-use Rattle.oth_search.specs.Bound.{IsThreshold}
+use Rattle.oth_search.specs.Interval.{IsThreshold}
 use Rattle.oth_search.proofs.guess.guess.Given as goal
 
 abbrev pub invariant-loop : goal.invariant-loop

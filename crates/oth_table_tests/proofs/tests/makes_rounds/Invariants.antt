@@ -1,4 +1,4 @@
-use Rattle.oth_table.specs.Calls.{IsSeatOf}
+use Rattle.oth_table.specs.SharedTable.{IsSeatOf}
 use Rattle.oth_table_tests.proofs.tests.makes_rounds.Given as goal
 
 abbrev pub invariant-loop : goal.invariant-loop

@@ -1,5 +1,5 @@
 use Rattle.std.proofs.Common.{◌≡◌, take}
-use Rattle.oth_pieces.specs.Drawing.{times_in_all}
+use Rattle.oth_pieces.specs.Drawn.{times_in_all}
 use Rattle.oth_pieces.proofs.tasks.closing.is_drawn.Given as goal
 
 abbrev pub invariant-loop-list : goal.invariant-loop-list

@@ -1,5 +1,5 @@
 use Rattle.std.proofs.Common.{◌≡◌, ◌≤◌, length}
-use Rattle.oth_pieces.specs.Drawing.{left_of}
+use Rattle.oth_pieces.specs.Drawn.{left_of}
 use Rattle.oth_pieces.proofs.tasks.closing.left_of.Given as goal
 
 abbrev pub invariant-loop-number : goal.invariant-loop-number

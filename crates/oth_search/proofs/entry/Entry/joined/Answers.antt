@@ -1,5 +1,5 @@
 use Rattle.std.proofs.Common.{sym, ◌∙◌, subst, arith, ◌≡◌}
-use Rattle.oth_search.specs.Entries.{Bounded, IsTrueEntry}
+use Rattle.oth_search.specs.Entry.{Bounded, IsTrueEntry}
 use Rattle.oth_search.proofs.Entries.{closer_bounds, IsTrueEntry-narrowed, joined_same, same_board_words}
 use Rattle.oth_search.proofs.entry.Entry.joined.Goals as goal
 

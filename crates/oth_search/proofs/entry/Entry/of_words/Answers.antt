@@ -1,5 +1,5 @@
 use Rattle.std.proofs.Common.{sym, subst, refl}
-use Rattle.oth_search.specs.Entries.{IsTrueEntry}
+use Rattle.oth_search.specs.Entry.{IsTrueEntry}
 use Rattle.oth_search.proofs.Entries.{word_own, word_opp, word_bounds, apart_words, raised_low, raised_high, of_words_is}
 use Rattle.oth_search.proofs.entry.Entry.of_words.Goals as goal
 

@@ -1,5 +1,5 @@
 use Rattle.std.proofs.Common.{subst}
-use Rattle.oth_table.specs.Calls.{Puts}
+use Rattle.oth_table.specs.SharedTable.{Puts}
 use Rattle.oth_table.specs.Parts.{Use}
 use Rattle.oth_table.proofs.cells.TableCells.put_at.Goals as goal
 

@@ -1,5 +1,5 @@
 use Rattle.std.proofs.Common.{ap, ◌∙◌, subst}
-use Rattle.oth_table.specs.Calls.{IsFoundBy}
+use Rattle.oth_table.specs.SharedTable.{IsFoundBy}
 use Rattle.oth_table.specs.Parts.{Sitting}
 use Rattle.oth_table.specs.declared.history.Terms.{Terms}
 use Rattle.oth_table.proofs.Found.{found_by}

@@ -1,6 +1,6 @@
 use Rattle.std.proofs.Common.{◌∙◌, ap}
 use Rattle.oth_pieces.specs.declared.tasks.state.Drawn.{Drawn}
-use Rattle.oth_pieces.specs.Drawing.{left_of}
+use Rattle.oth_pieces.specs.Drawn.{left_of}
 use Rattle.oth_pieces.proofs.Closings.{closes, closed, lists_same}
 use Rattle.oth_pieces.proofs.tasks.state.Tasks.close.Goals as goal
 
