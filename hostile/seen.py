@@ -96,6 +96,12 @@ def cells_wrong(library, words, given):
     return f"{none}, {few} and {many} bytes are asked for"
 
 
+def book_wrong(library, words, boards):
+    """What is wrong with a run over a book and its boards, if anything: its answers are the book's, and no table is made for them."""
+    none, known = (counts(library, words, given)[1] for given in (b"", boards))
+    return None if 0 <= none and known < none + MORE_CELLS else f"{none} bytes are asked for without a line, and {known} with the book's boards"
+
+
 def settings(program, library, folder):
     """Each command that takes numbers of workers and of cells obeys them."""
     boards, large = board_lines(SEED, 8, 13), board_lines(SEED, 1, 18)
@@ -110,6 +116,7 @@ def settings(program, library, folder):
     ):
         yield f"4 workers are seen: {name}", threads_wrong(library, [program, *words], given)
         yield f"--cells {', '.join(CELLS)} are seen: {name}", cells_wrong(library, [program, *words], given)
+    yield "the book is asked: solve --book, its 8 boards", book_wrong(library, [program, "solve", "--book", book], boards)
     started = counts(library, [program, "book-verify", book], b"")[0]
     several = len(os.sched_getaffinity(0)) > 1
     yield "book-verify starts threads where there are processors", f"it starts {started}" if several and started < 1 else None

@@ -1,7 +1,9 @@
 //! The program: it reports the lines of standard input on standard output.
 #![tactic(auto)]
 
-ghost use Rattle.std.specs.Prelude.{◌≡◌, false};
+ghost use Rattle.std.specs.Prelude.{◌≡◌, ◌≤◌, ◌⊎◌, ◌↔◌, IfOk, IfErr, false, true};
+ghost use Rattle.oth_run.specs.Run.{AreLawful};
+ghost use Rattle.othsolve.specs.Program.{AreRefused, HasObeyed, HasReported};
 
 use oth_book::{Book, BookFault};
 use oth_main::{
@@ -141,7 +143,9 @@ fn explain<R: Read, W: Write, E: Sink>(
     reader: &FromRead<R>,
     writer: &ToWrite<W>,
     errors: &mut Errors<E>,
-) {
+)
+    ensures { errors.old.is_terminal ≡ false → errors.new ≡ errors.old }
+{
     let scene = Scene {
         file: file_name(words),
         input: reader.failure(),
@@ -160,7 +164,8 @@ fn file_name(words: &Words) -> &str {
     }
 }
 
-// Does what the words ask for.
+// Does what the words ask for. The status: 0, or 1 where a device fails or the file can't be read, or 2 exactly where
+// the settings are refused, or 3 where the file or an answer is.
 fn obey<T: Wait + Threads + Sync + Files + AllocGlobal, G: Gate, R: Source, W: Sink, E: Sink>(
     means: &Means<'_, T, G>,
     words: &Words,
@@ -170,6 +175,12 @@ fn obey<T: Wait + Threads + Sync + Files + AllocGlobal, G: Gate, R: Source, W: S
 ) -> u8
     requires reader { R.failed reader.old ≡ false }
     requires writer { W.failed writer.old ≡ false }
+    ensures done { result ≡ 0 → HasObeyed words.now (R.remaining reader.old) (R.remaining reader.new)
+        (W.contents writer.old) (W.contents writer.new) }
+    ensures works { result ≡ 0 → (W.failed writer.new ≡ false) × (W.flushed writer.new ≡ true) }
+    ensures refused { result ≡ 2 ↔ AreRefused words.now }
+    ensures untouched { result ≡ 2 → (reader.new ≡ reader.old) × (writer.new ≡ writer.old) }
+    ensures statuses { result ≤ 3 }
 {
     let rt = means.rt;
     match words {
@@ -210,6 +221,13 @@ fn report<T: Wait + Threads + Sync + AllocGlobal, G: Gate, R: Source, W: Sink, E
 ) -> u8
     requires reader { R.failed reader.old ≡ false }
     requires writer { W.failed writer.old ≡ false }
+    ensures done { result ≡ 0 → HasReported settings.now (R.remaining reader.old) (R.remaining reader.new)
+        (W.contents writer.old) (W.contents writer.new) }
+    ensures works { result ≡ 0 → (W.failed writer.new ≡ false) × (W.flushed writer.new ≡ true) }
+    ensures fails { result ≡ 1 → (R.failed reader.new ≡ true) ⊎ (W.failed writer.new ≡ true) }
+    ensures refused { result ≡ 2 ↔ (AreLawful settings.now → ⊥) }
+    ensures untouched { result ≡ 2 → (reader.new ≡ reader.old) × (writer.new ≡ writer.old) }
+    ensures statuses { result ≤ 2 }
 {
     let rt = means.rt;
     match run(rt, rt.alloc(), reader, writer, settings, means.gate, book) {
@@ -224,7 +242,11 @@ fn book_of<T: Threads + Sync + Files + AllocGlobal, E: Sink>(
     settings: &Settings,
     name: &str,
     errors: &mut Errors<E>,
-) -> Result<Book, u8> {
+) -> Result<Book, u8>
+    ensures lawful { IfOk result (λ book. AreLawful settings.now) }
+    ensures refused { IfErr result (λ s. s ≡ 2 ↔ (AreLawful settings.now → ⊥)) }
+    ensures statuses { IfErr result (λ s. (1 ≤ s) × (s ≤ 3)) }
+{
     let file = tested_file_of(rt, settings, name, errors)?;
     match open_book(
         rt,
@@ -250,7 +272,11 @@ fn tested_file_of<T: Files + AllocGlobal, E: Sink>(
     settings: &Settings,
     name: &str,
     errors: &mut Errors<E>,
-) -> Result<Vec<u8>, u8> {
+) -> Result<Vec<u8>, u8>
+    ensures lawful { IfOk result (λ file. AreLawful settings.now) }
+    ensures refused { IfErr result (λ s. s ≡ 2 ↔ (AreLawful settings.now → ⊥)) }
+    ensures statuses { IfErr result (λ s. (1 ≤ s) × (s ≤ 3)) }
+{
     match check_settings(settings) {
         Ok(()) => file_of(rt, name, errors),
         Err(fault) => Err(print_run_fault(fault, errors)),
@@ -262,7 +288,9 @@ fn file_of<T: Files + AllocGlobal, E: Sink>(
     rt: &T,
     name: &str,
     errors: &mut Errors<E>,
-) -> Result<Vec<u8>, u8> {
+) -> Result<Vec<u8>, u8>
+    ensures { IfErr result (λ s. (s ≡ 1) ⊎ (s ≡ 3)) }
+{
     match read_file(rt, name) {
         Ok(file) => Ok(file),
         Err(error) if error.kind() == ErrorKind::OutOfMemory => {
@@ -286,7 +314,9 @@ fn read_file<T: Files + AllocGlobal>(rt: &T, name: &str) -> io::Result<Vec<u8>> 
 }
 
 // What the words of the command line ask for. Where they can't be read, the reason is printed, and this is the status.
-fn words<R: Env + AllocGlobal + Print + Eprint>(rt: &R) -> Result<Words, u8> {
+fn words<R: Env + AllocGlobal + Print + Eprint>(rt: &R) -> Result<Words, u8>
+    ensures { IfErr result (λ s. s ≤ 2) }
+{
     let alloc = rt.alloc();
     let arguments = match arguments(rt) {
         Ok(arguments) => arguments,
