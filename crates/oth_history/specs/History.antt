@@ -54,8 +54,8 @@ module _ {E : Type 0} (author : E → Name) (makes : E → Option Name) where
     IsLegalBy [] = Unit {0}
     IsLegalBy (e ∷ h) = MayCome h e × Fits h e × IsLegalBy h
 
-    -- the seat s had seen `earlier`. Now it has seen a legal history that begins with it and ends with e, which is the one
-    -- further event of s
+    -- the seat s had seen `earlier`. Now it has seen a legal history that begins with it and ends with e, which is the one further
+    -- event of s
     pub record EndsBy (s : Name) (earlier later : List E) (e : E) : Type 0 where
       pub before : List E
       pub since : Since author s earlier before

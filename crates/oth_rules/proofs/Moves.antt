@@ -284,9 +284,7 @@ module _ (p : Position) (board : IsBoard p) where
   inner_fits : bit_and p.opp INNER < 2 ^ 64
   inner_fits = omega (arith, and_le_l p.opp INNER, board.opp_fits)
 
-  past_rising_four : bit_or
-      (bit_or (bit_or (past_rising_word 8 p.own p.opp) (past_rising_word 7 p.own (bit_and p.opp INNER)))
-          (past_rising_word 1 p.own (bit_and p.opp INNER)))
+  past_rising_four : bit_or (bit_or (bit_or (past_rising_word 8 p.own p.opp) (past_rising_word 7 p.own (bit_and p.opp INNER))) (past_rising_word 1 p.own (bit_and p.opp INNER)))
       (past_rising_word 9 p.own (bit_and p.opp INNER))
       ≡ word_of (λ s. list_any (outflanks p s) falling_directions)
   unfolding falling_directions
@@ -301,9 +299,7 @@ module _ (p : Position) (board : IsBoard p) where
       (past_west p (past_rising_word 1 p.own (bit_and p.opp INNER)) board (λ e r. past_rising e 1 p.own (bit_and p.opp INNER) board.own_fits inner_fits r))
       (past_north_west p (past_rising_word 9 p.own (bit_and p.opp INNER)) board (λ e r. past_rising e 9 p.own (bit_and p.opp INNER) board.own_fits inner_fits r))
 
-  past_falling_four : bit_or
-      (bit_or (bit_or (past_falling_word 1 p.own (bit_and p.opp INNER)) (past_falling_word 9 p.own (bit_and p.opp INNER)))
-          (past_falling_word 8 p.own p.opp))
+  past_falling_four : bit_or (bit_or (bit_or (past_falling_word 1 p.own (bit_and p.opp INNER)) (past_falling_word 9 p.own (bit_and p.opp INNER))) (past_falling_word 8 p.own p.opp))
       (past_falling_word 7 p.own (bit_and p.opp INNER))
       ≡ word_of (λ s. list_any (outflanks p s) rising_directions)
   unfolding rising_directions
