@@ -11,6 +11,6 @@ invariant_of-result-in-Some c =
     let same : s.board ≡ c.in-Some.child = search rules in
     record {
       encloses =
-          Encloses-lift s.scoring c.args.root.now s.board c.args.square _ s.interval.upper _ _ legal (same ∙ c.in-Some.ensures.moved.1)
-              s.encloses (omega (arith, ints)) (omega (arith, ints));
+          Encloses-lift s.scoring c.args.root.now s.board c.args.square _ s.interval.upper _ _ legal (same ∙ c.in-Some.ensures.moved.1) s.encloses (omega (arith, ints))
+          (omega (arith, ints));
     }

@@ -9,6 +9,6 @@ invariant_of-result g c =
     let k = c.known-found.result in
     record {
       encloses =
-          Encloses-known c.args.scoring k.scoring c.args.board.now c.canonical.result.0 k.board _ _ c.canonical.ensures.board
-              c.known-found.ensures.board c.known-found.ensures.scoring k.encloses;
+          Encloses-known c.args.scoring k.scoring c.args.board.now c.canonical.result.0 k.board _ _ c.canonical.ensures.board c.known-found.ensures.board c.known-found.ensures.scoring
+          k.encloses;
     }

@@ -6,6 +6,6 @@ invariant_of-result c =
     let s = c.args.self.now in
     record {
       encloses =
-          Encloses-passed s.scoring s.board _ s.interval.lower s.interval.upper _ _ c.pass.ensures c.requires.none c.requires.some
-              s.encloses c.turned.ensures.lower c.turned.ensures.upper;
+          Encloses-passed s.scoring s.board _ s.interval.lower s.interval.upper _ _ c.pass.ensures c.requires.none c.requires.some s.encloses c.turned.ensures.lower
+          c.turned.ensures.upper;
     }
