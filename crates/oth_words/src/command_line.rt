@@ -249,20 +249,6 @@ fn titled_command<'a>(
         .after_help(notes)
 }
 
-// The subcommand `solve` and its help, without options.
-fn titled_solve<'a>(alloc: Global) -> App<'a>
-    ensures app { app_of result ≡ new_app (codes "solve") }
-    ensures local { (out-Command result).has_globals ≡ false }
-{
-    titled_command(
-        alloc,
-        "solve",
-        "Writes the score and all best moves of each board line of standard input",
-        "othsolve solve [OPTIONS] < BOARDS",
-        SOLVE_NOTES,
-    )
-}
-
 // The subcommand with the options of a search.
 fn with_search_options<'a>(
     alloc: Global,
@@ -284,21 +270,14 @@ fn solve_command<'a>(alloc: Global, scorings: &'a [&'a str]) -> Result<App<'a>, 
     ensures app { IfOk result (λ c. app_of c ≡ solve_app scorings.entry) }
     ensures local { IfOk result (λ c. (out-Command c).has_globals ≡ false) }
 {
-    with_search_options(alloc, titled_solve(alloc), scorings)?.arg(book_option(alloc))
-}
-
-// The subcommand `scores` and its help, without options.
-fn titled_scores<'a>(alloc: Global) -> App<'a>
-    ensures app { app_of result ≡ new_app (codes "scores") }
-    ensures local { (out-Command result).has_globals ≡ false }
-{
-    titled_command(
+    let solve = titled_command(
         alloc,
-        "scores",
-        "Writes the score of every move of each board line of standard input",
-        "othsolve scores [OPTIONS] < BOARDS",
-        SCORES_NOTES,
-    )
+        "solve",
+        "Writes the score and all best moves of each board line of standard input",
+        "othsolve solve [OPTIONS] < BOARDS",
+        SOLVE_NOTES,
+    );
+    with_search_options(alloc, solve, scorings)?.arg(book_option(alloc))
 }
 
 // The subcommand `scores` with its options.
@@ -306,7 +285,14 @@ fn scores_command<'a>(alloc: Global, scorings: &'a [&'a str]) -> Result<App<'a>,
     ensures app { IfOk result (λ c. app_of c ≡ scores_app scorings.entry) }
     ensures local { IfOk result (λ c. (out-Command c).has_globals ≡ false) }
 {
-    with_search_options(alloc, titled_scores(alloc), scorings)
+    let scores = titled_command(
+        alloc,
+        "scores",
+        "Writes the score of every move of each board line of standard input",
+        "othsolve scores [OPTIONS] < BOARDS",
+        SCORES_NOTES,
+    );
+    with_search_options(alloc, scores, scorings)
 }
 
 // The subcommand `book-verify`.
