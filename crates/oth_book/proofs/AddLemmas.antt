@@ -1,5 +1,6 @@
 -- A book with one more entry.
-use Rattle.std.proofs.Common.{◌≡◌, ◌≢◌, ℕ, ◌+◌, ◌-◌, ◌<◌, ◌≤◌, ◌⊎◌, inl, inr, List, ◌∷◌, ◌++◌, length, take, drop, get_or, insert, All, AllPairs, arith, sym, ap, ◌∙◌, refl, suc, ℤ, pos, negsuc, ◌≤ℤ◌, cond, true, false, drop-cons, add-one}
+use Rattle.std.proofs.Common.{◌≡◌, ◌≢◌, ℕ, ◌+◌, ◌-◌, ◌<◌, ◌≤◌, ◌⊎◌, inl, inr, List, ◌∷◌, ◌++◌, length, take, drop, get_or, insert, All, AllPairs}
+use Rattle.std.proofs.Common.{arith, sym, ap, ◌∙◌, refl, suc, ℤ, pos, negsuc, ◌≤ℤ◌, cond, true, false, drop-cons, add-one}
 use Rattle.std.proofs.lemmas.List.{take-append-drop}
 use Rattle.std.proofs.lemmas.List.Edits.{length-insert, get_or-insert_at, get_or-insert_below, get_or-insert_above}
 use Rattle.std.proofs.lemmas.Bool.{cases_eq, cases_lt}
@@ -231,7 +232,8 @@ bounds_new g old new i e s (Ok added.Present) is inexact gap put = absurd (let n
 bounds_new g old new i e s (Ok added.Sharper) is inexact gap put = absurd (let no : added.Sharper ≡ added.New = put.inserted.0 in cc)
 bounds_new g old new i e s (Err why) is inexact gap put = tt
 
-pub bounds_refused : (g : Scoring) (old new : List Claim) (i : ℕ) (e : Claim) (s : Solved) (r : Result Added AddError) → IsAskable (book_of g old) s → e ≡ bounds_entry s → (IsExact e → ⊥) → IsGap old i e.board
+pub bounds_refused : (g : Scoring) (old new : List Claim) (i : ℕ) (e : Claim) (s : Solved) (r : Result Added AddError) → IsAskable (book_of g old) s → e ≡ bounds_entry s
+    → (IsExact e → ⊥) → IsGap old i e.board
     → IsPut old new i e r → IfErr r (λ why. AreRefused (book_of g old) s why)
 bounds_refused g old new i e s (Ok done) asked is inexact gap put = tt
 bounds_refused g old new i e s (Err refused.Memory) asked is inexact gap put = (asked, gap_absent old i (canonical s.board) (rw is at gap), rw is at inexact, put.full)
@@ -253,7 +255,8 @@ bounds_sharper g old i kept e d s is at there closer_is other inexact =
     (kept, kept_entry g old i kept e s is at there, rw closer_is at other, rw closer_is at inexact, rw (← closer_is) (replaces g old i kept d at.within there))
 
 -- the closer entry keeps the book true
-pub closer_set : (g : Scoring) (old : List Claim) (i : ℕ) (kept e d : Claim) (s : Solved) → TrueBook g old → s.scoring ≡ g → e ≡ bounds_entry s → IsEntryOf old i e.board → kept ≡ get_or old i kept → d ≡ closer kept s
+pub closer_set : (g : Scoring) (old : List Claim) (i : ℕ) (kept e d : Claim) (s : Solved) → TrueBook g old → s.scoring ≡ g → e ≡ bounds_entry s → IsEntryOf old i e.board
+    → kept ≡ get_or old i kept → d ≡ closer kept s
     → (IsExact d → ⊥) → TrueBook g (set old i d)
 closer_set g old i kept e d s book by is at there closer_is inexact =
     let board : kept.board ≡ e.board = ap (λ c. c.board) there ∙ at.same kept in

@@ -31,7 +31,8 @@ stand_entry v n rest c room at =
     rw (no_end rest (entry_begins v rest c at), not_full n (begins is_cell rest) room) (ap (λ f. fitted f EntryLine) fits)
 
 -- an entry that comes next is no fault but want of memory
-pub next_no_fault : (v : Version) (before : List Claim) (rest : List ℕ) (c : Claim) (f : BookFault) → IsNext v (length before) (last_of before) rest c → IsLineFault v (length before) (last_of before) rest f → f ≢ Memory → ⊥
+pub next_no_fault : (v : Version) (before : List Claim) (rest : List ℕ) (c : Claim) (f : BookFault) → IsNext v (length before) (last_of before) rest c
+    → IsLineFault v (length before) (last_of before) rest f → f ≢ Memory → ⊥
 next_no_fault v before rest c Header next fault other = fault
 next_no_fault v before rest c (Line k) next fault other =
     let is = stand_entry v (length before) rest c next.room next.entry in
@@ -120,7 +121,8 @@ fits_here v before rest Trailing fault = ap stand_code (ap (stand v (length befo
 fits_here v before rest Memory fault = tt
 
 -- a bad line is no entry's
-line_order : (v : Version) (before : List Claim) (rest : List ℕ) (k j : ℕ) → IsLineFault v (length before) (last_of before) rest (Line k) → IsLineFault v (length before) (last_of before) rest (Order j) → ⊥
+line_order : (v : Version) (before : List Claim) (rest : List ℕ) (k j : ℕ) → IsLineFault v (length before) (last_of before) rest (Line k)
+    → IsLineFault v (length before) (last_of before) rest (Order j) → ⊥
 line_order v before rest k j line order = elim (line.1) [
   | inl bad ↦ let n : 0 ≡ 1 = ap stand_code (sym bad ∙ order.1) in absurd (omega (arith, n))
   | inr none ↦ none.1 order.2 order.3
@@ -135,7 +137,8 @@ count_trailing v before rest count trailing =
       | inr other ↦ other.1 trailing.0 trailing.1
     ]
 
-pub line_once : (v : Version) (before : List Claim) (rest : List ℕ) (f g : BookFault) → IsLineFault v (length before) (last_of before) rest f → IsLineFault v (length before) (last_of before) rest g → f ≢ Memory → g ≢ Memory → f ≡ g
+pub line_once : (v : Version) (before : List Claim) (rest : List ℕ) (f g : BookFault) → IsLineFault v (length before) (last_of before) rest f
+    → IsLineFault v (length before) (last_of before) rest g → f ≢ Memory → g ≢ Memory → f ≡ g
 line_once v before rest Header g a b p q = absurd a
 line_once v before rest Memory g a b p q = absurd (p refl)
 line_once v before rest (Line k) Header a b p q = absurd b

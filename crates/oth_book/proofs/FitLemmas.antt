@@ -1,5 +1,6 @@
 -- The line of an entry fits the shape of an entry's line.
-use Rattle.std.proofs.Common.{◌≡◌, ℕ, zero, suc, ◌+◌, ◌-◌, ◌/◌, ◌%◌, ◌<◌, ◌≤◌, inl, inr, Bool, true, cond, List, [], ◌∷◌, ◌++◌, length, get_or, unsigned_abs, ℤ, pos, negsuc, arith, sym, ap, ◌∙◌, refl, lit<, add-zero}
+use Rattle.std.proofs.Common.{◌≡◌, ℕ, zero, suc, ◌+◌, ◌-◌, ◌/◌, ◌%◌, ◌<◌, ◌≤◌, inl, inr, Bool, true, cond, List, [], ◌∷◌, ◌++◌}
+use Rattle.std.proofs.Common.{length, get_or, unsigned_abs, ℤ, pos, negsuc, arith, sym, ap, ◌∙◌, refl, lit<, add-zero}
 use Rattle.std.proofs.Math.Nat.{mod-lt}
 use Rattle.std.proofs.Math.Seq.{get_or-append_seam}
 use Rattle.std.proofs.lemmas.Bool.{cases_lt}
@@ -65,7 +66,9 @@ digits_pass p base (suc len) n positive h i k =
     elim (cases_lt i len) [
       | inl below ↦ ap p (get_or-append (numeral base len (n / base)) (digit_byte (n % base) ∷ []) 0 i (omega (arith, size))) ∙ digits_pass p base len (n / base) positive h i below
       | inr above ↦ let e : i ≡ length (numeral base len (n / base)) = omega (arith, size) in
-          ap (λ j. p (get_or (numeral base len (n / base) ++ digit_byte (n % base) ∷ []) j 0)) e ∙ ap p (get_or-append_seam (numeral base len (n / base)) (digit_byte (n % base)) [] 0) ∙ h (n % base) (mod-lt n positive)
+          ap (λ j. p (get_or (numeral base len (n / base) ++ digit_byte (n % base) ∷ []) j 0)) e
+          ∙ ap p (get_or-append_seam (numeral base len (n / base)) (digit_byte (n % base)) [] 0)
+          ∙ h (n % base) (mod-lt n positive)
     ]
 
 -- a part of a line
@@ -145,7 +148,8 @@ line_fits v n board bounds best after is lc ln lb hc hn hb =
 pub entry_fits : (v : Version) (c : Claim) (after : List ℕ) → fit_of (Entry v) (entry_line v c ++ after) ≡ Whole
 entry_fits v c after =
     ap (fit (Entry v) 0 (83 + bounds_len v)) (entry_line-append v c after)
-    ∙ line_fits v (bounds_len v) (cells c.board) (bounds_text v c.lower c.upper) (numeral 16 16 c.best) after refl (length-cells c.board) (length-bounds_text v c.lower c.upper) (length-numeral 16 16 c.best)
+    ∙ line_fits v (bounds_len v) (cells c.board) (bounds_text v c.lower c.upper) (numeral 16 16 c.best) after refl (length-cells c.board) (length-bounds_text v c.lower c.upper)
+    (length-numeral 16 16 c.best)
     (λ i w. ap is_cell (get_or-cells c.board i w) ∙ mark_is_cell (cell c.board i)) (bounds_allowed v c.lower c.upper)
     (λ i w. digits_pass is_hex_digit 16 16 c.best (lit< tt) hex_byte i w)
 

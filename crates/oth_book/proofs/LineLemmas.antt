@@ -1,5 +1,6 @@
 -- What a line that is allowed by place has in its parts.
-use Rattle.std.proofs.Common.{◌≡◌, ℕ, suc, ◌+◌, ◌-◌, ◌<◌, ◌≤◌, true, List, ◌∷◌, ◌++◌, length, take, drop, get_or, arith, sym, ap, ◌∙◌, refl, append_assoc, drop-cons, length-drop, add-one, lit<, eqb-true}
+use Rattle.std.proofs.Common.{◌≡◌, ℕ, suc, ◌+◌, ◌-◌, ◌<◌, ◌≤◌, true, List, ◌∷◌, ◌++◌, length, take, drop, get_or, arith, sym}
+use Rattle.std.proofs.Common.{ap, ◌∙◌, refl, append_assoc, drop-cons, length-drop, add-one, lit<, eqb-true}
 use Rattle.std.proofs.lemmas.List.{take-append-drop, length-take-le, drop-drop, get_or-take, get_or-drop}
 use Rattle.std.proofs.lemmas.Bool.Decides.{nat_tests}
 use Rattle.oth_book.specs.declared.shape.Shape.TheVariants.{Entry, End}
@@ -101,7 +102,9 @@ pub entry_best : (n : ℕ) (bytes : List ℕ) → IsEntryBytes n bytes → (i : 
 entry_best n bytes whole i h =
     let len = whole.len in
     let within : i < 16 = omega (arith, length-part (66 + n) 16 bytes (omega arith)) in
-    is_hexadecimal (get_or (part (66 + n) 16 bytes) i 0) (ap is_hex_digit (get_or-part (66 + n) 16 bytes i within) ∙ entry_hex n (66 + n + i) (get_or bytes (66 + n + i) 0) (omega arith) (omega arith) (whole.places (66 + n + i) (omega arith)))
+    is_hexadecimal (get_or (part (66 + n) 16 bytes) i 0)
+    (ap is_hex_digit (get_or-part (66 + n) 16 bytes i within)
+    ∙ entry_hex n (66 + n + i) (get_or bytes (66 + n + i) 0) (omega arith) (omega arith) (whole.places (66 + n + i) (omega arith)))
 
 pub end_number : (bytes : List ℕ) → IsWhole End bytes → (i : ℕ) → i < length (part 4 6 bytes) → IsDigit 10 (get_or (part 4 6 bytes) i 0)
 end_number bytes whole i h =

@@ -86,7 +86,8 @@ goes_on v claims before [] rest f are e x h other = end_no_fault v before rest f
 goes_on v claims before (c ∷ mid) rest f are e x h other =
     next_no_fault v before rest c f (next_from v before c mid rest (lines v mid ++ end_line (length claims)) (rw e at are) (x ∙ lines_cons v c mid (end_line (length claims)))) h other
 
-no_line_fault : (v : Version) (claims before : List Claim) (rest bytes : List ℕ) (f : BookFault) → IsBookText v claims bytes → Begins v before rest bytes → IsLineFault v (length before) (last_of before) rest f → f ≢ Memory → ⊥
+no_line_fault : (v : Version) (claims before : List Claim) (rest bytes : List ℕ) (f : BookFault) → IsBookText v claims bytes → Begins v before rest bytes
+    → IsLineFault v (length before) (last_of before) rest f → f ≢ Memory → ⊥
 no_line_fault v claims before rest bytes f text begin fault other =
     let body : lines v before ++ rest ≡ lines v claims ++ end_line (length claims) = append_cancel_left (header v) _ _ (sym begin.front ∙ text.text) in
     elim (split v before claims rest (end_line (length claims)) begin.entries.each text.entries.each body) [
@@ -107,10 +108,12 @@ no_fault v claims bytes f text fault other =
     ]
 
 -- of two faulty readings neither goes on where the other stops
-stops : (v : Version) (a b mid : List Claim) (c : Claim) (x y : List ℕ) (f : BookFault) → AreClaims v b → b ≡ a ++ c ∷ mid → x ≡ lines v (c ∷ mid) ++ y → IsLineFault v (length a) (last_of a) x f → f ≢ Memory → ⊥
+stops : (v : Version) (a b mid : List Claim) (c : Claim) (x y : List ℕ) (f : BookFault) → AreClaims v b → b ≡ a ++ c ∷ mid → x ≡ lines v (c ∷ mid) ++ y
+    → IsLineFault v (length a) (last_of a) x f → f ≢ Memory → ⊥
 stops v a b mid c x y f are e front fault other = next_no_fault v a x c f (next_from v a c mid x (lines v mid ++ y) (rw e at are) (front ∙ lines_cons v c mid y)) fault other
 
-line_faults : (v : Version) (a b : List Claim) (x y bytes : List ℕ) (f g : BookFault) → Begins v a x bytes → Begins v b y bytes → IsLineFault v (length a) (last_of a) x f → IsLineFault v (length b) (last_of b) y g → f ≢ Memory → g ≢ Memory → f ≡ g
+line_faults : (v : Version) (a b : List Claim) (x y bytes : List ℕ) (f g : BookFault) → Begins v a x bytes → Begins v b y bytes → IsLineFault v (length a) (last_of a) x f
+    → IsLineFault v (length b) (last_of b) y g → f ≢ Memory → g ≢ Memory → f ≡ g
 line_faults v a b x y bytes f g ha hb fa fb p q =
     let body : lines v a ++ x ≡ lines v b ++ y = append_cancel_left (header v) _ _ (sym ha.front ∙ hb.front) in
     elim (split v a b x y ha.entries.each hb.entries.each body) [

@@ -28,7 +28,8 @@ then_second : (o p : Ordering) → o ≡ Equal → ordering_then o p ≡ p
 then_second o p h = ap (λ x. ordering_then x p) h
 
 -- lists that are the same below n compare as their elements at n, where those differ
-cmp_at : (xs ys : List ℕ) (n : ℕ) → n < length xs → n < length ys → ((k : ℕ) → k < n → get_or xs k 0 ≡ get_or ys k 0) → nat_cmp (get_or xs n 0) (get_or ys n 0) ≢ Equal → slice_cmp nat_cmp xs ys ≡ nat_cmp (get_or xs n 0) (get_or ys n 0)
+cmp_at : (xs ys : List ℕ) (n : ℕ) → n < length xs → n < length ys → ((k : ℕ) → k < n → get_or xs k 0 ≡ get_or ys k 0) → nat_cmp (get_or xs n 0) (get_or ys n 0) ≢ Equal
+    → slice_cmp nat_cmp xs ys ≡ nat_cmp (get_or xs n 0) (get_or ys n 0)
 cmp_at [] ys n a b same differ = absurd (omega arith)
 cmp_at (x ∷ xs) [] n a b same differ = absurd (omega arith)
 cmp_at (x ∷ xs) (y ∷ ys) zero a b same differ = then_first _ _ differ

@@ -1,5 +1,6 @@
 -- A book's text from the left: one more entry, and what follows the last.
-use Rattle.std.proofs.Common.{◌≡◌, ℕ, zero, suc, ◌+◌, ◌-◌, ◌<◌, ◌≤◌, inl, inr, List, [], ◌∷◌, ◌++◌, length, drop, get_or, slice_get, Option, Some, arith, sym, ap, subst, ◌∙◌, refl, append_assoc, append-nil, length-append, lit<, lit≤, true, ◌^◌, eqb-true}
+use Rattle.std.proofs.Common.{◌≡◌, ℕ, zero, suc, ◌+◌, ◌-◌, ◌<◌, ◌≤◌, inl, inr, List, [], ◌∷◌, ◌++◌, length, drop, get_or, slice_get, Option, Some, arith}
+use Rattle.std.proofs.Common.{sym, ap, subst, ◌∙◌, refl, append_assoc, append-nil, length-append, lit<, lit≤, true, ◌^◌, eqb-true}
 use Rattle.std.proofs.Math.Seq.{drop-append_seam}
 use Rattle.std.proofs.lemmas.List.Quantifiers.{all_pairs_push}
 use Rattle.std.proofs.lemmas.List.Elements.{All-push}
@@ -28,7 +29,8 @@ use Rattle.oth_book.proofs.ShapeLemmas.{is_whole}
 use Rattle.oth_book.proofs.EntryLemmas.{append_same, numeral-injective, entry_line-append, length-bounds_text}
 
 -- a header of version 2, by the byte of its scoring
-two_whole : (g : Scoring) (s : ℕ) (bytes : List ℕ) → 9 ≤ length bytes → get_or bytes 0 0 ≡ 79 → get_or bytes 1 0 ≡ 66 → get_or bytes 2 0 ≡ 79 → get_or bytes 3 0 ≡ 79 → get_or bytes 4 0 ≡ 75 → get_or bytes 5 0 ≡ 50 → get_or bytes 6 0 ≡ 32
+two_whole : (g : Scoring) (s : ℕ) (bytes : List ℕ) → 9 ≤ length bytes → get_or bytes 0 0 ≡ 79 → get_or bytes 1 0 ≡ 66 → get_or bytes 2 0 ≡ 79 → get_or bytes 3 0 ≡ 79
+    → get_or bytes 4 0 ≡ 75 → get_or bytes 5 0 ≡ 50 → get_or bytes 6 0 ≡ 32
     → get_or bytes 7 0 ≡ s → get_or bytes 8 0 ≡ 10 → bytes ≡ 79 ∷ 66 ∷ 79 ∷ 79 ∷ 75 ∷ 50 ∷ 32 ∷ s ∷ 10 ∷ drop 9 bytes
 two_whole g s bytes h e0 e1 e2 e3 e4 e5 e6 scoring stop =
     drop-byte 0 1 79 bytes (omega arith) refl e0
@@ -60,13 +62,18 @@ header_whole One bytes whole =
     ∙ ap (λ xs. 75 ∷ xs) (drop-byte 5 6 49 bytes (omega arith) refl (eqb-true _ _ (whole.places 5 (lit< tt)))
     ∙ ap (λ xs. 49 ∷ xs) (drop-byte 6 7 10 bytes (omega arith) refl (eqb-true _ _ (whole.places 6 (lit< tt)))))))))
 header_whole (Two Winner) bytes whole = two_whole Winner 87 bytes whole.len
-    (eqb-true _ _ (whole.places 0 (lit< tt))) (eqb-true _ _ (whole.places 1 (lit< tt))) (eqb-true _ _ (whole.places 2 (lit< tt))) (eqb-true _ _ (whole.places 3 (lit< tt))) (eqb-true _ _ (whole.places 4 (lit< tt))) (eqb-true _ _ (whole.places 5 (lit< tt))) (eqb-true _ _ (whole.places 6 (lit< tt))) (eqb-true _ _ (whole.places 7 (lit< tt))) (eqb-true _ _ (whole.places 8 (lit< tt)))
+    (eqb-true _ _ (whole.places 0 (lit< tt))) (eqb-true _ _ (whole.places 1 (lit< tt))) (eqb-true _ _ (whole.places 2 (lit< tt))) (eqb-true _ _ (whole.places 3 (lit< tt)))
+    (eqb-true _ _ (whole.places 4 (lit< tt))) (eqb-true _ _ (whole.places 5 (lit< tt))) (eqb-true _ _ (whole.places 6 (lit< tt))) (eqb-true _ _ (whole.places 7 (lit< tt)))
+    (eqb-true _ _ (whole.places 8 (lit< tt)))
 header_whole (Two Discs) bytes whole = two_whole Discs 68 bytes whole.len
-    (eqb-true _ _ (whole.places 0 (lit< tt))) (eqb-true _ _ (whole.places 1 (lit< tt))) (eqb-true _ _ (whole.places 2 (lit< tt))) (eqb-true _ _ (whole.places 3 (lit< tt))) (eqb-true _ _ (whole.places 4 (lit< tt))) (eqb-true _ _ (whole.places 5 (lit< tt))) (eqb-true _ _ (whole.places 6 (lit< tt))) (eqb-true _ _ (whole.places 7 (lit< tt))) (eqb-true _ _ (whole.places 8 (lit< tt)))
+    (eqb-true _ _ (whole.places 0 (lit< tt))) (eqb-true _ _ (whole.places 1 (lit< tt))) (eqb-true _ _ (whole.places 2 (lit< tt))) (eqb-true _ _ (whole.places 3 (lit< tt)))
+    (eqb-true _ _ (whole.places 4 (lit< tt))) (eqb-true _ _ (whole.places 5 (lit< tt))) (eqb-true _ _ (whole.places 6 (lit< tt))) (eqb-true _ _ (whole.places 7 (lit< tt)))
+    (eqb-true _ _ (whole.places 8 (lit< tt)))
 
 pub length-entry_line : (v : Version) (c : Claim) → length (entry_line v c) ≡ 83 + bounds_len v
 length-entry_line v c =
-    let e : length (entry_line v c) ≡ length (joined (cells c.board) (bounds_text v c.lower c.upper) (numeral 16 16 c.best) []) = ap length (sym (append-nil (entry_line v c)) ∙ entry_line-append v c []) in
+    let e : length (entry_line v c) ≡ length (joined (cells c.board) (bounds_text v c.lower c.upper) (numeral 16 16 c.best) []) =
+    ap length (sym (append-nil (entry_line v c)) ∙ entry_line-append v c []) in
     let f = length-joined (cells c.board) (bounds_text v c.lower c.upper) (numeral 16 16 c.best) [] in
     sums _ _ _ _ _ (bounds_len v) e f (length-cells c.board) (length-bounds_text v c.lower c.upper) (length-numeral 16 16 c.best)
   where

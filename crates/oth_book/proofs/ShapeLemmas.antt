@@ -1,5 +1,6 @@
 -- How bytes fit a kind of line.
-use Rattle.std.proofs.Common.{◌≡◌, ℕ, zero, suc, ◌+◌, ◌-◌, ◌<◌, ◌≤◌, Bool, true, false, cond, List, [], ◌∷◌, length, drop, get_or, arith, sym, ap, ◌∙◌, refl, add-one, add-zero, zero-add, drop-cons, ◌⊎◌, inl, inr}
+use Rattle.std.proofs.Common.{◌≡◌, ℕ, zero, suc, ◌+◌, ◌-◌, ◌<◌, ◌≤◌, Bool, true, false, cond, List, [], ◌∷◌, length, drop, get_or}
+use Rattle.std.proofs.Common.{arith, sym, ap, ◌∙◌, refl, add-one, add-zero, zero-add, drop-cons, ◌⊎◌, inl, inr}
 use Rattle.std.proofs.lemmas.List.{drop_all}
 use Rattle.oth_book.specs.declared.shape.Shape.{Shape}
 use Rattle.oth_book.specs.declared.shape.Fit.{Fit}

@@ -10,7 +10,8 @@ use Rattle.oth_book.specs.declared.claim.Claim.{Claim}
 use Rattle.oth_book.specs.declared.wrong.Cause.{Cause}
 use Rattle.oth_book.specs.True.{IsTrueClaim, IsFirstUntrue, IsCause}
 
-pub untrue_at : (g : Scoring) (entries claims : List Claim) (i : ℕ) (c : Claim) (why : Cause) → entries ≡ take i claims → All (IsTrueClaim g) entries → i < length claims → c ≡ get_or claims i c → IsCause g c why
+pub untrue_at : (g : Scoring) (entries claims : List Claim) (i : ℕ) (c : Claim) (why : Cause) → entries ≡ take i claims → All (IsTrueClaim g) entries → i < length claims
+    → c ≡ get_or claims i c → IsCause g c why
     → IsFirstUntrue (record { scoring = g; entries = claims }) i why
 untrue_at g entries claims i c why same each h is cause = record {
   entry = (c, slice_get-get_or claims i c h ∙ ap Some (sym is), cause);

@@ -1,5 +1,6 @@
 -- What a writer has of a text, line by line.
-use Rattle.std.proofs.Common.{◌≡◌, ℕ, ◌+◌, ◌<◌, ◌≤◌, List, [], ◌∷◌, ◌++◌, Option, length, take, drop, get_or, arith, sym, ap, ◌∙◌, refl, append_assoc, append-nil, ◌^◌, ℤ, ◌≤ℤ◌, ◌<ℤ◌, ◌⊎◌, inl, inr, pos, negsuc}
+use Rattle.std.proofs.Common.{◌≡◌, ℕ, ◌+◌, ◌<◌, ◌≤◌, List, [], ◌∷◌, ◌++◌, Option, length, take, drop, get_or, arith, sym, ap, ◌∙◌}
+use Rattle.std.proofs.Common.{refl, append_assoc, append-nil, ◌^◌, ℤ, ◌≤ℤ◌, ◌<ℤ◌, ◌⊎◌, inl, inr, pos, negsuc}
 use Rattle.std.specs.Prelude.{Result, Ok, Err, OnErr}
 use Rattle.std.specs.Io.KnownBytes.{Appends}
 use Rattle.std.proofs.KnownBytes.{Appends-trans}
@@ -83,7 +84,8 @@ on_err (Ok x) P h = tt
 on_err (Err e) P h = h
 
 -- a line of version 2, part by part
-pub line_parts : (g : Scoring) (c : Claim) (items : List ℕ) → items ≡ (((((((cells c.board ++ 32 ∷ []) ++ signed c.lower) ++ 32 ∷ []) ++ signed c.upper) ++ 32 ∷ []) ++ numeral 16 16 c.best) ++ 10 ∷ []) → items ≡ entry_line (Two g) c
+pub line_parts : (g : Scoring) (c : Claim) (items : List ℕ)
+    → items ≡ (((((((cells c.board ++ 32 ∷ []) ++ signed c.lower) ++ 32 ∷ []) ++ signed c.upper) ++ 32 ∷ []) ++ numeral 16 16 c.best) ++ 10 ∷ []) → items ≡ entry_line (Two g) c
 unfolding entry_line bounds_text
 line_parts g c items e = e ∙ simp append_assoc
 

@@ -93,7 +93,11 @@ abbrev pub AreAdded : Contents → Contents → Solved → Added → Type 0
 AreAdded old new s added.New = IsAbsent old s.board × (s.interval.lower ≢ s.interval.upper) × Inserts old new (bounds_entry s)
 AreAdded old new s added.Present = (c : Claim) × IsKept old s.board c × SameBounds (closer c s) c × (new ≡ old)
 AreAdded old new s added.Sharper =
-    (c : Claim) × IsKept old s.board c × (SameBounds (closer c s) c → ⊥) × ((closer c s).lower ≢ (closer c s).upper) × Replaces old new c (closer c s)
+    (c : Claim)
+    × IsKept old s.board c
+    × (SameBounds (closer c s) c → ⊥)
+    × ((closer c s).lower ≢ (closer c s).upper)
+    × Replaces old new c (closer c s)
 
 -- tested before the book is looked into
 pub record IsAskable (old : Contents) (s : Solved) : Type 0 where

@@ -4,7 +4,8 @@
 --     last_of before      the last entry
 --     IsHeaderFault bytes fault      the fault of the header
 --     IsBookFault bytes fault      the fault of the bytes
-use Rattle.std.specs.Prelude.{◌≡◌, ◌≢◌, ℕ, ◌<◌, ◌+◌, ◌-◌, ◌==◌, ◌&&◌, ◌⊎◌, Bool, false, if◌then◌else◌, List, [], ◌∷◌, ◌++◌, length, slice_get, Option, Some}
+use Rattle.std.specs.Prelude.{◌≡◌, ◌≢◌, ℕ, ◌<◌, ◌+◌, ◌-◌, ◌==◌, ◌&&◌, ◌⊎◌, Bool, false, if◌then◌else◌}
+use Rattle.std.specs.Prelude.{List, [], ◌∷◌, ◌++◌, length, slice_get, Option, Some}
 use Rattle.oth_book.specs.declared.version.Version.{Version}
 use Rattle.oth_book.specs.declared.claim.Claim.{Claim}
 use Rattle.oth_book.specs.declared.fault.BookFault.{BookFault}
@@ -92,4 +93,9 @@ IsHeaderFault bytes _ = ⊥
 
 abbrev pub IsBookFault : List ℕ → BookFault → Type 0
 IsBookFault bytes fault =
-    IsHeaderFault bytes fault ⊎ ((v : Version) × (before : List Claim) × (rest : List ℕ) × Begins v before rest bytes × IsLineFault v (length before) (last_of before) rest fault)
+    IsHeaderFault bytes fault
+    ⊎ ((v : Version)
+    × (before : List Claim)
+    × (rest : List ℕ)
+    × Begins v before rest bytes
+    × IsLineFault v (length before) (last_of before) rest fault)

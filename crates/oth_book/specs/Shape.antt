@@ -3,7 +3,8 @@
 --     allows shape place b      the byte b is allowed at this place, counted from 0
 --     fit shape place len bytes      how len places from this one on fit the bytes: whole, cut short by their end, or with a byte that
 --         isn't allowed
-use Rattle.std.specs.Prelude.{◌≡◌, ◌<◌, ◌≤◌, length, true, ℕ, zero, suc, ◌+◌, ◌-◌, ◌==◌, ◌||◌, ◌&&◌, ◌++◌, Bool, if◌then◌else◌, nat_lt, nat_le, List, [], ◌∷◌, codes, slice_index}
+use Rattle.std.specs.Prelude.{◌≡◌, ◌<◌, ◌≤◌, length, true, ℕ, zero, suc, ◌+◌, ◌-◌, ◌==◌, ◌||◌, ◌&&◌, ◌++◌, Bool}
+use Rattle.std.specs.Prelude.{if◌then◌else◌, nat_lt, nat_le, List, [], ◌∷◌, codes, slice_index}
 use Rattle.oth_rules.specs.declared.scoring.Scoring.TheVariants.{Winner, Discs}
 use Rattle.oth_book.specs.declared.version.Version.{Version}
 use Rattle.oth_book.specs.declared.version.Version.TheVariants.{One, Two}

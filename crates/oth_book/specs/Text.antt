@@ -4,7 +4,8 @@
 --     book_text v claims      the text of the version
 --     IsClaim v c      what the format asks of an entry by itself
 --     AreClaims v claims      the entries of a book: not too many, each in the format, the boards rising
-use Rattle.std.specs.Prelude.{◌≡◌, ℕ, ◌<◌, ◌≤◌, ◌^◌, ℤ, pos, negsuc, ◌<ℤ◌, unsigned_abs, List, [], ◌∷◌, ◌++◌, length, codes, All, AllPairs, ⊤}
+use Rattle.std.specs.Prelude.{◌≡◌, ℕ, ◌<◌, ◌≤◌, ◌^◌, ℤ, pos, negsuc, ◌<ℤ◌, unsigned_abs, List}
+use Rattle.std.specs.Prelude.{[], ◌∷◌, ◌++◌, length, codes, All, AllPairs, ⊤}
 use Rattle.std.specs.List.{flat_map}
 use Rattle.oth_rules.specs.Position.{IsBoard}
 use Rattle.oth_rules.specs.Symmetry.{canonical}

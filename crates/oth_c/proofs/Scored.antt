@@ -14,7 +14,12 @@ use Rattle.oth_c.specs.Scores.{no_score, score_at}
 
 -- a square to which no move is listed is not legal
 pub unlisted : (p : Position) (g : Scoring) (ms : List ScoredMove) (s : ℕ) → AreScores p g ms → s < 64 → All (λ m. m.square ≢ s) ms → no_score ≡ score_at p g s
-unlisted p g ms s h low others = stands (is_legal p s) (λ legal. All-contains (λ x. x ≢ s) (map place_of ms) s (All-map (λ x. x ≢ s) place_of ms others) (subst (λ xs. Contains xs s) (sym h.squares) (Contains-legal_squares p s (record { on_board = low; legal = legal }))) refl)
+unlisted p g ms s h low others =
+    stands (is_legal p s)
+    (λ legal.
+    All-contains (λ x. x ≢ s) (map place_of ms) s (All-map (λ x. x ≢ s) place_of ms others)
+    (subst (λ xs. Contains xs s) (sym h.squares) (Contains-legal_squares p s (record { on_board = low; legal = legal })))
+    refl)
   where
     stands : (b : Bool) → (b ≡ true → ⊥) → no_score ≡ cond b (neg_ℤ (value (score_of g) (after p s))) no_score
     stands true none = absurd (none refl)

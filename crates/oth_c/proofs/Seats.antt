@@ -55,19 +55,31 @@ seat_good (block_ptr b o) h fits = (and_tt (has_ty (layout Z) h) fits.0, (tt, (f
 
 module _ {M : Type 1} {𝓤 : Ura M} (𝓛 : Logic 𝓤) (a : Global) where
   pub tested : (p : Ptr) (x : R.Denot) → ent 𝓤 (sem 𝓛 (boxed a p x)) (guard 𝓤 (Testable p) (sem 𝓛 (boxed a p x)))
-  tested p x = let B : SProp 𝓤 = sem 𝓛 (boxed a p x) in fact_use 𝓤 (Testable p) (via 𝓤 _ (snd∗ 𝓤 (sem 𝓛 (lies_at R full_share p x)) (sem 𝓛 (ghosts.dealloc_token a (bare (lone R.mir)) p))) (dealloc_token-Testable 𝓛 a (bare (lone R.mir)) p)) (guard_i 𝓤 (Testable p) B)
+  tested p x =
+      let B : SProp 𝓤 = sem 𝓛 (boxed a p x) in
+      fact_use 𝓤 (Testable p)
+      (via 𝓤 _ (snd∗ 𝓤 (sem 𝓛 (lies_at R full_share p x)) (sem 𝓛 (ghosts.dealloc_token a (bare (lone R.mir)) p))) (dealloc_token-Testable 𝓛 a (bare (lone R.mir)) p))
+      (guard_i 𝓤 (Testable p) B)
 
 module _ {M : Type 1} {𝓤 : Ura M} {𝓛 : Logic 𝓤} {K : Type 0} {Γ : List (Item 𝓤)} {G : Goal 𝓤 𝓛.H} where
   pub either_owned : K → (a : Global) (p : Ptr) (x : Option Use) → (p ≡ null_ptr → x ≡ None → Seq K 𝓛 Γ G)
       → ((b o : ℕ) (y : R.Denot) → p ≡ block_ptr b o → x ≡ y.seated → Testable (block_ptr b o) → Seq K 𝓛 (‵ (boxed a (block_ptr b o) y) ∷ Γ) G) → Seq K 𝓛 (‵ (owned a p x) ∷ Γ) G
   either_owned t a null_ptr x none one = fpick t (λ e. drop t $ none refl e)
-  either_owned t a (block_ptr b o) x none one = fpick t (λ y. fsplit t $ fpick t (λ e. drop t $ use1 𝓛 (given (Testable (block_ptr b o)) (‵ (boxed a (block_ptr b o) y))) (tested 𝓛 a (block_ptr b o) y) $ learn t (λ s. one b o y refl e s)))
+  either_owned t a (block_ptr b o) x none one =
+      fpick t
+      (λ y.
+      fsplit t $
+      fpick t (λ e. drop t $ use1 𝓛 (given (Testable (block_ptr b o)) (‵ (boxed a (block_ptr b o) y))) (tested 𝓛 a (block_ptr b o) y) $ learn t (λ s. one b o y refl e s)))
 
   pub nothing_owned : K → (a : Global) → Step K 𝓛 (‵ (owned a null_ptr None) ∷ Γ) G Γ G
   nothing_owned t a = step (λ s. nothing t $ fpack t (None ≡ None) (λ _. ftrue) refl $ s)
 
   pub box_owned : K → (a : Global) (b o : ℕ) (y : R.Denot) → Step K 𝓛 (‵ (owned a (block_ptr b o) y.seated) ∷ Γ) G (‵ (boxed a (block_ptr b o) y) ∷ Γ) G
-  box_owned t a b o y = step (λ s. nothing t $ fpack t (y.seated ≡ y.seated) (λ _. ftrue) refl $ fjoin t $ fpack t R.Denot (λ x. fsep (fex (y.seated ≡ x.seated) (λ _. ftrue)) (boxed a (block_ptr b o) x)) y $ s)
+  box_owned t a b o y =
+      step
+      (λ s.
+      nothing t $ fpack t (y.seated ≡ y.seated) (λ _. ftrue) refl $ fjoin t $
+      fpack t R.Denot (λ x. fsep (fex (y.seated ≡ x.seated) (λ _. ftrue)) (boxed a (block_ptr b o) x)) y $ s)
 
   pub seat_out : K → (d : Seat.Denot) (vs : List Val)
       → ((h : Val) → vs ≡ both (ptr_val d.at) h ∷ [] → Good (layout Z) h → Seq K 𝓛 (‵ (owned d.alloc d.at d.held) ∷ ‵ (Z.own_val d.alloc (h ∷ [])) ∷ Γ) G)

@@ -38,4 +38,8 @@ TellsScores (Some u) b s = (overlaps b ≡ false) × (empty_count (position b) �
 
 abbrev pub TellsScoresFully : Option Use → OthBoard → Scores → Type 0
 TellsScoresFully None b s = ⊥
-TellsScoresFully (Some u) b s = (overlaps b ≡ false) × (empty_count (position b) ≤ 30) × (s.answer.board ≡ position b) × (s.answer.scoring ≡ u.table.terms.scoring)
+TellsScoresFully (Some u) b s =
+    (overlaps b ≡ false)
+    × (empty_count (position b) ≤ 30)
+    × (s.answer.board ≡ position b)
+    × (s.answer.scoring ≡ u.table.terms.scoring)

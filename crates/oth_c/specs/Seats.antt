@@ -54,11 +54,15 @@ SolvesFully (Some u) b a = (overlaps b ≡ false) × (empty_count (position b) �
 
 abbrev pub EnclosesIn : Option Use → OthBoard → ℤ → ℤ → Type 0
 EnclosesIn None b lower upper = ⊥
-EnclosesIn (Some u) b lower upper = (overlaps b ≡ false) × (empty_count (position b) ≤ 30) × Encloses lower upper (value (score_of u.table.terms.scoring) (position b))
+EnclosesIn (Some u) b lower upper =
+    (overlaps b ≡ false)
+    × (empty_count (position b) ≤ 30)
+    × Encloses lower upper (value (score_of u.table.terms.scoring) (position b))
 
 abbrev pub EnclosesFully : Option Use → OthBoard → Solved → Type 0
 EnclosesFully None b s = ⊥
-EnclosesFully (Some u) b s = (overlaps b ≡ false) × (empty_count (position b) ≤ 30) × (s.board ≡ position b) × (s.scoring ≡ u.table.terms.scoring)
+EnclosesFully (Some u) b s =
+    (overlaps b ≡ false) × (empty_count (position b) ≤ 30) × (s.board ≡ position b) × (s.scoring ≡ u.table.terms.scoring)
 
 abbrev pub IsKept : Option Use → Option Use → Type 0
 IsKept None y = y ≡ None

@@ -1,4 +1,5 @@
--- Histories of what threads share: a list of events, the newest first. Each event is by a seat, its author, and makes a further seat or none.
+-- Histories of what threads share: a list of events, the newest first. Each event is by a seat, its author, and makes a further
+-- seat or none.
 -- Of what kind the events are is left open: a table's and a floor's histories are told by the same words.
 --     Name                      a seat is named by a number; the first seat's is 0
 --     Begins earlier later      the later history begins with the earlier one
@@ -53,7 +54,8 @@ module _ {E : Type 0} (author : E → Name) (makes : E → Option Name) where
     IsLegalBy [] = Unit {0}
     IsLegalBy (e ∷ h) = MayCome h e × Fits h e × IsLegalBy h
 
-    -- the seat s had seen `earlier`. Now it has seen a legal history that begins with it and ends with e, which is the one further event of s
+    -- the seat s had seen `earlier`. Now it has seen a legal history that begins with it and ends with e, which is the one further
+    -- event of s
     pub record EndsBy (s : Name) (earlier later : List E) (e : E) : Type 0 where
       pub before : List E
       pub since : Since author s earlier before

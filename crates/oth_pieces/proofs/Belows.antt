@@ -1,5 +1,6 @@
 -- The items below a root, square by square.
-use Rattle.std.proofs.Common.{◌≡◌, ℕ, zero, suc, ◌+◌, ◌-◌, ◌<◌, ◌≤◌, Bool, true, false, not, cond, if◌then◌else◌, List, [], ◌∷◌, ◌++◌, map, length, take, get_or, sym, refl, ap, ◌∙◌, subst, arith, append_assoc, length-append}
+use Rattle.std.proofs.Common.{◌≡◌, ℕ, zero, suc, ◌+◌, ◌-◌, ◌<◌, ◌≤◌, Bool, true, false, not, cond, if◌then◌else◌, List, [], ◌∷◌, ◌++◌}
+use Rattle.std.proofs.Common.{map, length, take, get_or, sym, refl, ap, ◌∙◌, subst, arith, append_assoc, length-append}
 use Rattle.std.specs.List.{filter, flat_map, range_with_len}
 use Rattle.oth_pieces.specs.Frontier.{below}
 use Rattle.std.proofs.lemmas.List.{map-append}
@@ -54,7 +55,8 @@ module _ (legal : ℕ → Bool) (item : ℕ → Item) where
   pub room : (most : ℕ) (start items : List Item) (n : ℕ) → items ≡ start ++ items_below n → n < 64 → length start + length (items_below 64) ≤ most → length items + length (item_at n) ≤ most
   room most start items n is below fits =
       let all : (n + 1) + (63 - n) ≡ 64 = omega arith in
-      let most : length (items_below (n + 1)) ≤ length (items_below 64) = let P : ℕ → Type 0 = λ k. length (items_below (n + 1)) ≤ length (items_below k) in subst P all (items_below-room (n + 1) (63 - n)) in
+      let most : length (items_below (n + 1)) ≤ length (items_below 64) =
+      let P : ℕ → Type 0 = λ k. length (items_below (n + 1)) ≤ length (items_below k) in subst P all (items_below-room (n + 1) (63 - n)) in
       omega (arith, ap length is, length-append start (items_below n), ap length (items_below-more n), length-append (items_below n) (item_at n))
 
 pub whole : (p : Position) (item : ℕ → Item) → items_below (is_legal p) item 64 ≡ map item (legal_squares p)

@@ -1,5 +1,6 @@
 -- From the hands to what is settled.
-use Rattle.std.proofs.Common.{◌≡◌, ◌≢◌, ℕ, zero, suc, ◌+◌, ◌<◌, ◌≤◌, ◌%◌, ◌==◌, Bool, true, false, if◌then◌else◌, List, [], ◌∷◌, map, length, get_or, sym, refl, ap, ◌∙◌, subst, arith, slice_index_or, vec_len, Vec, cond}
+use Rattle.std.proofs.Common.{◌≡◌, ◌≢◌, ℕ, zero, suc, ◌+◌, ◌<◌, ◌≤◌, ◌%◌, ◌==◌, Bool, true, false, if◌then◌else◌, List, [], ◌∷◌, map}
+use Rattle.std.proofs.Common.{length, get_or, sym, refl, ap, ◌∙◌, subst, arith, slice_index_or, vec_len, Vec, cond}
 use Rattle.std.specs.List.{sum_by, filter, range_with_len}
 use Rattle.std.proofs.lemmas.List.Sums.{sum_by-cons}
 use Rattle.std.proofs.lemmas.Bool.Decides.{nat_tests}
@@ -49,8 +50,10 @@ can_settle tasks hand thief hands all =
     let many : length owners ≡ n = length_map (λ (h : Hand). h.owner) hands in
     let heaps : length piles ≡ n = length_map (λ (h : Hand). h.passes) hands in
     let size = all.many in
-    let owner_is : (d : ℕ) (w : Owner) → d < length owners → slice_index_or owners d w ≡ (slice_index_or hands d hand).owner = λ d w below. get_or_map (λ (h : Hand). h.owner) hands d hand w (omega arith) in
-    let pile_is : (i : ℕ) (p : Pile) → i < length piles → slice_index_or piles i p ≡ (slice_index_or hands i hand).passes = λ i p below. get_or_map (λ (h : Hand). h.passes) hands i hand p (omega arith) in (
+    let owner_is : (d : ℕ) (w : Owner) → d < length owners → slice_index_or owners d w ≡ (slice_index_or hands d hand).owner = λ d w below.
+    get_or_map (λ (h : Hand). h.owner) hands d hand w (omega arith) in
+    let pile_is : (i : ℕ) (p : Pile) → i < length piles → slice_index_or piles i p ≡ (slice_index_or hands i hand).passes = λ i p below.
+    get_or_map (λ (h : Hand). h.passes) hands i hand p (omega arith) in (
       omega arith,
       record {
         owners_know = λ d w below.
@@ -69,21 +72,26 @@ can_settle tasks hand thief hands all =
             let o = all.each d hand (omega arith) in
             let pass : IsPassOf (stealer_deque (slice_index_or tasks.thieves.items d thief)) (slice_index_or (slice_index_or hands i hand).passes.items d q) = k.0.fits.each d thief q (omega arith) in
             let Q : ℕ → Type 0 = λ m. worker_deque (slice_index_or hands d hand).owner ≡ stealer_deque (slice_index_or tasks.thieves.items m thief) in
-            let e : worker_deque (slice_index_or owners d w) ≡ stealer_deque (slice_index_or tasks.thieves.items d thief) = ap (λ (v : Owner). worker_deque v) (owner_is d w under) ∙ subst Q o.1 (o.0.fits.owner thief) in
+            let e : worker_deque (slice_index_or owners d w) ≡ stealer_deque (slice_index_or tasks.thieves.items d thief) =
+            ap (λ (v : Owner). worker_deque v) (owner_is d w under) ∙ subst Q o.1 (o.0.fits.owner thief) in
             let P : Pile → Type 0 = λ r. IsPassOf (worker_deque (slice_index_or owners d w)) (slice_index_or r.items d q) in
             subst P (sym (pile_is i p below)) (pass.0 ∙ sym (ap (λ z. z.0) e), pass.1 ∙ sym (ap (λ z. z.1) e), pass.2, pass.3);
       },
     )
 
-with_thief : (tasks : Tasks) (hand : Hand) (hands : List Hand) → AreAllHands tasks hands → (thieves : List Thief) → tasks.thieves.items ≡ thieves → CanSettle (map (λ (h : Hand). h.owner) hands) (map (λ (h : Hand). h.passes) hands)
+with_thief : (tasks : Tasks) (hand : Hand) (hands : List Hand) → AreAllHands tasks hands → (thieves : List Thief) → tasks.thieves.items ≡ thieves
+    → CanSettle (map (λ (h : Hand). h.owner) hands) (map (λ (h : Hand). h.passes) hands)
 with_thief tasks hand hands all [] is = let z = all.some in let n = all.many in let m = tasks.thieves.ok.0 in absurd (omega (arith, ap length is))
 with_thief tasks hand hands all (t ∷ ts) is = can_settle tasks hand t hands all
 
-pub closes : (tasks : Tasks) (hands : List Hand) (owners : List Owner) (piles : List Pile) → AreAllHands tasks hands → owners ≡ map (λ (h : Hand). h.owner) hands → piles ≡ map (λ (h : Hand). h.passes) hands → CanSettle owners piles
+pub closes : (tasks : Tasks) (hands : List Hand) (owners : List Owner) (piles : List Pile) → AreAllHands tasks hands → owners ≡ map (λ (h : Hand). h.owner) hands
+    → piles ≡ map (λ (h : Hand). h.passes) hands → CanSettle owners piles
 closes tasks [] owners piles all is are = let z = all.some in absurd (omega arith)
-closes tasks (h ∷ hs) owners piles all is are = let P : List Owner × List Pile → Type 0 = λ q. CanSettle q.0 q.1 in subst P (λ j. (sym is j, sym are j)) (with_thief tasks h (h ∷ hs) all tasks.thieves.items refl)
+closes tasks (h ∷ hs) owners piles all is are =
+    let P : List Owner × List Pile → Type 0 = λ q. CanSettle q.0 q.1 in subst P (λ j. (sym is j, sym are j)) (with_thief tasks h (h ∷ hs) all tasks.thieves.items refl)
 
-pub each_once : (tasks : Tasks) (hands : List Hand) (owners : List Owner) (piles : List Pile) → AreAllHands tasks hands → owners ≡ map (λ (h : Hand). h.owner) hands → piles ≡ map (λ (h : Hand). h.passes) hands
+pub each_once : (tasks : Tasks) (hands : List Hand) (owners : List Owner) (piles : List Pile) → AreAllHands tasks hands → owners ≡ map (λ (h : Hand). h.owner) hands
+    → piles ≡ map (λ (h : Hand). h.passes) hands
     → ((x : ℕ) → owner_sum x owners + pile_sum x piles ≤ 1) → (x : ℕ) → sum_by (λ (h : Hand). times x h.list.items) hands ≤ 1
 each_once tasks hands owners piles all is are most x =
     let m = most x in
@@ -130,14 +138,16 @@ within p x a (suc n) low high = dite (ℕ_discrete a x)
     here true same rest = let h = head_same a x same in omega (arith, sum_by-cons (λ y. cond (y == x) 1 0) a (filter p (range_with_len (a + 1) n)))
     here false same rest = rest
 
-    later : (b : Bool) → a ≢ x → times x (filter p (range_with_len (a + 1) n)) ≡ cond (p x) 1 0 → times x (cond b (a ∷ filter p (range_with_len (a + 1) n)) (filter p (range_with_len (a + 1) n))) ≡ cond (p x) 1 0
+    later : (b : Bool) → a ≢ x → times x (filter p (range_with_len (a + 1) n)) ≡ cond (p x) 1 0
+        → times x (cond b (a ∷ filter p (range_with_len (a + 1) n)) (filter p (range_with_len (a + 1) n))) ≡ cond (p x) 1 0
     later true other rest = let h = head_other a x other in omega (arith, sum_by-cons (λ y. cond (y == x) 1 0) a (filter p (range_with_len (a + 1) n)))
     later false other rest = rest
 
 at_most_one_left : (t : ℕ) → t ≤ 1 → t + cond (t == 0) 1 0 ≡ 1
 at_most_one_left t most = grind (arith, nat_tests)
 
-pub all_once : (count : ℕ) (drawn : Drawn) → ((x : ℕ) → times_in_all x drawn.lists.items ≤ 1) → ((x : ℕ) → count ≤ x → times_in_all x drawn.lists.items ≡ 0) → drawn.left.items ≡ left_of count drawn.lists.items → AreOnce count drawn
+pub all_once : (count : ℕ) (drawn : Drawn) → ((x : ℕ) → times_in_all x drawn.lists.items ≤ 1) → ((x : ℕ) → count ≤ x → times_in_all x drawn.lists.items ≡ 0)
+    → drawn.left.items ≡ left_of count drawn.lists.items → AreOnce count drawn
 all_once count drawn most none left =
     let lists : List (Vec ℕ Global) = drawn.lists.items in
     let p : ℕ → Bool = λ x. times_in_all x lists == 0 in record {
@@ -151,8 +161,10 @@ all_once count drawn most none left =
       left = left;
     }
 
-pub closed : (tasks : Tasks) (hands : List Hand) (owners : List Owner) (piles : List Pile) (drawn : Drawn) → AreAllHands tasks hands → owners ≡ map (λ (h : Hand). h.owner) hands → piles ≡ map (λ (h : Hand). h.passes) hands
-    → ((x : ℕ) → owner_sum x owners + pile_sum x piles ≤ 1) → drawn.lists.items ≡ map (λ (h : Hand). h.list) hands → drawn.left.items ≡ left_of tasks.count drawn.lists.items → AreOnce tasks.count drawn
+pub closed : (tasks : Tasks) (hands : List Hand) (owners : List Owner) (piles : List Pile) (drawn : Drawn) → AreAllHands tasks hands → owners ≡ map (λ (h : Hand). h.owner) hands
+    → piles ≡ map (λ (h : Hand). h.passes) hands
+    → ((x : ℕ) → owner_sum x owners + pile_sum x piles ≤ 1) → drawn.lists.items ≡ map (λ (h : Hand). h.list) hands → drawn.left.items ≡ left_of tasks.count drawn.lists.items
+    → AreOnce tasks.count drawn
 closed tasks hands owners piles drawn all is are most lists left =
     let agree : (x : ℕ) → times_in_all x drawn.lists.items ≡ sum_by (λ (h : Hand). times x h.list.items) hands = λ x. ap (times_in_all x) lists ∙ lists_agree x hands in
     all_once tasks.count drawn

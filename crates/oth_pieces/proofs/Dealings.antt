@@ -33,7 +33,8 @@ module _ (put : List ℕ) (views : List Share) where
       ⊎_elim (λ (h : (j ≡ port) × (w ≡ u)). subst P h.1 mine) (λ (h : (j ≢ port) × (get_elem? views j ≡ some u)). others j u h.0 h.1) (at_set views port j w u e)
 
   -- what is true of a pass after one was changed into one that may do no more
-  was : (port : ℕ) (v w : Share) → get_elem? views port ≡ some v → (w.pushes ≡ true → v.pushes ≡ true) → (w.knows ≡ true → v.knows ≡ true) → (j : ℕ) (u : Share) → get_elem? (set views port w) j ≡ some u
+  was : (port : ℕ) (v w : Share) → get_elem? views port ≡ some v → (w.pushes ≡ true → v.pushes ≡ true) → (w.knows ≡ true → v.knows ≡ true) → (j : ℕ) (u : Share)
+      → get_elem? (set views port w) j ≡ some u
       → (u' : Share) × (get_elem? views j ≡ some u') × (u.pushes ≡ true → u'.pushes ≡ true) × (u.knows ≡ true → u'.knows ≡ true)
   was port v w at less_push less_know j u e = ⊎_elim
       (λ (h : (j ≡ port) × (w ≡ u)). let P : Share → Type 0 = λ y. (y.pushes ≡ true → v.pushes ≡ true) × (y.knows ≡ true → v.knows ≡ true) in let both' : P u = subst P h.1 (less_push, less_know) in
@@ -69,7 +70,8 @@ took port v xs items items' views less h at = let w : Share = record v { taken =
 )
 
 fair : (items : List ℕ) (views : List Share) (port : ℕ) (v : Share) → Dealt items views → get_elem? views port ≡ some v → v.knows ≡ true → IsFair v
-fair items views port v h at knows' x = let b = h.1 x in let s = sum_has (λ (u : Share). times x u.taken) views port v at in let same : times x v.put ≡ times x h.0 = ap (times x) (h.2 port v at knows') in omega arith
+fair items views port v h at knows' x =
+    let b = h.1 x in let s = sum_has (λ (u : Share). times x u.taken) views port v at in let same : times x v.put ≡ times x h.0 = ap (times x) (h.2 port v at knows') in omega arith
 
 there_after : (views : List Share) (port : ℕ) (v w : Share) → get_elem? views port ≡ some v → get_elem? (set views port w) port ≡ some w
 there_after [] port v w e = absurd (some-ne-none v (sym e))

@@ -1,5 +1,6 @@
 -- Each step of a floor keeps its rule.
-use Rattle.std.proofs.Common.{◌≡◌, ◌≢◌, ℕ, zero, suc, ◌≤◌, max, ℤ, pos, ◌-ℤ◌, ◌≤ℤ◌, true, false, true≢false, ◌==◌, ◌⊎◌, List, [], ◌∷◌, ◌++◌, length, Option, Some, None, unwrap_or, slice_index, slice_set, if◌then◌else◌, sym, refl, ap, ◌∙◌, subst, ⊎_elim, inl, inr, arith, set}
+use Rattle.std.proofs.Common.{◌≡◌, ◌≢◌, ℕ, zero, suc, ◌≤◌, max, ℤ, pos, ◌-ℤ◌, ◌≤ℤ◌, true, false, true≢false, ◌==◌, ◌⊎◌, List, [], ◌∷◌, ◌++◌, length, Option, Some}
+use Rattle.std.proofs.Common.{None, unwrap_or, slice_index, slice_set, if◌then◌else◌, sym, refl, ap, ◌∙◌, subst, ⊎_elim, inl, inr, arith, set}
 use mathlib.Core.Option.{some, none, some-injective, some-ne-none}
 use lib.ListN.{get_elem?}
 use Rattle.std.specs.Int.{int_max}
@@ -314,7 +315,9 @@ sends root seat v s kept at =
 pub tells : (root : Root) (seat : ℕ) (v : View) (other : ℕ) (w : View) → Joins (IsKept root) seat v other w (told_by v w) spent
 tells root seat v other w s kept at apart there =
     let knows = mine root s kept seat v at in
-    let was : get_elem? s.views other ≡ some w = ⊎_elim (λ (h : (other ≡ seat) × (told_by v w ≡ w)). absurd (apart h.0)) (λ (h : (other ≢ seat) × (get_elem? s.views other ≡ some w)). h.1) (at_set s.views seat other (told_by v w) w there) in
+    let was : get_elem? s.views other ≡ some w =
+    ⊎_elim (λ (h : (other ≡ seat) × (told_by v w ≡ w)). absurd (apart h.0)) (λ (h : (other ≢ seat) × (get_elem? s.views other ≡ some w)). h.1)
+    (at_set s.views seat other (told_by v w) w there) in
     let theirs = kept.each other w was in
     let F : ℕ → View → Type 0 = Knows root kept.log kept.owner in
     let both : F seat (told_by v w) = record { same_root = knows.same_root; seen = knows.seen; told = theirs.seen; apart = knows.apart; names = knows.names } in record {
@@ -334,7 +337,8 @@ learns root slots seat v c live s kept _ at _ =
     let knows = mine root s kept seat v at in
     let both = longer_begins v.seen v.told kept.log knows.seen knows.told in
     let w : View = record v { seen = longer v.seen v.told } in
-    let stays : (n : Name) → Has v n → Since author n v.seen (longer v.seen v.told) × Since author n (longer v.seen v.told) kept.log = λ n has. since_between author n v.seen (longer v.seen v.told) kept.log (knows.names n has).2 both.0 both.2 in (
+    let stays : (n : Name) → Has v n → Since author n v.seen (longer v.seen v.told) × Since author n (longer v.seen v.told) kept.log = λ n has.
+    since_between author n v.seen (longer v.seen v.told) kept.log (knows.names n has).2 both.0 both.2 in (
       w,
       keeps,
       tt,
@@ -358,7 +362,8 @@ learns root slots seat v c live s kept _ at _ =
     )
 
 -- a true bound of the root, as the floor wants it
-pub below_root : (g : Scoring) (p : Position) (root : Root) (lower upper number : ℤ) → p ≡ root.board → g ≡ root.scoring → number ≡ lower → Encloses lower upper (value (score_of g) p) → number ≤ℤ root_value root
+pub below_root : (g : Scoring) (p : Position) (root : Root) (lower upper number : ℤ) → p ≡ root.board → g ≡ root.scoring → number ≡ lower → Encloses lower upper (value (score_of g) p)
+    → number ≤ℤ root_value root
 below_root g p root lower upper number e f is h =
     let V : Scoring × Position → Type 0 = λ q. Encloses lower upper (value (score_of q.0) q.1) in
     let v : Encloses lower upper (root_value root) = subst V (λ i. (f i, e i)) h in

@@ -1,5 +1,6 @@
 -- What a hand keeps when it takes a number.
-use Rattle.std.proofs.Common.{◌≡◌, ℕ, zero, suc, ◌+◌, ◌<◌, ◌≤◌, Bool, List, [], ◌∷◌, ◌++◌, length, get_or, set, sym, refl, ap, ◌∙◌, subst, arith, slice_index_or, vec_len, Vec, Option, Some, None, get_or-set_same, get_or-set_other, append-nil}
+use Rattle.std.proofs.Common.{◌≡◌, ℕ, zero, suc, ◌+◌, ◌<◌, ◌≤◌, Bool, List, [], ◌∷◌, ◌++◌, length, get_or, set, sym, refl, ap, ◌∙◌, subst, arith}
+use Rattle.std.proofs.Common.{slice_index_or, vec_len, Vec, Option, Some, None, get_or-set_same, get_or-set_other, append-nil}
 use mathlib.Core.Logic.{dite}
 use native.Mathlib.Decide.{ℕ_discrete}
 use Rattle.std.specs.List.{sum_by}
@@ -112,7 +113,8 @@ pops tasks h owner found fits same took = record {
 -- what a pop tells is what the hand took
 pub popped : (E : Type 0) (tasks : Tasks) (h : Hand) (owner : Owner) (found : Option ℕ) → Fits tasks h → worker_deque owner ≡ worker_deque h.owner
     → MatchOption found ((worker_view owner ≡ worker_view h.owner) × E) (λ x. takes (worker_view h.owner) (x ∷ []) (worker_view owner)) → Draws tasks h (record h { owner = owner }) found
-popped E tasks h owner None fits same rule = pops tasks h owner None fits same (rule.0 ∙ ap (λ (l : List ℕ). record (worker_view h.owner) { taken = l }) (sym (append-nil (worker_view h.owner).taken)), tt)
+popped E tasks h owner None fits same rule =
+    pops tasks h owner None fits same (rule.0 ∙ ap (λ (l : List ℕ). record (worker_view h.owner) { taken = l }) (sym (append-nil (worker_view h.owner).taken)), tt)
 popped E tasks h owner (Some x) fits same rule = pops tasks h owner (Some x) fits same (rule.0, rule.1)
 
 apart_times : (number x : ℕ) → number < x → times x (number ∷ []) ≡ 0
@@ -146,7 +148,8 @@ module _ (tasks : Tasks) (old new : Hand) (is : IsHandOf tasks old) where
             omega (arith, ap (times x) whole, times-append x old.list.items (number ∷ []), apart_times number x (omega arith));
       }
 
-  pub draws_nothing : (found : Option ℕ) (ended : Bool) → Draws tasks old new found → found ≡ None → IsHandOf tasks (record { number = new.number; owner = new.owner; passes = new.passes; list = new.list; ended = ended; room = new.room })
+  pub draws_nothing : (found : Option ℕ) (ended : Bool) → Draws tasks old new found → found ≡ None
+      → IsHandOf tasks (record { number = new.number; owner = new.owner; passes = new.passes; list = new.list; ended = ended; room = new.room })
   draws_nothing found ended drew none =
       let P : Option ℕ → Type 0 = Draws tasks old new in
       let draws : Draws tasks old new None = subst P none drew in

@@ -1,11 +1,13 @@
 -- How the hands are made.
-use Rattle.std.proofs.Common.{◌≡◌, ◌⊎◌, ⊎_elim, inr, ℕ, zero, suc, ◌+◌, ◌<◌, ◌≤◌, List, [], ◌∷◌, ◌++◌, length, get_or, set, take, sym, refl, ap, ◌∙◌, subst, arith, slice_index_or, vec_len, Vec, false, Result, Ok, Err, IfOk, length-append, length-set, get_or-set_same, get_or-set_other}
+use Rattle.std.proofs.Common.{◌≡◌, ◌⊎◌, ⊎_elim, inr, ℕ, zero, suc, ◌+◌, ◌<◌, ◌≤◌, List, [], ◌∷◌, ◌++◌, length, get_or, set, take, sym, refl, ap, ◌∙◌, subst, arith}
+use Rattle.std.proofs.Common.{slice_index_or, vec_len, Vec, false, Result, Ok, Err, IfOk, length-append, length-set, get_or-set_same, get_or-set_other}
 use Rattle.std.specs.Prelude.{vec_capacity}
 use mathlib.Core.Logic.{dite}
 use native.Mathlib.Decide.{ℕ_discrete}
 use Rattle.std.specs.declared.alloc.Global.{Global}
 use Rattle.std.specs.declared.alloc.AllocError.{AllocError}
-use Rattle.oth_pieces.specs.Hands.{Owner, StaysOwner, StayOwners, IsTokenOf, AreTokensOf, HasOnly, OwnerFits, OwnersFit, PileFits, HasRoom, IsHandOf, IsNewHand, AreHandsOf, AreAllHands, AreFresh, HaveRoom, number_of, taken_with}
+use Rattle.oth_pieces.specs.Hands.{Owner, StaysOwner, StayOwners, IsTokenOf, AreTokensOf, HasOnly, OwnerFits, OwnersFit, PileFits, HasRoom}
+use Rattle.oth_pieces.specs.Hands.{IsHandOf, IsNewHand, AreHandsOf, AreAllHands, AreFresh, HaveRoom, number_of, taken_with}
 use Rattle.std.specs.List.{sum_by, All}
 use Rattle.oth_pieces.specs.declared.tasks.state.Hand.{Hand}
 use Rattle.oth_pieces.specs.declared.tasks.state.Parts.{Parts}
@@ -22,7 +24,8 @@ use Rattle.oth_pieces.proofs.Settlings.{get_or_front, get_or_last}
 pub record Zipped {A B : Type 0} (R : A → B → Type 0) (xs : List A) (ys : List B) : Type 0 where
   pub each : (d : ℕ) (x : A) (y : B) → d < length ys → R (slice_index_or xs d x) (slice_index_or ys d y)
 
-pub zipped_more : {A B : Type 0} (R : A → B → Type 0) (xs : List A) (ys : List B) (x : A) (y : B) (i : ℕ) → Zipped R xs ys → length ys ≡ i → i < length xs → x ≡ slice_index_or xs i x → R x y → Zipped R xs (ys ++ y ∷ [])
+pub zipped_more : {A B : Type 0} (R : A → B → Type 0) (xs : List A) (ys : List B) (x : A) (y : B) (i : ℕ) → Zipped R xs ys → length ys ≡ i → i < length xs → x ≡ slice_index_or xs i x
+    → R x y → Zipped R xs (ys ++ y ∷ [])
 zipped_more {A} {B} R xs ys x y i z long below is right = record {
   each = λ d e f under. dite (ℕ_discrete d i)
       (λ at.
@@ -42,7 +45,8 @@ pub record Handing (owners owners' : List Owner) (passes : List Token) (i : ℕ)
   pub rest : (j : ℕ) (w u : Owner) → i ≤ j → j < length owners → slice_index_or owners' j u ≡ slice_index_or owners j w
   pub tokens : Zipped IsTokenOf owners passes
 
-pub handing_steps : (owners owners' : List Owner) (passes passes' : List Token) (i : ℕ) (w w' : Owner) (p : Token) → Handing owners owners' passes i → i < length owners → w ≡ slice_index_or owners' i w
+pub handing_steps : (owners owners' : List Owner) (passes passes' : List Token) (i : ℕ) (w w' : Owner) (p : Token) → Handing owners owners' passes i → i < length owners
+    → w ≡ slice_index_or owners' i w
     → StaysOwner w w' → IsTokenOf w p → passes' ≡ passes ++ p ∷ [] → Handing owners (set owners' i w') passes' (i + 1)
 handing_steps owners owners' passes passes' i w w' p h below is stays token more =
     let inside : i < length owners' = let l = h.long in omega arith in
@@ -106,7 +110,8 @@ none_taken x (t ∷ ts) none =
     let first = none 0 t (omega arith) in
     let rest = none_taken x ts (λ d p below. none (suc d) p (omega arith)) in omega (arith, sum_by-cons (taken_with x) t ts)
 
-pub new_hand : (tasks : Tasks) (number : ℕ) (owner : Owner) (pile : Vec Token Global) (list : Vec ℕ Global) (room : Parts) → number < vec_len tasks.thieves → OwnerFits tasks number owner → PileFits tasks pile → list.items ≡ [] → 870 ≤ vec_capacity list → HasRoom (vec_len tasks.thieves) room
+pub new_hand : (tasks : Tasks) (number : ℕ) (owner : Owner) (pile : Vec Token Global) (list : Vec ℕ Global) (room : Parts) → number < vec_len tasks.thieves
+    → OwnerFits tasks number owner → PileFits tasks pile → list.items ≡ [] → 870 ≤ vec_capacity list → HasRoom (vec_len tasks.thieves) room
     → IsNewHand tasks number (record { number = number; owner = owner; passes = pile; list = list; ended = false; room = room })
 new_hand tasks number owner pile list room below fits passes empty long has_room = (
   record {
@@ -155,7 +160,8 @@ made_next tasks owners owner hands hand made new (suc i) h below =
     let e : length (owners ++ owner ∷ []) + i ≡ length owners + suc i = omega (arith, length-append owners (owner ∷ [])) in
     let P : ℕ → Type 0 = λ k. IsNewHand tasks k (slice_index_or hands i h) in subst P e (made i h (omega arith))
 
-pub making_steps : (tasks : Tasks) (owners owners' : List Owner) (piles piles' : List Pile) (hands : List Hand) (owner : Owner) (pile : Pile) (hand : Hand) → Making tasks owners piles hands → owners ≡ owners' ++ owner ∷ []
+pub making_steps : (tasks : Tasks) (owners owners' : List Owner) (piles piles' : List Pile) (hands : List Hand) (owner : Owner) (pile : Pile) (hand : Hand)
+    → Making tasks owners piles hands → owners ≡ owners' ++ owner ∷ []
     → piles ≡ piles' ++ pile ∷ [] → IsNewHand tasks (length owners') hand → Making tasks owners' piles' (hand ∷ hands)
 making_steps tasks owners owners' piles piles' hands owner pile hand m is are new =
     let M : List Owner × List Pile → Type 0 = λ q. Making tasks q.0 q.1 hands in
@@ -183,7 +189,8 @@ pub all_have_room : (tasks : Tasks) (n : ℕ) (hands : List Hand) → AreHandsOf
 all_have_room tasks n hands new i h below = (new.2 i h (let l = new.0 in omega arith)).4
 
 -- after one hand has drawn
-pub one_drew : (tasks : Tasks) (hands : List Hand) (at : ℕ) (old new : Hand) → AreAllHands tasks hands → at < length hands → old ≡ slice_index_or hands at old → IsHandOf tasks new → number_of new ≡ number_of old
+pub one_drew : (tasks : Tasks) (hands : List Hand) (at : ℕ) (old new : Hand) → AreAllHands tasks hands → at < length hands → old ≡ slice_index_or hands at old → IsHandOf tasks new
+    → number_of new ≡ number_of old
     → AreAllHands tasks (set hands at new)
 one_drew tasks hands at old new all below is right same = record {
   some = let l = length-set hands at new in let z = all.some in omega arith;

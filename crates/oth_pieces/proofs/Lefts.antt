@@ -27,14 +27,16 @@ none_times x (y ∷ ys) h = let e = sum_by-cons (λ z. cond (z == x) 1 0) y ys i
     step true more h e = absurd (false≢true (sym h))
     step false more h e = let rest = more h in omega arith
 
-pub is_listed : (x : ℕ) (lists : List (Vec ℕ Global)) (i : ℕ) (list : Vec ℕ Global) → i < length lists → list ≡ get_or lists i list → list_any (λ y. y == x) list.items ≡ true → 0 < times_in_all x lists
+pub is_listed : (x : ℕ) (lists : List (Vec ℕ Global)) (i : ℕ) (list : Vec ℕ Global) → i < length lists → list ≡ get_or lists i list → list_any (λ y. y == x) list.items ≡ true
+    → 0 < times_in_all x lists
 is_listed x lists i list below is has =
     let some = any_times x list.items has in
     let same : times x list.items ≡ times x (get_or lists i list).items = ap (λ (l : Vec ℕ Global). times x l.items) is in
     let most = get_or-le-sum_by (λ (l : Vec ℕ Global). times x l.items) lists i list below in
     omega arith
 
-pub not_listed : (x : ℕ) (lists : List (Vec ℕ Global)) (i : ℕ) (list : Vec ℕ Global) → i < length lists → list ≡ get_or lists i list → list_any (λ y. y == x) list.items ≡ false → times_in_all x (take i lists) ≡ 0
+pub not_listed : (x : ℕ) (lists : List (Vec ℕ Global)) (i : ℕ) (list : Vec ℕ Global) → i < length lists → list ≡ get_or lists i list → list_any (λ y. y == x) list.items ≡ false
+    → times_in_all x (take i lists) ≡ 0
     → times_in_all x (take (i + 1) lists) ≡ 0
 not_listed x lists i list below is has none =
     let no_one = none_times x list.items has in

@@ -22,7 +22,8 @@ fewer f g a (suc n) each =
     step (f a) (g a) (each a (omega arith)) (fewer f g (a + 1) n (λ s l. each s (omega arith)))
   where
     step : (x y : Bool) → (x ≡ true → y ≡ true) → length (filter f (range_with_len (a + 1) n)) ≤ length (filter g (range_with_len (a + 1) n))
-        → length (cond x (a ∷ filter f (range_with_len (a + 1) n)) (filter f (range_with_len (a + 1) n))) ≤ length (cond y (a ∷ filter g (range_with_len (a + 1) n)) (filter g (range_with_len (a + 1) n)))
+        → length (cond x (a ∷ filter f (range_with_len (a + 1) n)) (filter f (range_with_len (a + 1) n)))
+        ≤ length (cond y (a ∷ filter g (range_with_len (a + 1) n)) (filter g (range_with_len (a + 1) n)))
     step true true h rest = omega arith
     step true false h rest = absurd (false≢true (h refl))
     step false true h rest = omega arith

@@ -1,5 +1,6 @@
 -- The passes of all hands, given back deque by deque.
-use Rattle.std.proofs.Common.{◌≡◌, ℕ, zero, suc, ◌+◌, ◌-◌, ◌<◌, ◌≤◌, Bool, true, false, List, [], ◌∷◌, ◌++◌, length, get_or, take, sym, refl, ap, ◌∙◌, subst, arith, slice_index_or, vec_len, nat_le, if◌then◌else◌, ◌%◌, ◌==◌, length-append, length-take}
+use Rattle.std.proofs.Common.{◌≡◌, ℕ, zero, suc, ◌+◌, ◌-◌, ◌<◌, ◌≤◌, Bool, true, false, List, [], ◌∷◌, ◌++◌, length, get_or, take, sym, refl, ap, ◌∙◌}
+use Rattle.std.proofs.Common.{subst, arith, slice_index_or, vec_len, nat_le, if◌then◌else◌, ◌%◌, ◌==◌, length-append, length-take}
 use Rattle.std.specs.List.{sum_by}
 use Rattle.std.proofs.lemmas.List.Sums.{sum_by-cons, sum_by_push}
 use Rattle.std.proofs.lemmas.Bool.Decides.{nat_tests}
@@ -69,8 +70,10 @@ settling_last n o p owners piles front owner s is =
 one_remainder : (m r : ℕ) → (if r == m then 1 else 0) + later (m + 1) r ≤ later m r
 one_remainder m r = grind (arith, nat_tests)
 
-pub settling_steps : (n : ℕ) (o : List Owner) (p : List Pile) (owners : List Owner) (piles : List Pile) (front : List Owner) (owner owner' : Owner) (piles' : List Pile) → Settling n o p owners piles → owners ≡ front ++ owner ∷ []
-    → (worker_view owner').put ≡ (worker_view owner).put → IsFair (worker_view owner') → ((x : ℕ) → owner_taken x owner' + pile_sum x piles' ≡ owner_taken x owner + pile_sum x piles) → Shortens piles piles'
+pub settling_steps : (n : ℕ) (o : List Owner) (p : List Pile) (owners : List Owner) (piles : List Pile) (front : List Owner) (owner owner' : Owner) (piles' : List Pile)
+    → Settling n o p owners piles → owners ≡ front ++ owner ∷ []
+    → (worker_view owner').put ≡ (worker_view owner).put → IsFair (worker_view owner') → ((x : ℕ) → owner_taken x owner' + pile_sum x piles' ≡ owner_taken x owner + pile_sum x piles)
+    → Shortens piles piles'
     → Settling n o p front piles'
 settling_steps n o p owners piles front owner owner' piles' s is put fair sum shorter =
     let S : List Owner → Type 0 = λ l. Settling n o p l piles in
@@ -94,7 +97,8 @@ settling_steps n o p owners piles front owner owner' piles' s is put fair sum sh
             let long = u.piles_long i pile (omega arith) in
             let old : Pile = slice_index_or piles i pile in
             let items : (slice_index_or piles' i pile).items ≡ take (vec_len old - 1) old.items = shorter.1 i pile pile (omega arith) in
-            let same : get_or (slice_index_or piles' i pile).items d q ≡ get_or old.items d q = ap (λ (l : List Token). get_or l d q) items ∙ get_or_take old.items (vec_len old - 1) d q (omega arith) in
+            let same : get_or (slice_index_or piles' i pile).items d q ≡ get_or old.items d q =
+            ap (λ (l : List Token). get_or l d q) items ∙ get_or_take old.items (vec_len old - 1) d q (omega arith) in
             let P : Owner × Token → Type 0 = λ y. IsPassOf (worker_deque y.0) y.1 in
             subst P (λ j. (get_or_front front owner d w under j, sym same j)) (u.passes i d pile q w (omega arith) (omega arith));
       };

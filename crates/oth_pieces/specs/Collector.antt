@@ -1,7 +1,9 @@
 -- What a collector has, and when it takes a reply.
---     refusal c r      why the reply isn't taken, by the first cause that holds: no such item; a reply is there; another board; the other scoring
+--     refusal c r      why the reply isn't taken, by the first cause that holds: no such item; a reply is there; another board; the
+--                      other scoring
 --     with_reply c r      the collector with this reply
-use Rattle.std.specs.Prelude.{Bool, ◌&&◌, ◌==◌, not, true, false, if◌then◌else◌, List, length, slice_get, slice_set, Option, Some, None, Result, Ok, Err, replicate}
+use Rattle.std.specs.Prelude.{Bool, ◌&&◌, ◌==◌, not, true, false, if◌then◌else◌, List, length, slice_get}
+use Rattle.std.specs.Prelude.{slice_set, Option, Some, None, Result, Ok, Err, replicate}
 use Rattle.oth_rules.specs.Position.{Position}
 use Rattle.oth_rules.specs.declared.scoring.Scoring.{Scoring}
 use Rattle.oth_rules.specs.declared.scoring.Scoring.TheVariants.{Winner, Discs}

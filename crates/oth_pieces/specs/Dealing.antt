@@ -1,6 +1,7 @@
 -- The rule of a deque of numbers: what was put is what was taken and what the deque holds.
 --     times x xs      how often x stands in the list
-use Rattle.std.specs.Prelude.{◌≡◌, ℕ, ◌+◌, ◌≤◌, Bool, true, false, ◌==◌, List, [], ◌++◌, count_by, sum_by, Option, Some, None, option_to_list}
+use Rattle.std.specs.Prelude.{◌≡◌, ℕ, ◌+◌, ◌≤◌, Bool, true, false, ◌==◌, List, [], ◌++◌}
+use Rattle.std.specs.Prelude.{count_by, sum_by, Option, Some, None, option_to_list}
 use mathlib.Core.Option.{some}
 use lib.ListN.{get_elem?}
 use Rattle.oth_pieces.specs.declared.tasks.share.Share.{Share}
@@ -18,7 +19,8 @@ Dealt items views =
     (put : List ℕ)
     × ((x : ℕ) → times x items + taken_in_all x views ≡ times x put)
     × ((port : ℕ) (v : Share) → get_elem? views port ≡ some v → v.knows ≡ true → v.put ≡ put)
-    × ((port : ℕ) (v : Share) → get_elem? views port ≡ some v → v.pushes ≡ true → (j : ℕ) (u : Share) → get_elem? views j ≡ some u → u.knows ≡ true → j ≡ port)
+    × ((port : ℕ) (v : Share) → get_elem? views port ≡ some v → v.pushes ≡ true → (j : ℕ) (u : Share) → get_elem? views j ≡ some u
+    → u.knows ≡ true → j ≡ port)
 
 abbrev pub share : Bool → Bool → List ℕ → List ℕ → Share
 share pushes knows put taken = record { pushes = pushes; knows = knows; put = put; taken = taken }

@@ -1,5 +1,6 @@
 -- The rule of a floor, and what each step tells.
--- There is one legal history. The first two words are the root's own and opposing discs, the third is the floor after the history, plus 64, and the fourth tells the scoring. What each seat has seen begins it, and has all events of that seat.
+-- There is one legal history. The first two words are the root's own and opposing discs, the third is the floor after the
+-- history, plus 64, and the fourth tells the scoring. What each seat has seen begins it, and has all events of that seat.
 use Rattle.std.specs.Prelude.{◌≡◌, ℕ, ◌≤◌, pos, ◌-ℤ◌, true, false, ◌⊎◌, List, [], ◌∷◌, length, nat_le, if◌then◌else◌, Some, None, unwrap_or}
 use mathlib.Core.Option.{some}
 use lib.ListN.{get_elem?}

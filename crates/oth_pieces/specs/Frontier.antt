@@ -18,7 +18,11 @@ awake p = if only_passes p then pass p else p
 
 -- after a move the other side is to move, unless it passes
 abbrev pub item_after : Item → Position → Item
-item_after parent p = record { board = awake p; square = parent.square; same_mover = if only_passes p then parent.same_mover else not parent.same_mover }
+item_after parent p = record {
+  board = awake p;
+  square = parent.square;
+  same_mover = if only_passes p then parent.same_mover else not parent.same_mover;
+}
 
 -- the item after a move, where it is legal
 abbrev pub child_of : Item → ℕ → List Item

@@ -4,7 +4,8 @@
 --     room_of hand, HaveRoom hands      for how many numbers it has room; each of them has room for those of any frontier
 --     AreHandsOf tasks n hands, AreAllHands tasks hands      so many new hands of the tasks; all hands of the tasks, each at its place
 --     Draws tasks old new found      the same but for the number found, which isn't in the list yet
-use Rattle.std.specs.Prelude.{◌≡◌, ℕ, ◌+◌, ◌%◌, ◌<◌, ◌≤◌, Bool, true, false, ◌&&◌, ◌==◌, nat_lt, if◌then◌else◌, List, [], length, slice_index_or, sum_by, All, vec_len, vec_capacity, Vec, ◌⊎◌, Option, Some, option_to_list}
+use Rattle.std.specs.Prelude.{◌≡◌, ℕ, ◌+◌, ◌%◌, ◌<◌, ◌≤◌, Bool, true, false, ◌&&◌, ◌==◌, nat_lt, if◌then◌else◌, List, [], length}
+use Rattle.std.specs.Prelude.{slice_index_or, sum_by, All, vec_len, vec_capacity, Vec, ◌⊎◌, Option, Some, option_to_list}
 use Rattle.std.specs.declared.alloc.Global.{Global}
 use Rattle.crossbeam_deque.specs.Handles.{Pass, view, IsPassOf, worker_deque, stealer_deque, worker_view}
 use Rattle.crossbeam_deque.specs.declared.handles.Stealer.{Stealer}
@@ -54,7 +55,8 @@ pub record Fits (tasks : Tasks) (h : Hand) : Type 0 where
   pub passes : vec_len h.passes ≡ vec_len tasks.thieves
   pub owner : (s : Thief) → worker_deque h.owner ≡ stealer_deque (slice_index_or tasks.thieves.items h.number s)
   pub owner_knows : Knows tasks h.number (worker_view h.owner)
-  pub each : (k : ℕ) (s : Thief) (p : Pass ℕ Share Global) → k < vec_len tasks.thieves → IsPassOf (stealer_deque (slice_index_or tasks.thieves.items k s)) (slice_index_or h.passes.items k p)
+  pub each : (k : ℕ) (s : Thief) (p : Pass ℕ Share Global) → k < vec_len tasks.thieves
+      → IsPassOf (stealer_deque (slice_index_or tasks.thieves.items k s)) (slice_index_or h.passes.items k p)
   pub each_knows : (k : ℕ) (p : Pass ℕ Share Global) → k < vec_len tasks.thieves → Knows tasks k (view (slice_index_or h.passes.items k p))
   pub room : HasRoom (vec_len tasks.thieves) h.room
 
@@ -108,7 +110,10 @@ abbrev pub IsThiefOf : Owner → Thief → Type 0
 IsThiefOf owner thief = stealer_deque thief ≡ worker_deque owner
 
 abbrev pub AreThievesOf : List Owner → Vec Thief Global → Type 0
-AreThievesOf owners thieves = (vec_len thieves ≡ length owners) × ((d : ℕ) (w : Owner) (t : Thief) → d < length owners → IsThiefOf (slice_index_or owners d w) (slice_index_or thieves.items d t))
+AreThievesOf owners thieves =
+    (vec_len thieves ≡ length owners)
+    × ((d : ℕ) (w : Owner) (t : Thief) → d < length owners
+    → IsThiefOf (slice_index_or owners d w) (slice_index_or thieves.items d t))
 
 abbrev pub KnowTheirs : List Owner → Type 0
 KnowTheirs owners = (d : ℕ) (w : Owner) → d < length owners → (worker_view (slice_index_or owners d w)).knows ≡ true
@@ -118,32 +123,47 @@ abbrev pub StaysOwner : Owner → Owner → Type 0
 StaysOwner old new = (worker_deque new ≡ worker_deque old) × (worker_view new ≡ owner_of (worker_view old))
 
 abbrev pub StayOwners : List Owner → List Owner → Type 0
-StayOwners old new = (length new ≡ length old) × ((d : ℕ) (w u : Owner) → d < length old → (slice_index_or new d u ≡ slice_index_or old d w) ⊎ StaysOwner (slice_index_or old d w) (slice_index_or new d u))
+StayOwners old new =
+    (length new ≡ length old)
+    × ((d : ℕ) (w u : Owner) → d < length old
+    → (slice_index_or new d u ≡ slice_index_or old d w) ⊎ StaysOwner (slice_index_or old d w) (slice_index_or new d u))
 
 abbrev pub IsTokenOf : Owner → Pass ℕ Share Global → Type 0
 IsTokenOf owner p = IsPassOf (worker_deque owner) p × (view p ≡ thief_of (worker_view owner))
 
 abbrev pub AreTokensOf : List Owner → Vec (Pass ℕ Share Global) Global → Type 0
-AreTokensOf owners passes = (vec_len passes ≡ length owners) × ((d : ℕ) (w : Owner) (p : Pass ℕ Share Global) → d < length owners → IsTokenOf (slice_index_or owners d w) (slice_index_or passes.items d p))
+AreTokensOf owners passes =
+    (vec_len passes ≡ length owners)
+    × ((d : ℕ) (w : Owner) (p : Pass ℕ Share Global) → d < length owners
+    → IsTokenOf (slice_index_or owners d w) (slice_index_or passes.items d p))
 
 -- the owner of the deque d of the tasks, with its numbers
 abbrev pub OwnerFits : Tasks → ℕ → Owner → Type 0
-OwnerFits tasks d owner = ((t : Thief) → worker_deque owner ≡ stealer_deque (slice_index_or tasks.thieves.items d t)) × IsDealt (vec_len tasks.thieves) tasks.count d owner
+OwnerFits tasks d owner =
+    ((t : Thief) → worker_deque owner ≡ stealer_deque (slice_index_or tasks.thieves.items d t))
+    × IsDealt (vec_len tasks.thieves) tasks.count d owner
 
 abbrev pub OwnersFit : Tasks → List Owner → Type 0
-OwnersFit tasks owners = (length owners ≡ vec_len tasks.thieves) × ((d : ℕ) (w : Owner) → d < length owners → OwnerFits tasks d (slice_index_or owners d w))
+OwnersFit tasks owners =
+    (length owners ≡ vec_len tasks.thieves)
+    × ((d : ℕ) (w : Owner) → d < length owners → OwnerFits tasks d (slice_index_or owners d w))
 
 -- a pass for each deque of the tasks
 pub record PileFits (tasks : Tasks) (pile : Vec (Pass ℕ Share Global) Global) : Type 0 where
   pub long : vec_len pile ≡ vec_len tasks.thieves
-  pub each : (d : ℕ) (t : Thief) (p : Pass ℕ Share Global) → d < vec_len tasks.thieves → IsPassOf (stealer_deque (slice_index_or tasks.thieves.items d t)) (slice_index_or pile.items d p)
-  pub knows : (d : ℕ) (p : Pass ℕ Share Global) → d < vec_len tasks.thieves → HasOnly (vec_len tasks.thieves) tasks.count d (view (slice_index_or pile.items d p))
+  pub each : (d : ℕ) (t : Thief) (p : Pass ℕ Share Global) → d < vec_len tasks.thieves
+      → IsPassOf (stealer_deque (slice_index_or tasks.thieves.items d t)) (slice_index_or pile.items d p)
+  pub knows : (d : ℕ) (p : Pass ℕ Share Global) → d < vec_len tasks.thieves
+      → HasOnly (vec_len tasks.thieves) tasks.count d (view (slice_index_or pile.items d p))
 
 abbrev pub IsNewHand : Tasks → ℕ → Hand → Type 0
 IsNewHand tasks number h = IsHandOf tasks h × (number_of h ≡ number) × (list_of h ≡ []) × (has_ended h ≡ false) × (870 ≤ room_of h)
 
 abbrev pub AreHandsOf : Tasks → ℕ → List Hand → Type 0
-AreHandsOf tasks n hands = (length hands ≡ n) × (vec_len tasks.thieves ≡ n) × ((i : ℕ) (h : Hand) → i < n → IsNewHand tasks i (slice_index_or hands i h))
+AreHandsOf tasks n hands =
+    (length hands ≡ n)
+    × (vec_len tasks.thieves ≡ n)
+    × ((i : ℕ) (h : Hand) → i < n → IsNewHand tasks i (slice_index_or hands i h))
 
 -- the hands of the tasks, each at its number
 pub record AreAllHands (tasks : Tasks) (hands : List Hand) : Type 0 where

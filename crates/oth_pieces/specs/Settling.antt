@@ -1,5 +1,6 @@
 -- The passes of all hands, laid together by their hands. The pass for the deque d stands at d of each pile.
-use Rattle.std.specs.Prelude.{◌≡◌, ℕ, ◌-◌, ◌%◌, ◌==◌, if◌then◌else◌, ◌<◌, ◌≤◌, true, List, length, take, slice_index_or, sum_by, vec_len, Vec}
+use Rattle.std.specs.Prelude.{◌≡◌, ℕ, ◌-◌, ◌%◌, ◌==◌, if◌then◌else◌, ◌<◌, ◌≤◌, true, List}
+use Rattle.std.specs.Prelude.{length, take, slice_index_or, sum_by, vec_len, Vec}
 use Rattle.std.specs.declared.alloc.Global.{Global}
 use Rattle.crossbeam_deque.specs.Handles.{Pass, IsPassOf, worker_deque, worker_view}
 use Rattle.crossbeam_deque.specs.declared.handles.Worker.{Worker}
@@ -35,11 +36,17 @@ abbrev pub LastAreOf : Owner → List Pile → Type 0
 LastAreOf owner piles = (i : ℕ) (d : Pile) → i < length piles → LastIsOf owner (slice_index_or piles i d)
 
 abbrev pub SameOwner : Owner → Owner → Type 0
-SameOwner old new = (worker_deque new ≡ worker_deque old) × ((worker_view new).knows ≡ (worker_view old).knows) × ((worker_view new).put ≡ (worker_view old).put)
+SameOwner old new =
+    (worker_deque new ≡ worker_deque old)
+    × ((worker_view new).knows ≡ (worker_view old).knows)
+    × ((worker_view new).put ≡ (worker_view old).put)
 
 -- each pile loses its last pass
 abbrev pub Shortens : List Pile → List Pile → Type 0
-Shortens old new = (length new ≡ length old) × ((i : ℕ) (d e : Pile) → i < length old → (slice_index_or new i d).items ≡ take (vec_len (slice_index_or old i e) - 1) (slice_index_or old i e).items)
+Shortens old new =
+    (length new ≡ length old)
+    × ((i : ℕ) (d e : Pile) → i < length old
+    → (slice_index_or new i d).items ≡ take (vec_len (slice_index_or old i e) - 1) (slice_index_or old i e).items)
 
 -- the owner of the deque d of n knows what was put there: numbers of that remainder, each once at most
 abbrev pub KnowsItsOwn : ℕ → ℕ → Owner → Type 0
@@ -49,7 +56,8 @@ KnowsItsOwn n d owner = ((worker_view owner).knows ≡ true) × ((x : ℕ) → t
 pub record IsUnsettled (n : ℕ) (owners : List Owner) (piles : List Pile) : Type 0 where
   pub owners_know : (d : ℕ) (w : Owner) → d < length owners → KnowsItsOwn n d (slice_index_or owners d w)
   pub piles_long : (i : ℕ) (pile : Pile) → i < length piles → vec_len (slice_index_or piles i pile) ≡ length owners
-  pub passes : (i d : ℕ) (pile : Pile) (p : Token) (w : Owner) → i < length piles → d < length owners → IsPassOf (worker_deque (slice_index_or owners d w)) (slice_index_or (slice_index_or piles i pile).items d p)
+  pub passes : (i d : ℕ) (pile : Pile) (p : Token) (w : Owner) → i < length piles → d < length owners
+      → IsPassOf (worker_deque (slice_index_or owners d w)) (slice_index_or (slice_index_or piles i pile).items d p)
 
 abbrev pub CanSettle : List Owner → List Pile → Type 0
 CanSettle owners piles = (0 < length owners) × IsUnsettled (length owners) owners piles

@@ -26,7 +26,8 @@ unfolding image
 IsBoard-image p s = position_of-IsBoard (λ q. cell p (unmap_square s q))
 
 -- the image of the position that the words are, by the words that were carried
-pub image_of : (own opp own' opp' s : ℕ) (p : Position) → ◌≡◌ {A = Position} (record { own = own; opp = opp }) p → IsBoard (record { own = own; opp = opp }) → own' ≡ map_word s own → opp' ≡ map_word s opp →
+pub image_of : (own opp own' opp' s : ℕ) (p : Position) → ◌≡◌ {A = Position} (record { own = own; opp = opp }) p → IsBoard (record { own = own; opp = opp }) → own' ≡ map_word s own
+    → opp' ≡ map_word s opp →
     ◌≡◌ {A = Position} (record { own = own'; opp = opp' }) (image s p)
 image_of own opp own' opp' s p e b f g =
     ap (λ x. let r : Position = record { own = x; opp = opp' } in r) f
@@ -145,9 +146,18 @@ least_image-IsLeast (suc n) p = step (least_image-IsLeast n p) (cases_Bool (is_b
     more : (c : Position) (s : ℕ) → IsLeast p c s (suc n + 1) → IsLeast p c s (suc (suc n))
     more c s h = rw add-one at h
 
-    step : (s : ℕ) × IsLeast p (least_image n p) s (suc n) → (is_below (image (suc n) p) (least_image n p) ≡ true) ⊎ (is_below (image (suc n) p) (least_image n p) ≡ false) → (s : ℕ) × IsLeast p (least_image (suc n) p) s (suc (suc n))
-    step h (inl e) = (suc n, rw (least_image-suc n p, lesser_yes (image (suc n) p) (least_image n p) e) (more (image (suc n) p) (suc n) (least_yes p (least_image n p) (image (suc n) p) h.0 (suc n) (suc n) h.1 refl refl e)))
-    step h (inr e) = (h.0, rw (least_image-suc n p, lesser_no (image (suc n) p) (least_image n p) e) (more (least_image n p) h.0 (least_no p (least_image n p) (image (suc n) p) h.0 (suc n) (suc n) h.1 refl refl e)))
+    step : (s : ℕ) × IsLeast p (least_image n p) s (suc n) → (is_below (image (suc n) p) (least_image n p) ≡ true) ⊎ (is_below (image (suc n) p) (least_image n p) ≡ false)
+        → (s : ℕ) × IsLeast p (least_image (suc n) p) s (suc (suc n))
+    step h (inl e) = (
+      suc n,
+      rw (least_image-suc n p, lesser_yes (image (suc n) p) (least_image n p) e)
+          (more (image (suc n) p) (suc n) (least_yes p (least_image n p) (image (suc n) p) h.0 (suc n) (suc n) h.1 refl refl e)),
+    )
+    step h (inr e) = (
+      h.0,
+      rw (least_image-suc n p, lesser_no (image (suc n) p) (least_image n p) e)
+          (more (least_image n p) h.0 (least_no p (least_image n p) (image (suc n) p) h.0 (suc n) (suc n) h.1 refl refl e)),
+    )
 
 pub canonical-least : (p : Position) → (s : ℕ) × IsLeastImage p (canonical p) s
 unfolding canonical

@@ -7,7 +7,8 @@ use Rattle.std.proofs.lemmas.Bool.{cases_Bool, cases_eq, eq-eqb, ne_eqb, eqb-tru
 use Rattle.std.proofs.lemmas.Nat.{ones_cat}
 use Rattle.std.proofs.lemmas.List.Sums.{sum_by-append}
 use Rattle.oth_rules.specs.Square.{word_of, word_below, squares, is_in, directions, ray}
-use Rattle.oth_rules.specs.Position.{Position, Cell, Mine, Theirs, Empty, cell, is_mine, is_theirs, is_empty, is_mine_cell, is_theirs_cell, is_empty_cell, position_of, opposite_cell, pass, mine_count, theirs_count, empty_count}
+use Rattle.oth_rules.specs.Position.{Position, Cell, Mine, Theirs, Empty, cell, is_mine, is_theirs, is_empty, is_mine_cell, is_theirs_cell}
+use Rattle.oth_rules.specs.Position.{is_empty_cell, position_of, opposite_cell, pass, mine_count, theirs_count, empty_count}
 use Rattle.oth_rules.specs.Move.{outflanked, flipped_along, is_flipped, is_legal, after}
 use Rattle.oth_rules.proofs.Bits.{word_below-lt}
 use Rattle.oth_rules.proofs.Rays.{front, is_closed, outflanked-is, in_front}

@@ -105,32 +105,50 @@ three w a b r f g h σ ea eb er t =
     ∙ ap (λ v. has v (g (h q))) ea ∙ has-word_of (λ q. has w (f q)) (g (h q)) (ltb-true (g (h q)) 64 second.0)
     ∙ ap (has w) (eqb-true (f (g (h q))) (σ q) second.1))
 
-mirrored_table : agree_below (three_table (exchanged_square 0x5555_5555_5555_5555 1) (exchanged_square 0x3333_3333_3333_3333 2) (exchanged_square 0x0f0f_0f0f_0f0f_0f0f 4) mirrored_square) (λ _. true) 64 ≡ true
+mirrored_table : agree_below
+    (three_table (exchanged_square 0x5555_5555_5555_5555 1) (exchanged_square 0x3333_3333_3333_3333 2) (exchanged_square 0x0f0f_0f0f_0f0f_0f0f 4) mirrored_square)
+    (λ _. true) 64
+    ≡ true
 unfolding three_table exchanged_square mirrored_square has
 mirrored_table = refl
 
-flipped_table : agree_below (three_table (exchanged_square 0x00ff_00ff_00ff_00ff 8) (exchanged_square 0x0000_ffff_0000_ffff 16) (exchanged_square 0x0000_0000_ffff_ffff 32) flipped_square) (λ _. true) 64 ≡ true
+flipped_table : agree_below
+    (three_table (exchanged_square 0x00ff_00ff_00ff_00ff 8) (exchanged_square 0x0000_ffff_0000_ffff 16) (exchanged_square 0x0000_0000_ffff_ffff 32) flipped_square)
+    (λ _. true) 64
+    ≡ true
 unfolding three_table exchanged_square flipped_square has
 flipped_table = refl
 
-transposed_table : agree_below (three_table (exchanged_square 0x00aa_00aa_00aa_00aa 7) (exchanged_square 0x0000_cccc_0000_cccc 14) (exchanged_square 0x0000_0000_f0f0_f0f0 28) transposed_square) (λ _. true) 64 ≡ true
+transposed_table : agree_below
+    (three_table (exchanged_square 0x00aa_00aa_00aa_00aa 7) (exchanged_square 0x0000_cccc_0000_cccc 14) (exchanged_square 0x0000_0000_f0f0_f0f0 28) transposed_square)
+    (λ _. true) 64
+    ≡ true
 unfolding three_table exchanged_square transposed_square has
 transposed_table = refl
 
-pub mirrored_word : (w a b r : ℕ) → a ≡ word_of (λ q. has w (exchanged_square 0x5555_5555_5555_5555 1 q)) → b ≡ word_of (λ q. has a (exchanged_square 0x3333_3333_3333_3333 2 q)) → r ≡ word_of (λ q. has b (exchanged_square 0x0f0f_0f0f_0f0f_0f0f 4 q)) → r ≡ word_of (λ q. has w (mirrored_square q))
+pub mirrored_word : (w a b r : ℕ) → a ≡ word_of (λ q. has w (exchanged_square 0x5555_5555_5555_5555 1 q)) → b ≡ word_of (λ q. has a (exchanged_square 0x3333_3333_3333_3333 2 q))
+    → r ≡ word_of (λ q. has b (exchanged_square 0x0f0f_0f0f_0f0f_0f0f 4 q)) → r ≡ word_of (λ q. has w (mirrored_square q))
 mirrored_word w a b r ea eb er =
     three w a b r (exchanged_square 0x5555_5555_5555_5555 1) (exchanged_square 0x3333_3333_3333_3333 2) (exchanged_square 0x0f0f_0f0f_0f0f_0f0f 4) mirrored_square ea eb er
-    (λ q l. agree_below_at (three_table (exchanged_square 0x5555_5555_5555_5555 1) (exchanged_square 0x3333_3333_3333_3333 2) (exchanged_square 0x0f0f_0f0f_0f0f_0f0f 4) mirrored_square) (λ _. true) 64 q mirrored_table l)
+    (λ q l.
+    agree_below_at (three_table (exchanged_square 0x5555_5555_5555_5555 1) (exchanged_square 0x3333_3333_3333_3333 2) (exchanged_square 0x0f0f_0f0f_0f0f_0f0f 4) mirrored_square)
+    (λ _. true) 64 q mirrored_table l)
 
-pub flipped_word : (w a b r : ℕ) → a ≡ word_of (λ q. has w (exchanged_square 0x00ff_00ff_00ff_00ff 8 q)) → b ≡ word_of (λ q. has a (exchanged_square 0x0000_ffff_0000_ffff 16 q)) → r ≡ word_of (λ q. has b (exchanged_square 0x0000_0000_ffff_ffff 32 q)) → r ≡ word_of (λ q. has w (flipped_square q))
+pub flipped_word : (w a b r : ℕ) → a ≡ word_of (λ q. has w (exchanged_square 0x00ff_00ff_00ff_00ff 8 q)) → b ≡ word_of (λ q. has a (exchanged_square 0x0000_ffff_0000_ffff 16 q))
+    → r ≡ word_of (λ q. has b (exchanged_square 0x0000_0000_ffff_ffff 32 q)) → r ≡ word_of (λ q. has w (flipped_square q))
 flipped_word w a b r ea eb er =
     three w a b r (exchanged_square 0x00ff_00ff_00ff_00ff 8) (exchanged_square 0x0000_ffff_0000_ffff 16) (exchanged_square 0x0000_0000_ffff_ffff 32) flipped_square ea eb er
-    (λ q l. agree_below_at (three_table (exchanged_square 0x00ff_00ff_00ff_00ff 8) (exchanged_square 0x0000_ffff_0000_ffff 16) (exchanged_square 0x0000_0000_ffff_ffff 32) flipped_square) (λ _. true) 64 q flipped_table l)
+    (λ q l.
+    agree_below_at (three_table (exchanged_square 0x00ff_00ff_00ff_00ff 8) (exchanged_square 0x0000_ffff_0000_ffff 16) (exchanged_square 0x0000_0000_ffff_ffff 32) flipped_square)
+    (λ _. true) 64 q flipped_table l)
 
-pub transposed_word : (w a b r : ℕ) → a ≡ word_of (λ q. has w (exchanged_square 0x00aa_00aa_00aa_00aa 7 q)) → b ≡ word_of (λ q. has a (exchanged_square 0x0000_cccc_0000_cccc 14 q)) → r ≡ word_of (λ q. has b (exchanged_square 0x0000_0000_f0f0_f0f0 28 q)) → r ≡ word_of (λ q. has w (transposed_square q))
+pub transposed_word : (w a b r : ℕ) → a ≡ word_of (λ q. has w (exchanged_square 0x00aa_00aa_00aa_00aa 7 q)) → b ≡ word_of (λ q. has a (exchanged_square 0x0000_cccc_0000_cccc 14 q))
+    → r ≡ word_of (λ q. has b (exchanged_square 0x0000_0000_f0f0_f0f0 28 q)) → r ≡ word_of (λ q. has w (transposed_square q))
 transposed_word w a b r ea eb er =
     three w a b r (exchanged_square 0x00aa_00aa_00aa_00aa 7) (exchanged_square 0x0000_cccc_0000_cccc 14) (exchanged_square 0x0000_0000_f0f0_f0f0 28) transposed_square ea eb er
-    (λ q l. agree_below_at (three_table (exchanged_square 0x00aa_00aa_00aa_00aa 7) (exchanged_square 0x0000_cccc_0000_cccc 14) (exchanged_square 0x0000_0000_f0f0_f0f0 28) transposed_square) (λ _. true) 64 q transposed_table l)
+    (λ q l.
+    agree_below_at (three_table (exchanged_square 0x00aa_00aa_00aa_00aa 7) (exchanged_square 0x0000_cccc_0000_cccc 14) (exchanged_square 0x0000_0000_f0f0_f0f0 28) transposed_square)
+    (λ _. true) 64 q transposed_table l)
 
 -- ---- along a symmetry
 
@@ -146,7 +164,8 @@ unfolding everywhere three_table turn map_square turned_if mirrored_square flipp
 unmap_table = refl
 
 pub map_is : (s w a b r : ℕ) (t m f : Bool) → s < 8 → t ≡ has s 2 → m ≡ has s 0 → f ≡ has s 1 →
-    a ≡ word_of (λ q. has w (if t then transposed_square q else q)) → b ≡ word_of (λ q. has a (if m then mirrored_square q else q)) → r ≡ word_of (λ q. has b (if f then flipped_square q else q)) → r ≡ map_word s w
+    a ≡ word_of (λ q. has w (if t then transposed_square q else q)) → b ≡ word_of (λ q. has a (if m then mirrored_square q else q))
+    → r ≡ word_of (λ q. has b (if f then flipped_square q else q)) → r ≡ map_word s w
 unfolding map_word turn
 map_is s w a b r t m f l et em ef ea eb er =
     three w a b r (turn s 2 transposed_square) (turn s 0 mirrored_square) (turn s 1 flipped_square) (unmap_square s)
@@ -156,7 +175,8 @@ map_is s w a b r t m f l et em ef ea eb er =
     (λ q k. everywhere-at (λ s. three_table (turn s 2 transposed_square) (turn s 0 mirrored_square) (turn s 1 flipped_square) (unmap_square s)) s q map_table l k)
 
 pub unmap_is : (s w a b r : ℕ) (t m f : Bool) → s < 8 → t ≡ has s 2 → m ≡ has s 0 → f ≡ has s 1 →
-    a ≡ word_of (λ q. has w (if f then flipped_square q else q)) → b ≡ word_of (λ q. has a (if m then mirrored_square q else q)) → r ≡ word_of (λ q. has b (if t then transposed_square q else q)) → r ≡ unmap_word s w
+    a ≡ word_of (λ q. has w (if f then flipped_square q else q)) → b ≡ word_of (λ q. has a (if m then mirrored_square q else q))
+    → r ≡ word_of (λ q. has b (if t then transposed_square q else q)) → r ≡ unmap_word s w
 unfolding unmap_word turn
 unmap_is s w a b r t m f l et em ef ea eb er =
     three w a b r (turn s 1 flipped_square) (turn s 0 mirrored_square) (turn s 2 transposed_square) (map_square s)

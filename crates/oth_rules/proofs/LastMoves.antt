@@ -6,7 +6,8 @@ use Rattle.std.proofs.lemmas.Bool.{cases_Bool, eqb-true, eq-eqb, ltb-true, and_p
 use Rattle.std.proofs.lemmas.Nat.{or_disjoint, and_le_l, and_le_r, pow_below}
 use Rattle.std.proofs.lemmas.List.{length-append, length-map}
 use Rattle.oth_rules.specs.Square.{Direction, Back, Stay, Forth, has, word_of, next, stepped, square_at, squares, directions, ray_from, ray, is_in}
-use Rattle.oth_rules.specs.Position.{Position, IsBoard, Cell, Mine, Theirs, Empty, cell, is_mine, is_theirs, is_empty, is_mine_cell, is_theirs_cell, is_empty_cell, opposite_cell, mine_count, theirs_count}
+use Rattle.oth_rules.specs.Position.{Position, IsBoard, Cell, Mine, Theirs, Empty, cell, is_mine, is_theirs, is_empty, is_mine_cell}
+use Rattle.oth_rules.specs.Position.{is_theirs_cell, is_empty_cell, opposite_cell, mine_count, theirs_count}
 use Rattle.oth_rules.specs.Move.{outflanked, flipped_along, is_flipped, is_legal, after}
 use Rattle.oth_rules.specs.Line.{reversed}
 use Rattle.oth_rules.specs.LastMove.{IsLast, gathered}
@@ -87,7 +88,9 @@ unfolding counts_right every picked before some closed_in ray ray_from next step
 rising_right = refl
 
 counts_at : (i : ℕ) (place : ℕ → ℕ) (d : Direction) (s : ℕ) (g : ℕ → Bool) → agree_below (counts_right i place d) (λ _. true) 64 ≡ true → s < 64 →
-    slice_index_or (slice_index_or LINE_COUNTS (place s) []) (gathered (picked (map g (ray d s)) (ray d s) + picked (map g (ray (reversed d) s)) (ray (reversed d) s)) (slice_index_or (slice_index_or LINE_FACTORS s []) i 0)) 0
+    slice_index_or (slice_index_or LINE_COUNTS (place s) [])
+    (gathered (picked (map g (ray d s)) (ray d s) + picked (map g (ray (reversed d) s)) (ray (reversed d) s)) (slice_index_or (slice_index_or LINE_FACTORS s []) i 0))
+    0
     ≡ closed_in (map g (ray d s)) + closed_in (map g (ray (reversed d) s))
 unfolding counts_right
 counts_at i place d s g computed l =
@@ -352,15 +355,18 @@ closed_outflanked p line f =
     ∙ sym (ap length (outflanked-is p line) ∙ length_if (is_closed p line) (front p line))
 
 -- the count of the table, for a line and the board's discs
-counted_line : (i : ℕ) (place : ℕ → ℕ) (d : Direction) (p : Position) (s : ℕ) → agree_below (counts_right i place d) (λ _. true) 64 ≡ true → agree_below (mask_right i d) (λ _. true) 64 ≡ true → IsBoard p → IsLast p s →
+counted_line : (i : ℕ) (place : ℕ → ℕ) (d : Direction) (p : Position) (s : ℕ) → agree_below (counts_right i place d) (λ _. true) 64 ≡ true
+    → agree_below (mask_right i d) (λ _. true) 64 ≡ true → IsBoard p → IsLast p s →
     slice_index_or (slice_index_or LINE_COUNTS (place s) []) (gathered (bit_and p.own (slice_index_or (slice_index_or LINE_MASKS s []) i 0)) (slice_index_or (slice_index_or LINE_FACTORS s []) i 0)) 0
     ≡ length (flipped_along p s d) + length (flipped_along p s (reversed d))
 unfolding flipped_along
 counted_line i place d p s counts masks b last =
     ap (λ w. slice_index_or (slice_index_or LINE_COUNTS (place s) []) (gathered w (slice_index_or (slice_index_or LINE_FACTORS s []) i 0)) 0) (masked i d s p.own masks last.on_board b.own_fits)
     ∙ counts_at i place d s (has p.own) counts last.on_board
-    ∙ ap (λ n. n + closed_in (map (has p.own) (ray (reversed d) s))) (closed_outflanked p (ray d s) (λ q h. full q (in_append (ray d s) (ray (reversed d) s) q ∙ ap (λ x. x || is_in (ray (reversed d) s) q) h)))
-    ∙ ap (λ n. length (outflanked p (ray d s)) + n) (closed_outflanked p (ray (reversed d) s) (λ q h. full q (in_append (ray d s) (ray (reversed d) s) q ∙ or_true (is_in (ray d s) q) (is_in (ray (reversed d) s) q) h)))
+    ∙ ap (λ n. n + closed_in (map (has p.own) (ray (reversed d) s)))
+    (closed_outflanked p (ray d s) (λ q h. full q (in_append (ray d s) (ray (reversed d) s) q ∙ ap (λ x. x || is_in (ray (reversed d) s) q) h)))
+    ∙ ap (λ n. length (outflanked p (ray d s)) + n)
+    (closed_outflanked p (ray (reversed d) s) (λ q h. full q (in_append (ray d s) (ray (reversed d) s) q ∙ or_true (is_in (ray d s) q) (is_in (ray (reversed d) s) q) h)))
   where
     full : (q : ℕ) → is_in (ray d s ++ ray (reversed d) s) q ≡ true → is_theirs p q ≡ not (is_mine p q)
     full q h =
@@ -521,7 +527,8 @@ last_flips p s board last masks factors a b c d em ef ea eb ec ed =
     let column = counted_line 2 row_of (record { columns = Stay; rows = Forth }) p s columns_right column_masks board last in
     let rising = counted_line 3 column_of (record { columns = Back; rows = Forth }) p s rising_right rising_masks board last in
     let all = flips_count p s last.on_board last.empty ∙ joined_length (flipped_along p s) directions in
-    together a b c d (f (record { columns = Stay; rows = Back })) (f (record { columns = Forth; rows = Back })) (f (record { columns = Forth; rows = Stay })) (f (record { columns = Forth; rows = Forth }))
+    together a b c d (f (record { columns = Stay; rows = Back })) (f (record { columns = Forth; rows = Back })) (f (record { columns = Forth; rows = Stay }))
+    (f (record { columns = Forth; rows = Forth }))
     (f (record { columns = Stay; rows = Forth })) (f (record { columns = Back; rows = Forth })) (f (record { columns = Back; rows = Stay })) (f (record { columns = Back; rows = Back }))
     (count_by (is_flipped p s) squares)
     (ea ∙ ap (λ m. slice_index_or (slice_index_or LINE_COUNTS (s % 8) []) (gathered (bit_and p.own (slice_index_or m 0 0)) (slice_index_or factors 0 0)) 0) em

@@ -158,15 +158,18 @@ past_north : (p : Position) (moved : ℕ) → IsBoard p → Past p p.opp (λ e. 
 unfolding covers in_or_first is_none rises_on rises_onto next stepped square_at
 past_north p moved b m = rising_past (λ _. true) 8 (record { columns = Stay; rows = Back }) p p.opp moved b refl (all_squares p) refl m
 
-past_north_east : (p : Position) (moved : ℕ) → IsBoard p → Past p (bit_and p.opp INNER) (λ e. Rises e 7 (has (bit_and p.opp INNER))) moved → moved ≡ word_of (λ s. outflanks p s (record { columns = Forth; rows = Back }))
+past_north_east : (p : Position) (moved : ℕ) → IsBoard p → Past p (bit_and p.opp INNER) (λ e. Rises e 7 (has (bit_and p.opp INNER))) moved
+    → moved ≡ word_of (λ s. outflanks p s (record { columns = Forth; rows = Back }))
 unfolding covers in_or_first is_none rises_on rises_onto next stepped square_at has
 past_north_east p moved b m = rising_past (has INNER) 7 (record { columns = Forth; rows = Back }) p (bit_and p.opp INNER) moved b refl (inner_squares p) refl m
 
-past_east : (p : Position) (moved : ℕ) → IsBoard p → Past p (bit_and p.opp INNER) (λ e. Falls e 1 (has (bit_and p.opp INNER))) moved → moved ≡ word_of (λ s. outflanks p s (record { columns = Forth; rows = Stay }))
+past_east : (p : Position) (moved : ℕ) → IsBoard p → Past p (bit_and p.opp INNER) (λ e. Falls e 1 (has (bit_and p.opp INNER))) moved
+    → moved ≡ word_of (λ s. outflanks p s (record { columns = Forth; rows = Stay }))
 unfolding covers in_or_first is_none falls_on falls_onto next stepped square_at has
 past_east p moved b m = falling_past (has INNER) 1 (record { columns = Forth; rows = Stay }) p (bit_and p.opp INNER) moved b refl (inner_squares p) refl m
 
-past_south_east : (p : Position) (moved : ℕ) → IsBoard p → Past p (bit_and p.opp INNER) (λ e. Falls e 9 (has (bit_and p.opp INNER))) moved → moved ≡ word_of (λ s. outflanks p s (record { columns = Forth; rows = Forth }))
+past_south_east : (p : Position) (moved : ℕ) → IsBoard p → Past p (bit_and p.opp INNER) (λ e. Falls e 9 (has (bit_and p.opp INNER))) moved
+    → moved ≡ word_of (λ s. outflanks p s (record { columns = Forth; rows = Forth }))
 unfolding covers in_or_first is_none falls_on falls_onto next stepped square_at has
 past_south_east p moved b m = falling_past (has INNER) 9 (record { columns = Forth; rows = Forth }) p (bit_and p.opp INNER) moved b refl (inner_squares p) refl m
 
@@ -174,15 +177,18 @@ past_south : (p : Position) (moved : ℕ) → IsBoard p → Past p p.opp (λ e. 
 unfolding covers in_or_first is_none falls_on falls_onto next stepped square_at
 past_south p moved b m = falling_past (λ _. true) 8 (record { columns = Stay; rows = Forth }) p p.opp moved b refl (all_squares p) refl m
 
-past_south_west : (p : Position) (moved : ℕ) → IsBoard p → Past p (bit_and p.opp INNER) (λ e. Falls e 7 (has (bit_and p.opp INNER))) moved → moved ≡ word_of (λ s. outflanks p s (record { columns = Back; rows = Forth }))
+past_south_west : (p : Position) (moved : ℕ) → IsBoard p → Past p (bit_and p.opp INNER) (λ e. Falls e 7 (has (bit_and p.opp INNER))) moved
+    → moved ≡ word_of (λ s. outflanks p s (record { columns = Back; rows = Forth }))
 unfolding covers in_or_first is_none falls_on falls_onto next stepped square_at has
 past_south_west p moved b m = falling_past (has INNER) 7 (record { columns = Back; rows = Forth }) p (bit_and p.opp INNER) moved b refl (inner_squares p) refl m
 
-past_west : (p : Position) (moved : ℕ) → IsBoard p → Past p (bit_and p.opp INNER) (λ e. Rises e 1 (has (bit_and p.opp INNER))) moved → moved ≡ word_of (λ s. outflanks p s (record { columns = Back; rows = Stay }))
+past_west : (p : Position) (moved : ℕ) → IsBoard p → Past p (bit_and p.opp INNER) (λ e. Rises e 1 (has (bit_and p.opp INNER))) moved
+    → moved ≡ word_of (λ s. outflanks p s (record { columns = Back; rows = Stay }))
 unfolding covers in_or_first is_none rises_on rises_onto next stepped square_at has
 past_west p moved b m = rising_past (has INNER) 1 (record { columns = Back; rows = Stay }) p (bit_and p.opp INNER) moved b refl (inner_squares p) refl m
 
-past_north_west : (p : Position) (moved : ℕ) → IsBoard p → Past p (bit_and p.opp INNER) (λ e. Rises e 9 (has (bit_and p.opp INNER))) moved → moved ≡ word_of (λ s. outflanks p s (record { columns = Back; rows = Back }))
+past_north_west : (p : Position) (moved : ℕ) → IsBoard p → Past p (bit_and p.opp INNER) (λ e. Rises e 9 (has (bit_and p.opp INNER))) moved
+    → moved ≡ word_of (λ s. outflanks p s (record { columns = Back; rows = Back }))
 unfolding covers in_or_first is_none rises_on rises_onto next stepped square_at has
 past_north_west p moved b m = rising_past (has INNER) 9 (record { columns = Back; rows = Back }) p (bit_and p.opp INNER) moved b refl (inner_squares p) refl m
 
@@ -278,7 +284,8 @@ module _ (p : Position) (board : IsBoard p) where
   inner_fits : bit_and p.opp INNER < 2 ^ 64
   inner_fits = omega (arith, and_le_l p.opp INNER, board.opp_fits)
 
-  past_rising_four : bit_or (bit_or (bit_or (past_rising_word 8 p.own p.opp) (past_rising_word 7 p.own (bit_and p.opp INNER))) (past_rising_word 1 p.own (bit_and p.opp INNER))) (past_rising_word 9 p.own (bit_and p.opp INNER))
+  past_rising_four : bit_or (bit_or (bit_or (past_rising_word 8 p.own p.opp) (past_rising_word 7 p.own (bit_and p.opp INNER))) (past_rising_word 1 p.own (bit_and p.opp INNER)))
+      (past_rising_word 9 p.own (bit_and p.opp INNER))
       ≡ word_of (λ s. list_any (outflanks p s) falling_directions)
   unfolding falling_directions
   past_rising_four =
@@ -292,7 +299,8 @@ module _ (p : Position) (board : IsBoard p) where
       (past_west p (past_rising_word 1 p.own (bit_and p.opp INNER)) board (λ e r. past_rising e 1 p.own (bit_and p.opp INNER) board.own_fits inner_fits r))
       (past_north_west p (past_rising_word 9 p.own (bit_and p.opp INNER)) board (λ e r. past_rising e 9 p.own (bit_and p.opp INNER) board.own_fits inner_fits r))
 
-  past_falling_four : bit_or (bit_or (bit_or (past_falling_word 1 p.own (bit_and p.opp INNER)) (past_falling_word 9 p.own (bit_and p.opp INNER))) (past_falling_word 8 p.own p.opp)) (past_falling_word 7 p.own (bit_and p.opp INNER))
+  past_falling_four : bit_or (bit_or (bit_or (past_falling_word 1 p.own (bit_and p.opp INNER)) (past_falling_word 9 p.own (bit_and p.opp INNER))) (past_falling_word 8 p.own p.opp))
+      (past_falling_word 7 p.own (bit_and p.opp INNER))
       ≡ word_of (λ s. list_any (outflanks p s) rising_directions)
   unfolding rising_directions
   past_falling_four =

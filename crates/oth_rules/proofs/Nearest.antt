@@ -5,7 +5,8 @@ use Rattle.std.specs.Int.{bit_at, trailing_zeros, leading_zeros, w64}
 use Rattle.std.specs.Int.Count.{leading_unique}
 use Rattle.std.proofs.lemmas.Bool.{cases_lt, cases_eq, eq-eqb, lt-ltb, le-ltb, ltb-true, eqb-true, ne_eqb, and_parts, false≢true}
 use Rattle.std.proofs.lemmas.Nat.{leading_length, leading_top, and_comm, and_le_l, and_le_r, or_lt, pow_pos, le_or_l, le_or_r, mod_below, pow_below}
-use Rattle.std.proofs.lemmas.Nat.Bits.{bit_at-trailing_zeros, bit_at_cat_high, bit_at_cat_low, bit_at_above, bit_at-suc, bit_at_lowest, bit_at_ones, bit_at_ones_above, bit_at_mask_inside, bit_at_mask_below, same_from_bits_below, and_pow, bit_at-zero}
+use Rattle.std.proofs.lemmas.Nat.Bits.{bit_at-trailing_zeros, bit_at_cat_high, bit_at_cat_low, bit_at_above, bit_at-suc, bit_at_lowest, bit_at_ones, bit_at_ones_above, bit_at_mask_inside}
+use Rattle.std.proofs.lemmas.Nat.Bits.{bit_at_mask_below, same_from_bits_below, and_pow, bit_at-zero}
 use Rattle.oth_rules.specs.Square.{has, word_of, is_in}
 use Rattle.oth_rules.specs.Position.{Position, IsBoard, is_mine, is_theirs}
 use Rattle.oth_rules.specs.Move.{outflanked}
@@ -14,7 +15,8 @@ use Rattle.oth_rules.proofs.Bits.{has-and, has-not, has-zero, has-pow, is_word_o
 use Rattle.oth_rules.proofs.Positions.{is_mine-has, is_theirs-has}
 use Rattle.oth_rules.proofs.Lines.{and_turn}
 use Rattle.oth_rules.proofs.Words.{some_square}
-use Rattle.oth_rules.proofs.Fronts.{is_ordered, IsNearest, all_theirs, open_line, outflanked_at, not_outflanked_at, is_below, is_above, rising-ordered, rising-lt, in_rising, falling-ordered, falling-lt, in_falling}
+use Rattle.oth_rules.proofs.Fronts.{is_ordered, IsNearest, all_theirs, open_line, outflanked_at, not_outflanked_at, is_below, is_above, rising-ordered, rising-lt, in_rising, falling-ordered}
+use Rattle.oth_rules.proofs.Fronts.{falling-lt, in_falling}
 
 -- k is the word's first square
 pub record IsFirst (before : ℕ → ℕ → Bool) (w k : ℕ) : Type 0 where
@@ -313,13 +315,19 @@ module _ (p : Position) (board : IsBoard p) (ray nearest : ℕ) (fits : ray < 2 
     outflanked_up =
         elim (cases_eq (bit_and nearest p.own) 0) [
           | inl z ↦ ap (λ x. bit_and (x - 1) ray) z ∙ nothing_in ray
-              ∙ open_ray is_below below_back p board (rising ray) ray nearest (trailing_zeros w64 spare) (rising-ordered ray) fits (rising-lt ray) (in_rising ray) none some (λ h. lowest_first spare h spare_fits) z
+              ∙ open_ray is_below below_back p board (rising ray) ray nearest (trailing_zeros w64 spare) (rising-ordered ray) fits
+              (rising-lt ray) (in_rising ray) none some (λ h. lowest_first spare h spare_fits) z
           | inr n ↦
               let h : 0 < bit_and nearest p.own = omega (arith, n) in
-              closed_ray is_below below_back p board (rising ray) ray nearest (trailing_zeros w64 spare) (rising-ordered ray) fits (rising-lt ray) (in_rising ray) none some (λ h. lowest_first spare h spare_fits)
+              closed_ray is_below below_back p board (rising ray) ray nearest (trailing_zeros w64 spare) (rising-ordered ray) fits
+              (rising-lt ray) (in_rising ray) none some (λ h. lowest_first spare h spare_fits)
               (bit_and nearest p.own - 1)
-              (λ _ q l. ap (λ x. has (x - 1) q) (closing_is is_below below_back p board (rising ray) ray nearest (trailing_zeros w64 spare) (rising-ordered ray) fits (rising-lt ray) (in_rising ray) none some (λ h. lowest_first spare h spare_fits) h)
-              ∙ has-ones (trailing_zeros w64 spare) q) h
+              (λ _ q l.
+              ap (λ x. has (x - 1) q)
+              (closing_is is_below below_back p board (rising ray) ray nearest (trailing_zeros w64 spare) (rising-ordered ray)
+              fits (rising-lt ray) (in_rising ray) none some (λ h. lowest_first spare h spare_fits) h)
+              ∙ has-ones (trailing_zeros w64 spare) q)
+              h
         ]
 
   module _ (some : 0 < bit_and ray (2 ^ 64 - 1 - p.opp) → nearest ≡ 2 ^ (63 - leading_zeros w64 (bit_and ray (2 ^ 64 - 1 - p.opp)))) where
@@ -327,11 +335,18 @@ module _ (p : Position) (board : IsBoard p) (ray nearest : ℕ) (fits : ray < 2 
     outflanked_down =
         elim (cases_eq (bit_and nearest p.own) 0) [
           | inl z ↦ ap (λ x. bit_and ((2 ^ 64 - x * 2 ^ 1 % 2 ^ 64) % 2 ^ 64) ray) z ∙ nothing_in ray
-              ∙ open_ray is_above above_back p board (falling ray) ray nearest (63 - leading_zeros w64 spare) (falling-ordered ray) fits (falling-lt ray) (in_falling ray) none some (λ h. highest_first spare h spare_fits) z
+              ∙ open_ray is_above above_back p board (falling ray) ray nearest (63 - leading_zeros w64 spare) (falling-ordered ray) fits
+              (falling-lt ray) (in_falling ray) none some (λ h. highest_first spare h spare_fits) z
           | inr n ↦
               let h : 0 < bit_and nearest p.own = omega (arith, n) in
-              closed_ray is_above above_back p board (falling ray) ray nearest (63 - leading_zeros w64 spare) (falling-ordered ray) fits (falling-lt ray) (in_falling ray) none some (λ h. highest_first spare h spare_fits)
+              closed_ray is_above above_back p board (falling ray) ray nearest (63 - leading_zeros w64 spare) (falling-ordered ray) fits
+              (falling-lt ray) (in_falling ray) none some (λ h. highest_first spare h spare_fits)
               ((2 ^ 64 - bit_and nearest p.own * 2 ^ 1 % 2 ^ 64) % 2 ^ 64)
-              (λ f q l. ap (λ x. has ((2 ^ 64 - x * 2 ^ 1 % 2 ^ 64) % 2 ^ 64) q) (closing_is is_above above_back p board (falling ray) ray nearest (63 - leading_zeros w64 spare) (falling-ordered ray) fits (falling-lt ray) (in_falling ray) none some (λ h. highest_first spare h spare_fits) h)
-              ∙ has-beyond (63 - leading_zeros w64 spare) q (highest_first spare f spare_fits).within l) h
+              (λ f q l.
+              ap (λ x. has ((2 ^ 64 - x * 2 ^ 1 % 2 ^ 64) % 2 ^ 64) q)
+              (closing_is is_above above_back p board (falling ray) ray nearest (63 - leading_zeros w64 spare)
+              (falling-ordered ray) fits (falling-lt ray) (in_falling ray) none some
+              (λ h. highest_first spare h spare_fits) h)
+              ∙ has-beyond (63 - leading_zeros w64 spare) q (highest_first spare f spare_fits).within l)
+              h
         ]

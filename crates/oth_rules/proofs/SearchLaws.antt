@@ -1,5 +1,6 @@
 -- Laws of the value of a position, which are all that a search needs.
-use Rattle.std.proofs.Common.{◌≡◌, ℕ, zero, suc, ◌+◌, ◌<◌, ◌≤◌, ◌⊎◌, inl, inr, refl, sym, ap, ◌∙◌, List, [], ◌∷◌, map, length, get_or, Bool, true, false, cond, Contains, All, arith, rules, fold, ⊎_elim}
+use Rattle.std.proofs.Common.{◌≡◌, ℕ, zero, suc, ◌+◌, ◌<◌, ◌≤◌, ◌⊎◌, inl, inr, refl, sym, ap, ◌∙◌, List, [], ◌∷◌, map, length}
+use Rattle.std.proofs.Common.{get_or, Bool, true, false, cond, Contains, All, arith, rules, fold, ⊎_elim}
 use Rattle.std.specs.Prelude.{filter, ℤ, neg_ℤ, ◌≤ℤ◌, ◌==◌, ◌≢◌, not, ◌&&◌}
 use Rattle.std.specs.Int.{int_max}
 use Rattle.std.specs.List.{range_with_len}

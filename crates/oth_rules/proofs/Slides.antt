@@ -212,7 +212,8 @@ rising_onto by through w t (Some s) l h m =
     let back : t - by ≡ s = omega arith in
     has-shl_high w by t l le ∙ ap (has w) back
 
-rising_off : (by through w t : ℕ) (from : Option ℕ) → t < 64 → rises_onto by (has through) t from ≡ true → ((s : ℕ) → s < 64 → has w s ≡ true → has through s ≡ true) → has (w * 2 ^ by % 2 ^ 64) t ≡ some_in (has w) from
+rising_off : (by through w t : ℕ) (from : Option ℕ) → t < 64 → rises_onto by (has through) t from ≡ true → ((s : ℕ) → s < 64 → has w s ≡ true → has through s ≡ true)
+    → has (w * 2 ^ by % 2 ^ 64) t ≡ some_in (has w) from
 unfolding rises_onto some_in
 rising_off by through w t None l h m =
     elim (or_cases (nat_lt t by) (not (has through t || has through (t - by))) h) [
@@ -241,7 +242,8 @@ falling_onto by through w t (Some s) f h m =
     let there : by + t ≡ s = omega arith in
     has-shr w by t ∙ ap (has w) there
 
-falling_off : (by through w t : ℕ) (from : Option ℕ) → w < 2 ^ 64 → falls_onto by (has through) t from ≡ true → ((s : ℕ) → s < 64 → has w s ≡ true → has through s ≡ true) → has (w / 2 ^ by) t ≡ some_in (has w) from
+falling_off : (by through w t : ℕ) (from : Option ℕ) → w < 2 ^ 64 → falls_onto by (has through) t from ≡ true → ((s : ℕ) → s < 64 → has w s ≡ true → has through s ≡ true)
+    → has (w / 2 ^ by) t ≡ some_in (has w) from
 unfolding falls_onto some_in
 falling_off by through w t None f h m =
     elim (or_cases (nat_lt 63 (t + by)) (not (has through t || has through (t + by))) h) [

@@ -6,7 +6,8 @@ use Rattle.std.proofs.lemmas.Int.{ints}
 use Rattle.oth_rules.specs.declared.scoring.Scoring.{Scoring}
 use Rattle.oth_rules.specs.declared.scoring.Scoring.TheVariants.{Winner, Discs}
 use Rattle.oth_rules.specs.Square.{has}
-use Rattle.oth_rules.specs.Position.{Position, Cell, Mine, Theirs, Empty, cell, is_mine, is_theirs, is_empty, is_mine_cell, is_theirs_cell, is_empty_cell, opposite_cell, pass, mine_count, theirs_count, empty_count}
+use Rattle.oth_rules.specs.Position.{Position, Cell, Mine, Theirs, Empty, cell, is_mine, is_theirs, is_empty, is_mine_cell}
+use Rattle.oth_rules.specs.Position.{is_theirs_cell, is_empty_cell, opposite_cell, pass, mine_count, theirs_count, empty_count}
 use Rattle.oth_rules.specs.Move.{is_flipped, can_move, after}
 use Rattle.oth_rules.specs.Score.{disc_difference, score_of}
 use Rattle.oth_rules.specs.Value.{value}

@@ -51,7 +51,9 @@ same_square-true None (Some q) e = absurd (false≢true e)
 same_square-true (Some q) None e = absurd (false≢true e)
 same_square-true (Some q) (Some r) e = ap Some (eqb-true q r e)
 
-step_table : (a b : Step) → everywhere (λ s q. same_square (option_map (unmap_square s) (next (record { columns = a; rows = b }) q)) (next (unturned s (record { columns = a; rows = b })) (unmap_square s q))) ≡ true
+step_table : (a b : Step)
+    → everywhere (λ s q. same_square (option_map (unmap_square s) (next (record { columns = a; rows = b }) q)) (next (unturned s (record { columns = a; rows = b })) (unmap_square s q)))
+    ≡ true
 unfolding everywhere same_square unturned unmap_square turned_if next stepped square_at has
 step_table Back Back = refl
 step_table Back Stay = refl
@@ -126,14 +128,26 @@ any_among f (x ∷ xs) ys t e =
       | inr later ↦ any_among f xs ys both.1 later
     ]
 
-all_table : agree_below (λ s. list_all (λ x. list_any (same_direction x) directions) (map (unturned s) directions) && list_all (λ x. list_any (same_direction x) (map (unturned s) directions)) directions) (λ _. true) 8 ≡ true
+all_table : agree_below
+    (λ s.
+    list_all (λ x. list_any (same_direction x) directions) (map (unturned s) directions) && list_all (λ x. list_any (same_direction x) (map (unturned s) directions)) directions)
+    (λ _. true) 8
+    ≡ true
 unfolding directions unturned same_direction same_step has
 all_table = refl
 
 all_turned : (s : ℕ) → s < 8 → (f : Direction → Bool) → list_any (λ d. f (unturned s d)) directions ≡ list_any f directions
 all_turned s l f =
-    let t = agree_below_at (λ s. list_all (λ x. list_any (same_direction x) directions) (map (unturned s) directions) && list_all (λ x. list_any (same_direction x) (map (unturned s) directions)) directions) (λ _. true) 8 s all_table l in
-    let both = and_parts (list_all (λ x. list_any (same_direction x) directions) (map (unturned s) directions)) (list_all (λ x. list_any (same_direction x) (map (unturned s) directions)) directions) t in
+    let t =
+    agree_below_at
+    (λ s.
+    list_all (λ x. list_any (same_direction x) directions) (map (unturned s) directions)
+    && list_all (λ x. list_any (same_direction x) (map (unturned s) directions)) directions)
+    (λ _. true) 8 s all_table l in
+    let both =
+    and_parts (list_all (λ x. list_any (same_direction x) directions) (map (unturned s) directions))
+    (list_all (λ x. list_any (same_direction x) (map (unturned s) directions)) directions)
+    t in
     sym (any_map f (unturned s) directions)
     ∙ same_bool (list_any f (map (unturned s) directions)) (list_any f directions)
     (any_among f (map (unturned s) directions) directions both.0)
@@ -227,7 +241,10 @@ first_table = refl
 
 pub composed-within : (s t : ℕ) → s < 8 → t < 8 → composed s t < 8
 composed-within s t l h =
-    ltb-true (composed s t) 8 (agree_below_at (λ t. nat_lt (composed s t) 8) (λ _. true) 8 t (agree_below_at (λ s. agree_below (λ t. nat_lt (composed s t) 8) (λ _. true) 8) (λ _. true) 8 s composed_within_table l) h)
+    ltb-true (composed s t) 8
+    (agree_below_at (λ t. nat_lt (composed s t) 8) (λ _. true) 8 t
+    (agree_below_at (λ s. agree_below (λ t. nat_lt (composed s t) 8) (λ _. true) 8) (λ _. true) 8 s composed_within_table l)
+    h)
 
 pub composed-first : (t : ℕ) → t < 8 → composed 0 t ≡ t
 composed-first t h = eqb-true (composed 0 t) t (agree_below_at (λ t. composed 0 t == t) (λ _. true) 8 t first_table h)

@@ -46,7 +46,8 @@ same_line-is (x ∷ xs) (y ∷ ys) e =
 is_ray : (ℕ → List ℕ) → List (List ℕ) → ℕ → Direction → ℕ → Bool
 is_ray in_order table i d s = same_line (in_order (slice_index_or (slice_index_or table s []) i 0)) (ray d s)
 
-outflanked_by : (in_order : ℕ → List ℕ) (table : List (List ℕ)) (i : ℕ) (d : Direction) (p : Position) (s : ℕ) (rays : List ℕ) (w : ℕ) → agree_below (is_ray in_order table i d) (λ _. true) 64 ≡ true → s < 64 →
+outflanked_by : (in_order : ℕ → List ℕ) (table : List (List ℕ)) (i : ℕ) (d : Direction) (p : Position) (s : ℕ) (rays : List ℕ) (w : ℕ)
+    → agree_below (is_ray in_order table i d) (λ _. true) 64 ≡ true → s < 64 →
     rays ≡ slice_index_or table s [] → w ≡ word_of (is_in (outflanked p (in_order (slice_index_or rays i 0)))) → w ≡ word_of (is_in (flipped_along p s d))
 unfolding is_ray flipped_along
 outflanked_by in_order table i d p s rays w computed l r e =

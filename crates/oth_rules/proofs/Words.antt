@@ -1,5 +1,6 @@
 -- What the code computes over whole words, as sets of squares of a position.
-use Rattle.std.proofs.Common.{take_all, ◌≡◌, ℕ, zero, suc, ◌+◌, ◌-◌, ◌<◌, ◌≤◌, ◌^◌, Bool, true, false, not, eqb, ◌&&◌, ◌||◌, List, [], ◌∷◌, take, get_or, length, refl, sym, ap, ◌∙◌, subst, inl, inr, arith, w64}
+use Rattle.std.proofs.Common.{take_all, ◌≡◌, ℕ, zero, suc, ◌+◌, ◌-◌, ◌<◌, ◌≤◌, ◌^◌, Bool, true, false, not, eqb, ◌&&◌, ◌||◌, List}
+use Rattle.std.proofs.Common.{[], ◌∷◌, take, get_or, length, refl, sym, ap, ◌∙◌, subst, inl, inr, arith, w64}
 use Rattle.std.specs.Prelude.{◌↔◌, bit_and, bit_or, ◌==◌, if◌then◌else◌}
 use Rattle.std.specs.List.{list_any}
 use Rattle.std.specs.Int.{bit_at, trailing_zeros}
@@ -27,7 +28,8 @@ empty_word p b =
 pub swapped : (p : Position) → IsBoard p → IsBoard (record { own = p.opp; opp = p.own })
 swapped p b = record { own_fits = b.opp_fits; opp_fits = b.own_fits; apart = and_comm p.opp p.own ∙ b.apart }
 
-pub is_on_line-same : (n : ℕ) (d : Direction) (f f' g g' : ℕ → Bool) → ((s : ℕ) → s < 64 → f s ≡ f' s) → ((s : ℕ) → s < 64 → g s ≡ g' s) → (t : ℕ) → t < 64 → is_on_line n d f g t ≡ is_on_line n d f' g' t
+pub is_on_line-same : (n : ℕ) (d : Direction) (f f' g g' : ℕ → Bool) → ((s : ℕ) → s < 64 → f s ≡ f' s) → ((s : ℕ) → s < 64 → g s ≡ g' s) → (t : ℕ) → t < 64
+    → is_on_line n d f g t ≡ is_on_line n d f' g' t
 unfolding is_on_line
 is_on_line-same zero d f f' g g' h k t l = refl
 is_on_line-same (suc n) d f f' g g' h k t l =
@@ -118,7 +120,8 @@ pub no_word : 0 ≡ word_of (λ _. false)
 no_word = is_word_of 0 (λ _. false) (omega arith) (λ q l. has-zero q)
 
 -- the union over the first elements of a list, with one element more
-pub any_word_more : {X : Type 0} (f : X → ℕ → Bool) (xs : List X) (i w r : ℕ) (d : X) → i < length xs → w ≡ word_of (λ q. list_any (λ x. f x q) (take i xs)) → r ≡ word_of (f (get_or xs i d)) → bit_or w r ≡ word_of (λ q. list_any (λ x. f x q) (take (i + 1) xs))
+pub any_word_more : {X : Type 0} (f : X → ℕ → Bool) (xs : List X) (i w r : ℕ) (d : X) → i < length xs → w ≡ word_of (λ q. list_any (λ x. f x q) (take i xs))
+    → r ≡ word_of (f (get_or xs i d)) → bit_or w r ≡ word_of (λ q. list_any (λ x. f x q) (take (i + 1) xs))
 any_word_more f xs i w r d l e h =
     or_word w r (λ q. list_any (λ x. f x q) (take i xs)) (f (get_or xs i d)) e h
     ∙ word_of-same (λ q. list_any (λ x. f x q) (take i xs) || f (get_or xs i d) q) (λ q. list_any (λ x. f x q) (take (i + 1) xs))
@@ -174,7 +177,8 @@ flipped_of_empty p s flipped at_s f =
     f ∙ word_of-same (λ q. list_any (λ d. is_in (flipped_along p s d) q) directions) (is_flipped p s)
     (λ q _. ap (λ b. b && list_any (λ d. is_in (flipped_along p s d) q) directions) (sym at_s))
 
-pub flipped_word : (p : Position) (s bit empty flipped : ℕ) → s < 64 → bit ≡ 2 ^ s → empty ≡ word_of (is_empty p) → (bit_and bit empty ≡ 0 → ⊥) → flipped ≡ word_of (λ q. list_any (λ d. is_in (flipped_along p s d) q) directions) → flipped ≡ word_of (is_flipped p s)
+pub flipped_word : (p : Position) (s bit empty flipped : ℕ) → s < 64 → bit ≡ 2 ^ s → empty ≡ word_of (is_empty p) → (bit_and bit empty ≡ 0 → ⊥)
+    → flipped ≡ word_of (λ q. list_any (λ d. is_in (flipped_along p s d) q) directions) → flipped ≡ word_of (is_flipped p s)
 flipped_word p s bit empty flipped l e h z f = flipped_of_empty p s flipped (empty_at p s bit empty l e h z) f
 
 pub legal_empty : (p : Position) (s : ℕ) → is_legal p s ≡ true → is_empty p s ≡ true
@@ -224,10 +228,13 @@ played p s bit flipped b l e f legal =
     free : has p.opp s ≡ false
     free = opp_free_of (has p.own s) (has p.opp s) (sym (is_empty-has p s) ∙ legal_empty p s legal)
 
-pub played_inside : (own opp : ℕ) (p : Position) (s bit flipped : ℕ) → ◌≡◌ {A = Position} (record { own = own; opp = opp }) p → IsBoard (record { own = own; opp = opp }) → s < 64 → bit ≡ 2 ^ s → flipped ≡ word_of (is_flipped p s) → is_legal p s ≡ true →
+pub played_inside : (own opp : ℕ) (p : Position) (s bit flipped : ℕ) → ◌≡◌ {A = Position} (record { own = own; opp = opp }) p → IsBoard (record { own = own; opp = opp }) → s < 64
+    → bit ≡ 2 ^ s → flipped ≡ word_of (is_flipped p s) → is_legal p s ≡ true →
     ◌≡◌ {A = Position} (record { own = bit_and opp (2 ^ 64 - 1 - flipped); opp = bit_or (bit_or own flipped) bit }) (after p s)
 played_inside own opp p s bit flipped e b l h =
-    let P : Position → Type 0 = λ q. flipped ≡ word_of (is_flipped q s) → is_legal q s ≡ true → ◌≡◌ {A = Position} (record { own = bit_and opp (2 ^ 64 - 1 - flipped); opp = bit_or (bit_or own flipped) bit }) (after q s) in
+    let P : Position → Type 0 = λ q.
+    flipped ≡ word_of (is_flipped q s) → is_legal q s ≡ true
+    → ◌≡◌ {A = Position} (record { own = bit_and opp (2 ^ 64 - 1 - flipped); opp = bit_or (bit_or own flipped) bit }) (after q s) in
     subst P e (played (record { own = own; opp = opp }) s bit flipped b l h)
 
 -- ---- the list of directions that the code goes over

@@ -46,4 +46,5 @@ pub record IsReach (p : Position) (row falling column rising : ℕ) : Type 0 whe
 
 unfoldable pub is_backed : Direction → (ℕ → Bool) → (ℕ → Bool) → ℕ → Bool
 is_backed d reached stable s =
-    not (reached s && (is_next d (λ t. true) s && is_next (reversed d) (λ t. true) s)) || (is_next d stable s || is_next (reversed d) stable s)
+    not (reached s && (is_next d (λ t. true) s && is_next (reversed d) (λ t. true) s))
+    || (is_next d stable s || is_next (reversed d) stable s)

@@ -58,7 +58,8 @@ pub value-known : (g f : Scoring) (p q r : Position) → q ≡ canonical p → r
 value-known g f p q r e k l = rw (k, l, e) (value-canonical g p)
 
 -- a null-window search decides the window that has nothing between its ends
-pub Decides-nws : (alpha at found lower upper low high : ℤ) → at ≡ alpha → (at <ℤ found → (low ≡ found) × (high ≡ upper)) → (found ≤ℤ at → (low ≡ lower) × (high ≡ found)) → Decides low high alpha (alpha +ℤ pos 1)
+pub Decides-nws : (alpha at found lower upper low high : ℤ) → at ≡ alpha → (at <ℤ found → (low ≡ found) × (high ≡ upper)) → (found ≤ℤ at → (low ≡ lower) × (high ≡ found))
+    → Decides low high alpha (alpha +ℤ pos 1)
 Decides-nws alpha at found lower upper low high e above below =
     by_lt_z at found
     (λ h. let m = above h in inr (inl (omega (arith, ints, m.0))))
@@ -75,13 +76,15 @@ Encloses-over g p r lower upper over e low high =
     record { below = rw (v, low, e) (omega (arith, ints)); above = rw (v, high, e) (omega (arith, ints)) }
 
 -- what is known of a child tells that the mover can have at least the negated upper bound
-pub Encloses-lift : (g : Scoring) (p q : Position) (s : ℕ) (lower upper low high : ℤ) → IsLegal p s → q ≡ after p s → Encloses lower upper (value (score_of g) q) → low ≡ neg_ℤ upper → high ≡ pos 64 → Encloses low high (value (score_of g) p)
+pub Encloses-lift : (g : Scoring) (p q : Position) (s : ℕ) (lower upper low high : ℤ) → IsLegal p s → q ≡ after p s → Encloses lower upper (value (score_of g) q) → low ≡ neg_ℤ upper
+    → high ≡ pos 64 → Encloses low high (value (score_of g) p)
 Encloses-lift g p q s lower upper low high legal is h e f =
     let v = subst (λ x. Encloses lower upper (value (score_of g) x)) is h in
     record { below = omega (arith, ints, v.above, value-move_bound (score_of g) p s legal); above = omega (arith, ints, (IsScore-value g p).high) }
 
 -- .. and where that is above the threshold it bounds the value
-pub BoundsAt-child : (g : Scoring) (p q : Position) (s : ℕ) (alpha lower upper r : ℤ) → IsLegal p s → q ≡ after p s → IsInterval lower upper → Encloses lower upper (value (score_of g) q) → r ≡ neg_ℤ upper → alpha <ℤ r → BoundsAt (value (score_of g) p) alpha r
+pub BoundsAt-child : (g : Scoring) (p q : Position) (s : ℕ) (alpha lower upper r : ℤ) → IsLegal p s → q ≡ after p s → IsInterval lower upper
+    → Encloses lower upper (value (score_of g) q) → r ≡ neg_ℤ upper → alpha <ℤ r → BoundsAt (value (score_of g) p) alpha r
 BoundsAt-child g p q s alpha lower upper r legal is i h e above =
     let lifted = Encloses-lift g p q s lower upper r (pos 64) legal is h e refl in
     record {
@@ -95,7 +98,8 @@ pub IsScore-answer : (g : Scoring) (p : Position) (r : ℤ) → r ≡ value (sco
 IsScore-answer g p r e = rw e (IsScore-value g p)
 
 -- before a forced pass the bounds have the other sign
-pub Encloses-pass : (g : Scoring) (p q : Position) (lower upper low high : ℤ) → q ≡ pass p → can_move p ≡ false → can_move (pass p) ≡ true → Encloses lower upper (value (score_of g) q) → low ≡ neg_ℤ upper → high ≡ neg_ℤ lower → Encloses low high (value (score_of g) p)
+pub Encloses-pass : (g : Scoring) (p q : Position) (lower upper low high : ℤ) → q ≡ pass p → can_move p ≡ false → can_move (pass p) ≡ true → Encloses lower upper (value (score_of g) q)
+    → low ≡ neg_ℤ upper → high ≡ neg_ℤ lower → Encloses low high (value (score_of g) p)
 Encloses-pass g p q lower upper low high is none some h e f =
     let v = subst (λ x. Encloses lower upper (value (score_of g) x)) is h in
     let turn = value-pass (score_of g) p none some in
@@ -120,7 +124,9 @@ pub record IsGreaterOf (x y z : ℤ) : Type 0 where
   pub right : y ≤ℤ z
   pub least : (w : ℤ) → x <ℤ w → y <ℤ w → z <ℤ w
 
-pub MovesLoop-next : (g : Scoring) (p q : Position) (left : ℕ → Type 0) (s : ℕ) (rest : ℕ → Type 0) (lower upper l u a b x y lower' upper' : ℤ) → MovesLoop g p left lower upper → Takes left s rest → q ≡ after p s → IsInterval l u → Encloses l u (value (score_of g) q) → a ≡ neg_ℤ u → b ≡ neg_ℤ l → IsGreaterOf lower a x → IsGreaterOf upper b y → lower' ≡ x → upper' ≡ y → MovesLoop g p rest lower' upper'
+pub MovesLoop-next : (g : Scoring) (p q : Position) (left : ℕ → Type 0) (s : ℕ) (rest : ℕ → Type 0) (lower upper l u a b x y lower' upper' : ℤ) → MovesLoop g p left lower upper
+    → Takes left s rest → q ≡ after p s → IsInterval l u → Encloses l u (value (score_of g) q) → a ≡ neg_ℤ u → b ≡ neg_ℤ l → IsGreaterOf lower a x → IsGreaterOf upper b y → lower' ≡ x
+    → upper' ≡ y → MovesLoop g p rest lower' upper'
 MovesLoop-next g p q left s rest lower upper l u a b x y lower' upper' m k is i h e f low high same_low same_high =
     let v = subst (λ x. Encloses l u (value (score_of g) x)) is h in
     let bound = value-move_bound (score_of g) p s (m.replies.untried s k.member) in
@@ -134,7 +140,8 @@ MovesLoop-next g p q left s rest lower upper l u a b x y lower' upper' m k is i 
       replies = NoneAbove-next g p left s rest upper upper' m.replies k (omega (arith, ints, high.left)) (omega (arith, ints, v.below, high.right));
     }
 
-pub MovesLoop-end : (g : Scoring) (p : Position) (left : ℕ → Type 0) (lower upper : ℤ) → MovesLoop g p left lower upper → ((s : ℕ) → left s → ⊥) → can_move p ≡ true → Encloses lower upper (value (score_of g) p)
+pub MovesLoop-end : (g : Scoring) (p : Position) (left : ℕ → Type 0) (lower upper : ℤ) → MovesLoop g p left lower upper → ((s : ℕ) → left s → ⊥) → can_move p ≡ true
+    → Encloses lower upper (value (score_of g) p)
 MovesLoop-end g p left lower upper m none some = record { below = m.reached; above = NoneAbove-end g p left upper m.replies none some }
 
 pub same_scoring : (g f : Scoring) (p : Position) (lower upper : ℤ) → f ≡ g → Encloses lower upper (value (score_of f) p) → Encloses lower upper (value (score_of g) p)
@@ -144,7 +151,8 @@ same_scoring g f p lower upper e h = rw e at h
 
 -- the same board by the same scoring
 -- after a forced pass the bounds have the other sign
-pub Encloses-passed : (g : Scoring) (p q : Position) (lower upper low high : ℤ) → q ≡ pass p → can_move p ≡ false → can_move (pass p) ≡ true → Encloses lower upper (value (score_of g) p) → low ≡ neg_ℤ upper → high ≡ neg_ℤ lower → Encloses low high (value (score_of g) q)
+pub Encloses-passed : (g : Scoring) (p q : Position) (lower upper low high : ℤ) → q ≡ pass p → can_move p ≡ false → can_move (pass p) ≡ true
+    → Encloses lower upper (value (score_of g) p) → low ≡ neg_ℤ upper → high ≡ neg_ℤ lower → Encloses low high (value (score_of g) q)
 Encloses-passed g p q lower upper low high is none some h e f =
     let turn = value-pass (score_of g) p none some in
     subst (λ x. Encloses low high (value (score_of g) x)) (sym is) (record { below = omega (arith, ints, h.above, turn); above = omega (arith, ints, h.below, turn) })
@@ -156,7 +164,8 @@ pub record AreJoined (v lower upper : ℤ) : Type 0 where
   pub interval : IsInterval lower upper
   pub encloses : Encloses lower upper v
 
-pub joined-both : (v a b c d a' b' c' d' x y lower upper : ℤ) → IsInterval a b → Encloses a b v → Encloses c d v → a' ≡ a → b' ≡ b → c' ≡ c → d' ≡ d → (x ≡ a') ⊎ (x ≡ c') → a' ≤ℤ x → (y ≡ b') ⊎ (y ≡ d') → y ≤ℤ b' → lower ≡ x → upper ≡ y → AreJoined v lower upper
+pub joined-both : (v a b c d a' b' c' d' x y lower upper : ℤ) → IsInterval a b → Encloses a b v → Encloses c d v → a' ≡ a → b' ≡ b → c' ≡ c → d' ≡ d → (x ≡ a') ⊎ (x ≡ c') → a' ≤ℤ x
+    → (y ≡ b') ⊎ (y ≡ d') → y ≤ℤ b' → lower ≡ x → upper ≡ y → AreJoined v lower upper
 joined-both v a b c d a' b' c' d' x y lower upper i one two ea eb ec ed l al u ub el eu =
     let below : lower ≤ℤ v = elim l [ inl e ↦ omega (arith, ints, e, ea, el, one.below) | inr e ↦ omega (arith, ints, e, ec, el, two.below) ] in
     let above : v ≤ℤ upper = elim u [ inl e ↦ omega (arith, ints, e, eb, eu, one.above) | inr e ↦ omega (arith, ints, e, ed, eu, two.above) ] in

@@ -20,7 +20,8 @@ use Rattle.oth_search.proofs.Enclosing.{Encloses-canonical, IsCanonical-canonica
 pub IsBoard-entry : (x : Bounded) → IsTrueEntry x → IsBoard x.board
 IsBoard-entry x t = subst IsBoard t.canonical.least (IsBoard-canonical x.board)
 
-pub IsTrueEntry-of : (g : Scoring) (p q : Position) (lower upper l u : ℤ) → q ≡ canonical p → IsInterval lower upper → Encloses lower upper (value (score_of g) p) → l ≡ lower → u ≡ upper → IsTrueEntry (record { board = q; scoring = g; lower = l; upper = u })
+pub IsTrueEntry-of : (g : Scoring) (p q : Position) (lower upper l u : ℤ) → q ≡ canonical p → IsInterval lower upper → Encloses lower upper (value (score_of g) p) → l ≡ lower
+    → u ≡ upper → IsTrueEntry (record { board = q; scoring = g; lower = l; upper = u })
 IsTrueEntry-of g p q lower upper l u e i h f k = record {
   canonical = IsCanonical-canonical p q e;
   bounds = rw (f, k) i;
@@ -91,7 +92,8 @@ min_computed a b m h k e =
     kept m (subst IsScore (sym f) (int_min-keeps IsScore a b h k)) ∙ f
 
 -- the bounds that the code computes
-pub closer_bounds : (x y : Bounded) (m n : ℤ) → IsTrueEntry x → IsTrueEntry y → m ≡ int_max (to_z w8 (of_z w8 x.lower)) (to_z w8 (of_z w8 y.lower)) → n ≡ int_min (to_z w8 (of_z w8 x.upper)) (to_z w8 (of_z w8 y.upper)) →
+pub closer_bounds : (x y : Bounded) (m n : ℤ) → IsTrueEntry x → IsTrueEntry y → m ≡ int_max (to_z w8 (of_z w8 x.lower)) (to_z w8 (of_z w8 y.lower))
+    → n ≡ int_min (to_z w8 (of_z w8 x.upper)) (to_z w8 (of_z w8 y.upper)) →
     ◌≡◌ {A = Bounded} (record { board = y.board; scoring = y.scoring; lower = to_z w8 (of_z w8 m); upper = to_z w8 (of_z w8 n) }) (narrowed x y)
 closer_bounds x y m n t u e f =
     same_entry (record { board = y.board; scoring = y.scoring; lower = to_z w8 (of_z w8 m); upper = to_z w8 (of_z w8 n) }) (narrowed x y) refl refl

@@ -127,7 +127,8 @@ unfolding score_of
 full_score Winner p full = full_winner p full
 full_score Discs p full = difference p
 
-pub score_after : (g : Scoring) (p : Position) (a n : ℕ) (r : ℤ) → Leaves p (a ∷ []) → n ≡ count_by (is_flipped p a) squares → r ≡ (pos (mine_count p) +ℤ pos n -ℤ pos 31) +ℤ (pos (mine_count p) +ℤ pos n -ℤ pos 31) → r ≡ neg_ℤ (score_of g (after p a))
+pub score_after : (g : Scoring) (p : Position) (a n : ℕ) (r : ℤ) → Leaves p (a ∷ []) → n ≡ count_by (is_flipped p a) squares
+    → r ≡ (pos (mine_count p) +ℤ pos n -ℤ pos 31) +ℤ (pos (mine_count p) +ℤ pos n -ℤ pos 31) → r ≡ neg_ℤ (score_of g (after p a))
 score_after g p a n r l e h =
     let z : Position = after p a in
     let empty_z : empty_count z ≡ 0 = no_empties z (Leaves-after p z a [] l refl) in

@@ -75,7 +75,8 @@ Leaves-second p a b xs l = record {
 }
 
 -- the squares behind the first change places
-Leaves-behind : (p : Position) (a : ℕ) (xs ys : List ℕ) → Leaves p (a ∷ xs) → ((s : ℕ) → OneOf xs s → OneOf ys s) → ((s : ℕ) → OneOf ys s → OneOf xs s) → (AreEmpty p xs → AreEmpty p ys) → Leaves p (a ∷ ys)
+Leaves-behind : (p : Position) (a : ℕ) (xs ys : List ℕ) → Leaves p (a ∷ xs) → ((s : ℕ) → OneOf xs s → OneOf ys s) → ((s : ℕ) → OneOf ys s → OneOf xs s) → (AreEmpty p xs → AreEmpty p ys)
+    → Leaves p (a ∷ ys)
 Leaves-behind p a xs ys l to from turned = record {
   only = λ t within h. ⊎_elim inl (λ o. inr (to t o)) (l.only t within h);
   each = (l.each.0, l.each.1, (λ o. l.each.2 (from a o)), turned l.each.3);
@@ -159,7 +160,8 @@ Leaves-all p xs set l e = record {
 pub GivesAt-none : (g : Scoring) (p : Position) (s : ℕ) (alpha r : ℤ) → r ≡ no_move → (IsLegal p s → ⊥) → GivesAt (score_of g) p s alpha r
 GivesAt-none g p s alpha r e none = record { low = omega (arith, ints); none = λ _. none; some = λ h. absurd (omega (arith, ints)) }
 
-pub GivesAt-reply : (g : Scoring) (p q : Position) (s : ℕ) (alpha beta r t : ℤ) → q ≡ after p s → IsLegal p s → beta ≡ neg_ℤ alpha -ℤ pos 1 → r ≡ neg_ℤ t → BoundsAt (value (score_of g) q) beta t → GivesAt (score_of g) p s alpha r
+pub GivesAt-reply : (g : Scoring) (p q : Position) (s : ℕ) (alpha beta r t : ℤ) → q ≡ after p s → IsLegal p s → beta ≡ neg_ℤ alpha -ℤ pos 1 → r ≡ neg_ℤ t
+    → BoundsAt (value (score_of g) q) beta t → GivesAt (score_of g) p s alpha r
 GivesAt-reply g p q s alpha beta r t is legal e f b =
     let reply = BoundsAt-reply g p q s alpha beta r t is e f b in
     let low = reply.score.low in
@@ -191,7 +193,8 @@ Tried-first g p alpha s xs r l h low = record {
       (l.only t legal.on_board (legal-empty p t legal));
 }
 
-pub Tried-next : (g : Scoring) (p : Position) (alpha : ℤ) (s : ℕ) (xs : List ℕ) (best r m : ℤ) → Tried g p alpha (s ∷ xs) best → GivesAt (score_of g) p s alpha r → IsGreater best r m → m ≤ℤ alpha → Tried g p alpha xs m
+pub Tried-next : (g : Scoring) (p : Position) (alpha : ℤ) (s : ℕ) (xs : List ℕ) (best r m : ℤ) → Tried g p alpha (s ∷ xs) best → GivesAt (score_of g) p s alpha r → IsGreater best r m
+    → m ≤ℤ alpha → Tried g p alpha xs m
 Tried-next g p alpha s xs best r m l h k low = record {
   low = omega (arith, ints, l.low, k.left);
   high = low;
@@ -223,7 +226,8 @@ MovesAt-cut g p s alpha r a h above =
     }
 
 -- a later move above the threshold
-pub MovesAt-later : (g : Scoring) (p : Position) (s : ℕ) (xs : List ℕ) (alpha best r m : ℤ) → IsThreshold alpha → Tried g p alpha xs best → GivesAt (score_of g) p s alpha r → IsGreater best r m → alpha <ℤ m → MovesAt (score_of g) p alpha m
+pub MovesAt-later : (g : Scoring) (p : Position) (s : ℕ) (xs : List ℕ) (alpha best r m : ℤ) → IsThreshold alpha → Tried g p alpha xs best → GivesAt (score_of g) p s alpha r
+    → IsGreater best r m → alpha <ℤ m → MovesAt (score_of g) p alpha m
 MovesAt-later g p s xs alpha best r m a l h k above =
     ⊎_elim
     (λ e. absurd (omega (arith, ints, e, l.high)))
@@ -252,7 +256,8 @@ MovesAt-tried g p alpha best a l = record {
     most s legal = ⊎_elim (λ left. absurd left) (λ old. old) (l.tried s legal)
 
 -- after the last square
-pub MovesAt-last : (g : Scoring) (p : Position) (s : ℕ) (alpha best r m : ℤ) → IsThreshold alpha → Tried g p alpha (s ∷ []) best → GivesAt (score_of g) p s alpha r → IsGreater best r m → MovesAt (score_of g) p alpha m
+pub MovesAt-last : (g : Scoring) (p : Position) (s : ℕ) (alpha best r m : ℤ) → IsThreshold alpha → Tried g p alpha (s ∷ []) best → GivesAt (score_of g) p s alpha r → IsGreater best r m
+    → MovesAt (score_of g) p alpha m
 MovesAt-last g p s alpha best r m a l h k =
     ⊎_elim
     (λ above. MovesAt-later g p s (s ∷ []) alpha best r m a l h k above)
@@ -267,12 +272,14 @@ above r h other = ⊎_elim (λ k. k) (λ k. absurd (other (omega (arith, ints, k
 pub BoundsAt-moves : (g : Scoring) (p : Position) (alpha r t : ℤ) → r ≡ t → MovesAt (score_of g) p alpha t → t ≢ no_move → BoundsAt (value (score_of g) p) alpha r
 BoundsAt-moves g p alpha r t e m some = rw (e) (m.some (above t m.low some))
 
-pub BoundsAt-passed : (g : Scoring) (p q : Position) (alpha beta none r t : ℤ) → q ≡ pass p → MovesAt (score_of g) p alpha none → none ≡ no_move → beta ≡ neg_ℤ alpha -ℤ pos 1 → r ≡ neg_ℤ t → MovesAt (score_of g) q beta t → t ≢ no_move → BoundsAt (value (score_of g) p) alpha r
+pub BoundsAt-passed : (g : Scoring) (p q : Position) (alpha beta none r t : ℤ) → q ≡ pass p → MovesAt (score_of g) p alpha none → none ≡ no_move → beta ≡ neg_ℤ alpha -ℤ pos 1
+    → r ≡ neg_ℤ t → MovesAt (score_of g) q beta t → t ≢ no_move → BoundsAt (value (score_of g) p) alpha r
 BoundsAt-passed g p q alpha beta none r t is m e f k n some =
     let more = above t n.low some in
     BoundsAt-pass g p q alpha beta r t is (m.none e) (n.can more) f k (n.some more)
 
-pub BoundsAt-ended : (g : Scoring) (p q : Position) (alpha beta none none' r : ℤ) → q ≡ pass p → MovesAt (score_of g) p alpha none → none ≡ no_move → MovesAt (score_of g) q beta none' → none' ≡ no_move → r ≡ score_of g p → BoundsAt (value (score_of g) p) alpha r
+pub BoundsAt-ended : (g : Scoring) (p q : Position) (alpha beta none none' r : ℤ) → q ≡ pass p → MovesAt (score_of g) p alpha none → none ≡ no_move → MovesAt (score_of g) q beta none'
+    → none' ≡ no_move → r ≡ score_of g p → BoundsAt (value (score_of g) p) alpha r
 BoundsAt-ended g p q alpha beta none none' r is m e n f k = BoundsAt-over g p q alpha r is (m.none e) (n.none f) k
 
 -- ---- a full board

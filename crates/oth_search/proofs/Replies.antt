@@ -10,7 +10,8 @@ use Rattle.oth_rules.specs.Move.{is_legal, legal_squares, can_move, after}
 use Rattle.oth_rules.specs.Score.{score_of}
 use Rattle.oth_rules.specs.Value.{value}
 use Rattle.oth_rules.specs.Laws.{IsLegal, IsScore}
-use Rattle.oth_rules.proofs.SearchLaws.{value-move_bound, value-move_reached, value-pass, value-over, has-moves, can_move-moves, can_move-no_moves, IsScore-score_of, empty_count-after, empty_count-pass, Contains-legal_squares, IsLegal-from_contains}
+use Rattle.oth_rules.proofs.SearchLaws.{value-move_bound, value-move_reached, value-pass, value-over, has-moves, can_move-moves, can_move-no_moves}
+use Rattle.oth_rules.proofs.SearchLaws.{IsScore-score_of, empty_count-after, empty_count-pass, Contains-legal_squares, IsLegal-from_contains}
 use Rattle.std.specs.List.Sorted.{IsPermutation}
 use Rattle.std.proofs.lemmas.List.Sorted.{IsPermutation-sym, Contains-permutation}
 use Rattle.oth_search.specs.Interval.{BoundsAt}
@@ -40,7 +41,8 @@ BoundsAt-cut g p s alpha r legal b above =
     let reply = b.fails_high above in
     record { score = b.score; fails_low = λ h. absurd (omega (arith, ints)); fails_high = λ h. omega (arith, ints) }
 
-pub NoneAbove-next : (g : Scoring) (p : Position) (left : ℕ → Type 0) (s : ℕ) (rest : ℕ → Type 0) (best next : ℤ) → NoneAbove g p left best → Takes left s rest → best ≤ℤ next → neg_ℤ (value (score_of g) (after p s)) ≤ℤ next → NoneAbove g p rest next
+pub NoneAbove-next : (g : Scoring) (p : Position) (left : ℕ → Type 0) (s : ℕ) (rest : ℕ → Type 0) (best next : ℤ) → NoneAbove g p left best → Takes left s rest → best ≤ℤ next
+    → neg_ℤ (value (score_of g) (after p s)) ≤ℤ next → NoneAbove g p rest next
 NoneAbove-next g p left s rest best next n k above reply = record {
   untried = λ t h. n.untried t (k.kept t h);
   tried = λ t legal. ⊎_elim
@@ -74,7 +76,8 @@ pub can_move-from_none : (p : Position) (moves : ℕ) → moves ≡ word_of (is_
 can_move-from_none p moves e none = can_move-no_moves p (sym e ∙ none)
 
 -- a forced pass: a bound of the value after it, negated
-pub BoundsAt-pass : (g : Scoring) (p q : Position) (alpha beta r s : ℤ) → q ≡ pass p → can_move p ≡ false → can_move q ≡ true → beta ≡ neg_ℤ alpha -ℤ pos 1 → r ≡ neg_ℤ s → BoundsAt (value (score_of g) q) beta s → BoundsAt (value (score_of g) p) alpha r
+pub BoundsAt-pass : (g : Scoring) (p q : Position) (alpha beta r s : ℤ) → q ≡ pass p → can_move p ≡ false → can_move q ≡ true → beta ≡ neg_ℤ alpha -ℤ pos 1 → r ≡ neg_ℤ s
+    → BoundsAt (value (score_of g) q) beta s → BoundsAt (value (score_of g) p) alpha r
 BoundsAt-pass g p q alpha beta r s is none some e f b =
     let turn = value-pass (score_of g) p none (rw is at some) in
     let bound = BoundsAt-negated (value (score_of g) q) alpha beta r s e f b in
@@ -94,7 +97,8 @@ pub same_after_pass : (p q : Position) → q ≡ pass p → empty_count q ≡ em
 same_after_pass p q e = ap empty_count e ∙ empty_count-pass p
 
 -- a bound of the value after a move, as a bound of what the move gives
-pub BoundsAt-reply : (g : Scoring) (p q : Position) (s : ℕ) (alpha beta r t : ℤ) → q ≡ after p s → beta ≡ neg_ℤ alpha -ℤ pos 1 → r ≡ neg_ℤ t → BoundsAt (value (score_of g) q) beta t → BoundsAt (neg_ℤ (value (score_of g) (after p s))) alpha r
+pub BoundsAt-reply : (g : Scoring) (p q : Position) (s : ℕ) (alpha beta r t : ℤ) → q ≡ after p s → beta ≡ neg_ℤ alpha -ℤ pos 1 → r ≡ neg_ℤ t → BoundsAt (value (score_of g) q) beta t
+    → BoundsAt (neg_ℤ (value (score_of g) (after p s))) alpha r
 BoundsAt-reply g p q s alpha beta r t is e f b =
     let bound = BoundsAt-negated (value (score_of g) q) alpha beta r t e f b in
     rw (← is) bound
@@ -113,7 +117,8 @@ ReplyLoop-start g p alpha left best e low n = record {
 }
 
 -- a reply that is no better leaves the best
-pub ReplyLoop-keeps : (g : Scoring) (p : Position) (alpha : ℤ) (left : ℕ → Type 0) (s : ℕ) (rest : ℕ → Type 0) (best r : ℤ) → ReplyLoop g p alpha left best → Takes left s rest → BoundsAt (neg_ℤ (value (score_of g) (after p s))) alpha r → r ≤ℤ best → ReplyLoop g p alpha rest best
+pub ReplyLoop-keeps : (g : Scoring) (p : Position) (alpha : ℤ) (left : ℕ → Type 0) (s : ℕ) (rest : ℕ → Type 0) (best r : ℤ) → ReplyLoop g p alpha left best → Takes left s rest
+    → BoundsAt (neg_ℤ (value (score_of g) (after p s))) alpha r → r ≤ℤ best → ReplyLoop g p alpha rest best
 ReplyLoop-keeps g p alpha left s rest best r l k b no_better =
     let low = l.low in
     let within : r ≤ℤ alpha = omega (arith, ints) in
@@ -121,12 +126,14 @@ ReplyLoop-keeps g p alpha left s rest best r l k b no_better =
     record { score = l.score; low = l.low; replies = NoneAbove-next g p left s rest best best l.replies k (omega (arith, ints)) (omega (arith, ints)) }
 
 -- a better reply that is not above the threshold becomes the best
-pub ReplyLoop-takes : (g : Scoring) (p : Position) (alpha : ℤ) (left : ℕ → Type 0) (s : ℕ) (rest : ℕ → Type 0) (best r : ℤ) → ReplyLoop g p alpha left best → Takes left s rest → BoundsAt (neg_ℤ (value (score_of g) (after p s))) alpha r → r ≤ℤ alpha → best <ℤ r → ReplyLoop g p alpha rest r
+pub ReplyLoop-takes : (g : Scoring) (p : Position) (alpha : ℤ) (left : ℕ → Type 0) (s : ℕ) (rest : ℕ → Type 0) (best r : ℤ) → ReplyLoop g p alpha left best → Takes left s rest
+    → BoundsAt (neg_ℤ (value (score_of g) (after p s))) alpha r → r ≤ℤ alpha → best <ℤ r → ReplyLoop g p alpha rest r
 ReplyLoop-takes g p alpha left s rest best r l k b within better =
     let gives = b.fails_low within in
     record { score = b.score; low = within; replies = NoneAbove-next g p left s rest best r l.replies k (omega (arith, ints)) gives }
 
-pub ReplyLoop-end : (g : Scoring) (p : Position) (alpha beta : ℤ) (left : ℕ → Type 0) (best : ℤ) → ReplyLoop g p beta left best → beta ≡ alpha → ((s : ℕ) → left s → ⊥) → can_move p ≡ true → BoundsAt (value (score_of g) p) alpha best
+pub ReplyLoop-end : (g : Scoring) (p : Position) (alpha beta : ℤ) (left : ℕ → Type 0) (best : ℤ) → ReplyLoop g p beta left best → beta ≡ alpha → ((s : ℕ) → left s → ⊥)
+    → can_move p ≡ true → BoundsAt (value (score_of g) p) alpha best
 ReplyLoop-end g p alpha beta left best l e none some =
     let most = NoneAbove-end g p left best l.replies none some in
     let low = l.low in

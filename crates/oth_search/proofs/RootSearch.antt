@@ -6,14 +6,16 @@ use Rattle.oth_rules.specs.Laws.{IsScore}
 use Rattle.oth_search.specs.Interval.{IsInterval, IsThreshold, Decides}
 
 -- closer bounds decide what wider ones decide
-pub Decides-closer : (a b lower upper alpha beta alpha' beta' : ℤ) → IsInterval lower upper → a ≤ℤ lower → upper ≤ℤ b → alpha' ≡ alpha → beta' ≡ beta → Decides a b alpha' beta' → Decides lower upper alpha beta
+pub Decides-closer : (a b lower upper alpha beta alpha' beta' : ℤ) → IsInterval lower upper → a ≤ℤ lower → upper ≤ℤ b → alpha' ≡ alpha → beta' ≡ beta → Decides a b alpha' beta'
+    → Decides lower upper alpha beta
 Decides-closer a b lower upper alpha beta alpha' beta' i low high e f d = elim d [
   | inl k ↦ inl (omega (arith, ints, i.ordered, k))
   | inr out ↦ elim out [ inl h ↦ inr (inl (omega (arith, ints, h))) | inr h ↦ inr (inr (omega (arith, ints, h))) ]
 ]
 
 -- bounds that decide a threshold between them are closer
-pub fewer : (a b lower upper alpha w x : ℤ) → IsInterval lower upper → a ≤ℤ alpha → alpha <ℤ b → a ≤ℤ lower → upper ≤ℤ b → w ≡ alpha → x ≡ alpha +ℤ pos 1 → Decides lower upper w x → unsigned_abs (upper -ℤ lower) < unsigned_abs (b -ℤ a)
+pub fewer : (a b lower upper alpha w x : ℤ) → IsInterval lower upper → a ≤ℤ alpha → alpha <ℤ b → a ≤ℤ lower → upper ≤ℤ b → w ≡ alpha → x ≡ alpha +ℤ pos 1 → Decides lower upper w x
+    → unsigned_abs (upper -ℤ lower) < unsigned_abs (b -ℤ a)
 fewer a b lower upper alpha w x i from to low high k e d = elim d [
   | inl f ↦ omega (arith, ints, f, i.ordered)
   | inr out ↦ elim out [ inl h ↦ omega (arith, ints, h, i.ordered) | inr h ↦ omega (arith, ints, h, i.ordered) ]

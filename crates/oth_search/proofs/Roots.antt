@@ -40,7 +40,8 @@ pub record RootLoop (g : Scoring) (p : Position) (left : ℕ → Type 0) (score 
   pub reaches : (s : ℕ) → has best s ≡ true → gives g p s ≡ score
 
 -- a move that is worse changes nothing
-pub RootLoop-worse : (g : Scoring) (p : Position) (left : ℕ → Type 0) (s : ℕ) (rest : ℕ → Type 0) (score : ℤ) (best : ℕ) → RootLoop g p left score best → Takes left s rest → gives g p s <ℤ score → RootLoop g p rest score best
+pub RootLoop-worse : (g : Scoring) (p : Position) (left : ℕ → Type 0) (s : ℕ) (rest : ℕ → Type 0) (score : ℤ) (best : ℕ) → RootLoop g p left score best → Takes left s rest
+    → gives g p s <ℤ score → RootLoop g p rest score best
 RootLoop-worse g p left s rest score best l k worse = record {
   range = l.range;
   reached = l.reached;
@@ -57,7 +58,8 @@ RootLoop-worse g p left s rest score best l k worse = record {
     settled = record { below = omega (arith, ints, worse); marked = λ e. absurd (omega (arith, ints, worse, e)) }
 
 -- a move that reaches the score is marked
-pub RootLoop-equal : (g : Scoring) (p : Position) (left : ℕ → Type 0) (s : ℕ) (rest : ℕ → Type 0) (score : ℤ) (best all : ℕ) → RootLoop g p left score best → Takes left s rest → gives g p s ≡ score → With best s all → RootLoop g p rest score all
+pub RootLoop-equal : (g : Scoring) (p : Position) (left : ℕ → Type 0) (s : ℕ) (rest : ℕ → Type 0) (score : ℤ) (best all : ℕ) → RootLoop g p left score best → Takes left s rest
+    → gives g p s ≡ score → With best s all → RootLoop g p rest score all
 RootLoop-equal g p left s rest score best all l k equal w = record {
   range = l.range;
   reached = l.reached;
@@ -83,7 +85,8 @@ RootLoop-equal g p left s rest score best all l k equal w = record {
     settled = record { below = omega (arith, ints, equal); marked = λ e. w.added }
 
 -- a better move is the only one marked
-pub RootLoop-better : (g : Scoring) (p : Position) (left : ℕ → Type 0) (s : ℕ) (rest : ℕ → Type 0) (score : ℤ) (best : ℕ) (r : ℤ) (all : ℕ) → RootLoop g p left score best → Takes left s rest → gives g p s ≡ r → score <ℤ r → With 0 s all → RootLoop g p rest r all
+pub RootLoop-better : (g : Scoring) (p : Position) (left : ℕ → Type 0) (s : ℕ) (rest : ℕ → Type 0) (score : ℤ) (best : ℕ) (r : ℤ) (all : ℕ) → RootLoop g p left score best
+    → Takes left s rest → gives g p s ≡ r → score <ℤ r → With 0 s all → RootLoop g p rest r all
 RootLoop-better g p left s rest score best r all l k equal better w = record {
   range = subst IsScore equal (IsScore-gives g p s);
   reached = omega (arith, ints, equal, value-move_bound (score_of g) p s (l.untried s k.member));
@@ -112,7 +115,8 @@ RootLoop-better g p left s rest score best r all l k equal better w = record {
     settled = record { below = omega (arith, ints, equal); marked = λ e. w.added }
 
 -- before the first move, with a lower bound of the value
-pub RootLoop-start : (g : Scoring) (p : Position) (left : ℕ → Type 0) (lower upper score : ℤ) (best : ℕ) → IsInterval lower upper → Encloses lower upper (value (score_of g) p) → score ≡ lower → best ≡ 0 → ((s : ℕ) → left s → IsLegal p s) → ((s : ℕ) → IsLegal p s → left s) → RootLoop g p left score best
+pub RootLoop-start : (g : Scoring) (p : Position) (left : ℕ → Type 0) (lower upper score : ℤ) (best : ℕ) → IsInterval lower upper → Encloses lower upper (value (score_of g) p)
+    → score ≡ lower → best ≡ 0 → ((s : ℕ) → left s → IsLegal p s) → ((s : ℕ) → IsLegal p s → left s) → RootLoop g p left score best
 RootLoop-start g p left lower upper score best i h e none untried all =
     record {
       range = record { low = omega (arith, ints, i.low); high = omega (arith, ints, i.ordered, i.high) };
@@ -131,7 +135,8 @@ RootLoop-score g p left score best l none some =
     ⊎_elim (λ h. absurd (none top.0 h)) (λ done. omega (arith, ints, done.below, top.2)) (l.tried top.0 top.1)
 
 -- and the marked moves are the best ones
-pub RootLoop-best : (g : Scoring) (p : Position) (left : ℕ → Type 0) (score : ℤ) (best : ℕ) → best < 2 ^ 64 → RootLoop g p left score best → ((s : ℕ) → left s → ⊥) → score ≡ value (score_of g) p → best ≡ word_of (is_best (score_of g) p)
+pub RootLoop-best : (g : Scoring) (p : Position) (left : ℕ → Type 0) (score : ℤ) (best : ℕ) → best < 2 ^ 64 → RootLoop g p left score best → ((s : ℕ) → left s → ⊥)
+    → score ≡ value (score_of g) p → best ≡ word_of (is_best (score_of g) p)
 unfolding is_best
 RootLoop-best g p left score best fits l none is_value =
     is_word_of best (is_best (score_of g) p) fits each
@@ -172,7 +177,8 @@ gives_less g p q s score lower upper e h above =
     let v = subst (λ x. Encloses lower upper (value (score_of g) x)) e h in
     omega (arith, ints, v.below)
 
-pub gives_exactly : (g : Scoring) (p q : Position) (s : ℕ) (score lower upper alpha beta : ℤ) → q ≡ after p s → Encloses lower upper (value (score_of g) q) → IsInterval lower upper → Decides lower upper alpha beta → alpha ≡ negsuc 64 → beta ≡ pos 1 -ℤ score → lower ≤ℤ neg_ℤ score → gives g p s ≡ neg_ℤ lower
+pub gives_exactly : (g : Scoring) (p q : Position) (s : ℕ) (score lower upper alpha beta : ℤ) → q ≡ after p s → Encloses lower upper (value (score_of g) q) → IsInterval lower upper
+    → Decides lower upper alpha beta → alpha ≡ negsuc 64 → beta ≡ pos 1 -ℤ score → lower ≤ℤ neg_ℤ score → gives g p s ≡ neg_ℤ lower
 gives_exactly g p q s score lower upper alpha beta e h i d low high below =
     let v = subst (λ x. Encloses lower upper (value (score_of g) x)) e h in
     ⊎_elim

@@ -21,7 +21,8 @@ pub scored-more : (p : Position) (g : Scoring) (ms all : List ScoredMove) (m : S
 scored-more p g ms all m each e one = subst (All (IsScored p g)) (sym e) (All-push (IsScored p g) ms m each one)
 
 -- exact bounds of the board after a move give its score
-pub scored-exactly : (p q : Position) (g h : Scoring) (s : ℕ) (lower upper score : ℤ) → q ≡ after p s → h ≡ g → Encloses lower upper (value (score_of h) q) → lower ≡ upper → score ≡ neg_ℤ upper → score ≡ neg_ℤ (value (score_of g) (after p s))
+pub scored-exactly : (p q : Position) (g h : Scoring) (s : ℕ) (lower upper score : ℤ) → q ≡ after p s → h ≡ g → Encloses lower upper (value (score_of h) q) → lower ≡ upper
+    → score ≡ neg_ℤ upper → score ≡ neg_ℤ (value (score_of g) (after p s))
 scored-exactly p q g h s lower upper score e f bounds exact is =
     let P : Position × Scoring → Type 0 = λ x. Encloses lower upper (value (score_of x.1) x.0) in
     let b = subst P (λ i. (e i, f i)) bounds in

@@ -39,7 +39,8 @@ pub record WithinLoop (g : Scoring) (p : Position) (alpha beta : ℤ) (left : �
   pub reached : alpha <ℤ best → best ≤ℤ value (score_of g) p
   pub replies : NoneAbove g p left best
 
-pub WithinLoop-start : (g : Scoring) (p : Position) (alpha beta : ℤ) (left : ℕ → Type 0) (best : ℤ) → best ≡ negsuc 63 → IsInner alpha beta → NoneAbove g p left best → WithinLoop g p alpha beta left best
+pub WithinLoop-start : (g : Scoring) (p : Position) (alpha beta : ℤ) (left : ℕ → Type 0) (best : ℤ) → best ≡ negsuc 63 → IsInner alpha beta → NoneAbove g p left best
+    → WithinLoop g p alpha beta left best
 WithinLoop-start g p alpha beta left best e w n = record {
   score = record { low = omega (arith, ints); high = omega (arith, ints) };
   in_reach = omega (arith, ints, w.low, w.ordered);
@@ -51,7 +52,9 @@ WithinLoop-start g p alpha beta left best e w n = record {
 reply_reached : (g : Scoring) (p : Position) (s : ℕ) (low beta r : ℤ) → IsLegal p s → WithinAt (neg_ℤ (value (score_of g) (after p s))) low beta r → low <ℤ r → r ≤ℤ value (score_of g) p
 reply_reached g p s low beta r legal w h = let gives = w.below h in let move = value-move_bound (score_of g) p s legal in omega (arith, ints)
 
-pub WithinLoop-next : (g : Scoring) (p : Position) (alpha beta : ℤ) (left : ℕ → Type 0) (s : ℕ) (rest : ℕ → Type 0) (best low r next : ℤ) → WithinLoop g p alpha beta left best → Takes left s rest → WithinAt (neg_ℤ (value (score_of g) (after p s))) low beta r → IsGreater alpha best low → r <ℤ beta → IsGreater best r next → WithinLoop g p alpha beta rest next
+pub WithinLoop-next : (g : Scoring) (p : Position) (alpha beta : ℤ) (left : ℕ → Type 0) (s : ℕ) (rest : ℕ → Type 0) (best low r next : ℤ) → WithinLoop g p alpha beta left best
+    → Takes left s rest → WithinAt (neg_ℤ (value (score_of g) (after p s))) low beta r → IsGreater alpha best low → r <ℤ beta → IsGreater best r next
+    → WithinLoop g p alpha beta rest next
 WithinLoop-next g p alpha beta left s rest best low r next l k w from below most = record {
   score = ⊎_elim (λ e. subst IsScore (sym e) l.score) (λ e. subst IsScore (sym e) w.score) most.one;
   in_reach = ⊎_elim (λ e. omega (arith, ints, e, l.in_reach)) (λ e. omega (arith, ints, e)) most.one;
@@ -69,13 +72,15 @@ WithinLoop-next g p alpha beta left s rest best low r next l k w from below most
         (λ no_better. old (omega (arith, ints, e, no_better, most.left)) h)
 
 -- a reply at or above beta ends the loop
-pub WithinAt-cut : (g : Scoring) (p : Position) (alpha beta : ℤ) (left : ℕ → Type 0) (s : ℕ) (best low r : ℤ) → WithinLoop g p alpha beta left best → left s → WithinAt (neg_ℤ (value (score_of g) (after p s))) low beta r → IsGreater alpha best low → IsInner alpha beta → beta ≤ℤ r → WithinAt (value (score_of g) p) alpha beta r
+pub WithinAt-cut : (g : Scoring) (p : Position) (alpha beta : ℤ) (left : ℕ → Type 0) (s : ℕ) (best low r : ℤ) → WithinLoop g p alpha beta left best → left s
+    → WithinAt (neg_ℤ (value (score_of g) (after p s))) low beta r → IsGreater alpha best low → IsInner alpha beta → beta ≤ℤ r → WithinAt (value (score_of g) p) alpha beta r
 WithinAt-cut g p alpha beta left s best low r l h w from inner out =
     let above : low <ℤ r = ⊎_elim (λ f. omega (arith, ints, f, inner.ordered, out)) (λ f. omega (arith, ints, f, l.in_reach, out)) from.one in
     let reached = reply_reached g p s low beta r (l.replies.untried s h) w above in
     record { score = w.score; above = λ k. absurd (omega (arith, ints, k, out)); below = λ _. reached }
 
-pub WithinAt-end : (g : Scoring) (p : Position) (alpha beta : ℤ) (left : ℕ → Type 0) (best : ℤ) → WithinLoop g p alpha beta left best → ((s : ℕ) → left s → ⊥) → can_move p ≡ true → WithinAt (value (score_of g) p) alpha beta best
+pub WithinAt-end : (g : Scoring) (p : Position) (alpha beta : ℤ) (left : ℕ → Type 0) (best : ℤ) → WithinLoop g p alpha beta left best → ((s : ℕ) → left s → ⊥) → can_move p ≡ true
+    → WithinAt (value (score_of g) p) alpha beta best
 WithinAt-end g p alpha beta left best l none some = record {
   score = l.score;
   above = λ _. NoneAbove-end g p left best l.replies none some;
@@ -101,7 +106,8 @@ pub IsInner-same : (alpha beta low high : ℤ) → low ≡ alpha → high ≡ be
 IsInner-same alpha beta low high e f w = rw (e, f) w
 
 -- a forced pass
-pub WithinAt-pass : (g : Scoring) (p q : Position) (alpha beta low high r s : ℤ) → q ≡ pass p → can_move p ≡ false → can_move q ≡ true → low ≡ neg_ℤ beta → high ≡ neg_ℤ alpha → r ≡ neg_ℤ s → WithinAt (value (score_of g) q) low high s → WithinAt (value (score_of g) p) alpha beta r
+pub WithinAt-pass : (g : Scoring) (p q : Position) (alpha beta low high r s : ℤ) → q ≡ pass p → can_move p ≡ false → can_move q ≡ true → low ≡ neg_ℤ beta → high ≡ neg_ℤ alpha
+    → r ≡ neg_ℤ s → WithinAt (value (score_of g) q) low high s → WithinAt (value (score_of g) p) alpha beta r
 WithinAt-pass g p q alpha beta low high r s is none some e f k w =
     let turn = value-pass (score_of g) p none (rw is at some) in
     let bound = WithinAt-negated (value (score_of g) q) alpha beta low high r s e f k w in
@@ -119,7 +125,8 @@ WithinAt-over g p q alpha beta r is none over e =
 -- ---- what a search with a window tells of a board with known bounds
 
 -- a bound within the window of what the child gives, at the move's square
-pub WithinAt-reply : (g : Scoring) (p q : Position) (s : ℕ) (alpha beta low high r : ℤ) → q ≡ after p s → alpha ≡ low → beta ≡ high → WithinAt (neg_ℤ (value (score_of g) q)) low high r → WithinAt (neg_ℤ (value (score_of g) (after p s))) alpha beta r
+pub WithinAt-reply : (g : Scoring) (p q : Position) (s : ℕ) (alpha beta low high r : ℤ) → q ≡ after p s → alpha ≡ low → beta ≡ high → WithinAt (neg_ℤ (value (score_of g) q)) low high r
+    → WithinAt (neg_ℤ (value (score_of g) (after p s))) alpha beta r
 WithinAt-reply g p q s alpha beta low high r e f h w = rw (f, h, ← e) w
 
 pub WithinLoop-same : (g : Scoring) (p : Position) (alpha beta : ℤ) (left : ℕ → Type 0) (best t : ℤ) → best ≡ t → WithinLoop g p alpha beta left t → WithinLoop g p alpha beta left best
@@ -135,7 +142,8 @@ pub record Cut (alpha beta lower upper low high : ℤ) : Type 0 where
   pub to : (high ≡ beta) ⊎ (high ≡ upper)
   pub inner : IsInner low high
 
-pub cut : (alpha beta lower upper low high : ℤ) → IsWindow alpha beta → IsInterval lower upper → IsOpen lower upper alpha beta → read_i8 lower ≤ℤ low → (low ≡ read_i8 alpha) ⊎ (low ≡ read_i8 lower) → high ≤ℤ read_i8 upper → (high ≡ read_i8 beta) ⊎ (high ≡ read_i8 upper) → Cut alpha beta lower upper (read_i8 low) (read_i8 high)
+pub cut : (alpha beta lower upper low high : ℤ) → IsWindow alpha beta → IsInterval lower upper → IsOpen lower upper alpha beta → read_i8 lower ≤ℤ low
+    → (low ≡ read_i8 alpha) ⊎ (low ≡ read_i8 lower) → high ≤ℤ read_i8 upper → (high ≡ read_i8 beta) ⊎ (high ≡ read_i8 upper) → Cut alpha beta lower upper (read_i8 low) (read_i8 high)
 cut alpha beta lower upper low high w i o least from most to =
     let a : read_i8 alpha ≡ alpha = omega (arith, ints, w.low, w.ordered, w.high) in
     let b : read_i8 beta ≡ beta = omega (arith, ints, w.low, w.ordered, w.high) in
@@ -180,7 +188,8 @@ pub record Narrowed (lower upper at found l u : ℤ) : Type 0 where
   pub below : found ≤ℤ at → (l ≡ lower) × (u ≡ found)
 
 -- both null-window searches decide the whole window
-pub Decides-narrowed : (alpha beta lower upper low high found l u least most : ℤ) → Cut alpha beta lower upper low high → Narrowed lower upper low found l u → Narrowed l u (read_i8 (high -ℤ pos 1)) found least most → least ≤ℤ most → Decides least most alpha beta
+pub Decides-narrowed : (alpha beta lower upper low high found l u least most : ℤ) → Cut alpha beta lower upper low high → Narrowed lower upper low found l u
+    → Narrowed l u (read_i8 (high -ℤ pos 1)) found least most → least ≤ℤ most → Decides least most alpha beta
 Decides-narrowed alpha beta lower upper low high found l u least most c m n ordered =
     let at : read_i8 (high -ℤ pos 1) ≡ high -ℤ pos 1 = omega (arith, ints, c.inner.low, c.inner.ordered, c.inner.high) in
     by_lt_z low found

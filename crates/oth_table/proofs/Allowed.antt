@@ -15,7 +15,8 @@ use Rattle.oth_history.specs.History.{IsUnmade, IsSeat}
 use Rattle.oth_history.proofs.Histories.{seat_past, begins_more}
 use Rattle.oth_table.specs.History.{IsTrueBy, author, makes, content, owner, publishes, Fits, IsLegal, Ends}
 use Rattle.oth_table.specs.Cells.{first_word, version, word, held, HasWords, IsSeated, Knows, IsFit, IsKept}
-use Rattle.oth_table.specs.Steps.{Sat, Did, WentAway, IsReading, IsOld, Claims, MayReadClaimed, MayStore, MayPublish, glanced, read, checked, aimed, found_under, stored, published, glance, read_word, check, aim, claim, read_under, store_word, publish}
+use Rattle.oth_table.specs.Steps.{Sat, Did, WentAway, IsReading, IsOld, Claims, MayReadClaimed, MayStore, MayPublish, glanced, read, checked, aimed}
+use Rattle.oth_table.specs.Steps.{found_under, stored, published, glance, read_word, check, aim, claim, read_under, store_word, publish}
 use Rattle.oth_table.specs.declared.history.Why.{Why}
 use Rattle.oth_table.specs.declared.history.Why.TheVariants.{Busy, Skipped, Worn}
 use Rattle.oth_table.specs.declared.history.Event.{Event}
@@ -106,20 +107,29 @@ module _ (about : Limits) (s : St) (r : IsKept about s) (id : ℕ) (v : View) (a
       (λ some_yet. dite (ℕ_discrete (n % 2) 1)
       (λ odd. let other : Busy ≡ Worn → p ≡ about.terms.wear = λ e. absurd (cc) in
       (went v (Away v.name c Busy ∷ r.log) Idle, goes_away i cs c Busy other, ((λ z. absurd (some_yet z)), (λ _. went_away c Busy other (omega arith)), (λ _ even. absurd (omega arith)))))
-      (λ even. let there = content_there c r.log (omega arith) in let b = fit.seen seated in let st : Stage = Reading c n n (Some there.0) in
-      (went v v.seen st, sits_on i cs st tt (λ _. (omega arith, le_refl n, le_refl n, omega arith, λ _. there.1)), ((λ z. absurd (some_yet z)), (λ odd. absurd (even odd)), (λ _ _. (((refl, refl), refl), (there.0, refl)))))))
+      (λ even. let there = content_there c r.log (omega arith) in let b = fit.seen seated in let st : Stage = Reading c n n (Some there.0) in (
+        went v v.seen st,
+        sits_on i cs st tt (λ _. (omega arith, le_refl n, le_refl n, omega arith, λ _. there.1)),
+        ((λ z. absurd (some_yet z)), (λ odd. absurd (even odd)), (λ _ _. (((refl, refl), refl), (there.0, refl)))),
+      )))
 
   aim_at : (i : ℕ) (cs : List (ℕ × Bounded)) (c : ℕ) → (w : View) × IsKept about (stepped s i (get_or s.words i 0) id cs w keeps) × aimed c v (version s.words c) w
   aim_at i cs c = let count = r.counted c in let n : ℕ = version s.words c in let p : ℕ = publishes c r.log in let low = held_low (owner c r.log) in let past = seen_count c in
       let most = within_wear about.terms c r.log r.legal in let worn = ap (λ z. z.wear) (fit.worn seated) in
       dite (ℕ_discrete (n % 2) 1)
-      (λ odd. let other : Skipped ≡ Worn → p ≡ about.terms.wear = λ e. absurd (cc) in
-      (went v (Away v.name c Skipped ∷ r.log) Idle, goes_away i cs c Skipped other, ((λ _. went_away c Skipped other (omega arith)), (λ even _. absurd (omega arith)), (λ even _. absurd (omega arith)))))
+      (λ odd. let other : Skipped ≡ Worn → p ≡ about.terms.wear = λ e. absurd (cc) in (
+        went v (Away v.name c Skipped ∷ r.log) Idle,
+        goes_away i cs c Skipped other,
+        ((λ _. went_away c Skipped other (omega arith)), (λ even _. absurd (omega arith)), (λ even _. absurd (omega arith))),
+      ))
       (λ even. dite (dec_le v.terms.wear (n / 2))
       (λ full. let is : Worn ≡ Worn → p ≡ about.terms.wear = λ _. omega arith in
       (went v (Away v.name c Worn ∷ r.log) Idle, goes_away i cs c Worn is, ((λ odd. absurd (even odd)), (λ _ _. did (Away v.name c Worn) refl tt is), (λ _ l. absurd (omega arith)))))
-      (λ room. let st : Stage = Reading c n n (content c r.log) in
-      (went v v.seen st, sits_on i cs st tt (λ _. (omega arith, le_refl n, le_refl n, omega arith, λ _. refl)), ((λ odd. absurd (even odd)), (λ _ l. absurd (room l)), (λ _ _. (((refl, refl), refl), (content c r.log, refl)))))))
+      (λ room. let st : Stage = Reading c n n (content c r.log) in (
+        went v v.seen st,
+        sits_on i cs st tt (λ _. (omega arith, le_refl n, le_refl n, omega arith, λ _. refl)),
+        ((λ odd. absurd (even odd)), (λ _ l. absurd (room l)), (λ _ _. (((refl, refl), refl), (content c r.log, refl)))),
+      )))
 
   read_at : (i : ℕ) (cs : List (ℕ × Bounded)) (c k : ℕ) → k < 3 → (st : Stage) → IsReading c st → Knows r.log s.words s.views v st
       → (w : View) × IsKept about (stepped s i (get_or s.words i 0) id cs w keeps) × read k v st (word s.words c k) w
@@ -144,7 +154,8 @@ module _ (about : Limits) (s : St) (r : IsKept about s) (id : ℕ) (v : View) (a
 
   check_at : (i : ℕ) (cs : List (ℕ × Bounded)) (c : ℕ) (st : Stage) → IsReading c st → Knows r.log s.words s.views v st
       → (w : View) × IsKept about (stepped s i (get_or s.words i 0) id cs w keeps) × checked v st (version s.words c) w
-  check_at i cs c (Reading d a last (Some x)) is known = subst (λ z. (w : View) × IsKept about (stepped s i (get_or s.words i 0) id cs w keeps) × checked v (Reading d a last (Some x)) (version s.words z) w) is
+  check_at i cs c (Reading d a last (Some x)) is known =
+      subst (λ z. (w : View) × IsKept about (stepped s i (get_or s.words i 0) id cs w keeps) × checked v (Reading d a last (Some x)) (version s.words z) w) is
       (let n : ℕ = version s.words d in let more = known.2 in let first = known.1 in let past = known.3 in let count = r.counted d in let low = held_low (owner d r.log) in
       dite (ℕ_discrete n a)
       (λ same. let here = known.4 (sym same) in (
@@ -185,7 +196,9 @@ module _ (about : Limits) (s : St) (r : IsKept about s) (id : ℕ) (v : View) (a
         known.3,
         omega arith,
         (λ m lo hi. dite (ℕ_discrete m j)
-            (λ e. ap (λ z. get_or ws (first_word d + (1 + z)) 0) e ∙ (get_or-set_same s.words (first_word d + (1 + j)) bits 0 (omega arith) ∙ (is.2 ∙ ap (λ z. slice_index (words_of (joined old given)) z) (sym (e ∙ here)))))
+            (λ e.
+            ap (λ z. get_or ws (first_word d + (1 + z)) 0) e
+            ∙ (get_or-set_same s.words (first_word d + (1 + j)) bits 0 (omega arith) ∙ (is.2 ∙ ap (λ z. slice_index (words_of (joined old given)) z) (sym (e ∙ here)))))
             (λ other. get_or-set_other s.words (first_word d + (1 + j)) (first_word d + (1 + m)) bits 0 (λ e. other (omega arith)) ∙ known.5 m lo (omega arith))),
         (λ x e m lo hi. get_or-set_other s.words (first_word d + (1 + j)) (first_word d + (1 + m)) bits 0 (λ f. absurd (omega arith)) ∙ known.6 x e m (omega arith) hi),
       )) in
@@ -198,14 +211,25 @@ module _ (about : Limits) (s : St) (r : IsKept about s) (id : ℕ) (v : View) (a
   publish_at : (cs : List (ℕ × Bounded)) (c next : ℕ) → c < about.cells → (st : Stage) → MayPublish v.terms.scoring c next st → Knows r.log s.words s.views v st
       → (w : View) × IsKept about (stepped s (first_word c) next id cs w keeps) × published v st w
   publish_at cs c next inside (Writing d a old given j) is known =
-      let x : Bounded = joined old given in let e : Event = Publish v.name d given x in let w = went v (e ∷ r.log) Idle in let wide = r.wide in let cell = is.0 in let all = is.1 in let up = is.2 in let now = known.0 in
+      let x : Bounded = joined old given in
+      let e : Event = Publish v.name d given x in
+      let w = went v (e ∷ r.log) Idle in
+      let wide = r.wide in
+      let cell = is.0 in
+      let all = is.1 in
+      let up = is.2 in
+      let now = known.0 in
       let joins : x ≡ joined (content d r.log) given = ap (λ o. joined o given) (sym known.2) in
       let words : HasWords s.words d 0 3 x = subst (λ z. HasWords s.words d 0 z x) all known.5 in
-      let after : IsKept about (turned s (set s.words (first_word d) (version s.words d + 1)) id w) = kept about s r id v w at seated tt refl (e ∷ []) (set s.words (first_word d) (version s.words d + 1))
+      let after : IsKept about (turned s (set s.words (first_word d) (version s.words d + 1)) id w) = kept about s r id v w at seated tt refl (e ∷ [])
+      (set s.words (first_word d) (version s.words d + 1))
       (publishes_it about s r v.name d (omega arith) given x known.1 joins (its_truth given known.3) (its_truth x is.3) (fit.seat seated) words)
       (ended_fits e (set s.words (first_word d) (version s.words d + 1)) (set s.views id w) Idle tt) in
-      let value : version s.words d + 1 ≡ next = omega arith in
-      (w, subst (λ (z : ℕ × ℕ). IsKept about (turned s (set s.words (first_word z.0) z.1) id w)) (λ i. (cell i, value i)) after, did e refl tt (known.1, joins, its_truth given known.3, its_truth x is.3))
+      let value : version s.words d + 1 ≡ next = omega arith in (
+        w,
+        subst (λ (z : ℕ × ℕ). IsKept about (turned s (set s.words (first_word z.0) z.1) id w)) (λ i. (cell i, value i)) after,
+        did e refl tt (known.1, joins, its_truth given known.3, its_truth x is.3),
+      )
   publish_at cs c next inside (Reading d a last x) is known = absurd is
   publish_at cs c next inside Idle is known = absurd is
   publish_at cs c next inside (Making t) is known = absurd is
@@ -237,7 +261,17 @@ module _ (about : Limits) (s : St) (r : IsKept about s) (id : ℕ) (v : View) (a
               (λ m lo hi. absurd (omega arith)),
               (λ x is m lo hi. get_or-set_other s.words (first_word c) (first_word c + (1 + m)) (n + 1) 0 (λ f. absurd (omega arith)) ∙ r.stored c x free is m lo hi),
             )),
-        ((refl, refl), (old, subst (λ z. IsOld v.terms.scoring z old) twice (is_old c old refl), refl, joined_true v.terms.scoring old given (λ x is. my_truth x (content_true about.terms c r.log x r.legal is)) right, right), ends e refl tt fits),
+        (
+          (refl, refl),
+          (
+            old,
+            subst (λ z. IsOld v.terms.scoring z old) twice (is_old c old refl),
+            refl,
+            joined_true v.terms.scoring old given (λ x is. my_truth x (content_true about.terms c r.log x r.legal is)) right,
+            right,
+          ),
+          ends e refl tt fits,
+        ),
       )
 
 reading_seated : (c : ℕ) (st : Stage) → IsReading c st → IsSeated st
@@ -313,14 +347,16 @@ publishes_next about slots id me c next i is inside mine s r _ at _ =
     let here : first_word c ≡ i = omega arith in
     (g.0, keeps, tt, subst (λ z. IsKept about (stepped s z next id me.1 g.0 keeps)) here g.1, g.2)
 
-pub claims_cell : (about : Limits) (slots id : ℕ) (me : Sat) (c old new : ℕ) (given : Bounded) (i : ℕ) → i ≡ first_word c + 0 → c < about.cells → new ≡ old + 1 → old % 2 ≡ 0 → old / 2 < about.terms.wear
+pub claims_cell : (about : Limits) (slots id : ℕ) (me : Sat) (c old new : ℕ) (given : Bounded) (i : ℕ) → i ≡ first_word c + 0 → c < about.cells → new ≡ old + 1 → old % 2 ≡ 0
+    → old / 2 < about.terms.wear
     → (last : ℕ) (x : Option Bounded) → me.0.stage ≡ Reading c old last x → IsTrueBy me.0.terms.scoring given
     → Allows (IsKept about) slots id me i (λ n. either (eqb n old) new n) (claim (step slots i old new (some given)) me)
 claims_cell about slots id me c old new given i is inside up even room last x reading right s r _ at _ =
     let v : View = me.0 in let seated : IsSeated v.stage = subst IsSeated (sym reading) tt in let here : i ≡ first_word c = omega arith in let n : ℕ = get_or s.words i 0 in
     let now : version s.words c ≡ n = ap (λ z. get_or s.words z 0) (sym here) in let cell : c ≡ (i - first_word 0) / 4 = omega arith in
     let known = subst (Knows r.log s.words s.views v) reading (r.each id v at).knows in
-    let F : ℕ → Type 0 = λ m. (w : View) × (a : Act Bounded) × Valid s.homes me.1 a × IsKept about (stepped s i m id me.1 w a) × claim (step slots i old new (some given)) me n (w, carried_after me.1 a) in
+    let F : ℕ → Type 0 = λ m.
+    (w : View) × (a : Act Bounded) × Valid s.homes me.1 a × IsKept about (stepped s i m id me.1 w a) × claim (step slots i old new (some given)) me n (w, carried_after me.1 a) in
     exchanged n old new F
     (λ hit. let same : version s.words c ≡ old = now ∙ hit in
     let g = claim_at about s r id v at seated me.1 c given inside (ap (λ z. z % 2) same ∙ even) (subst (λ z. z / 2 < about.terms.wear) (sym same) room) right in (

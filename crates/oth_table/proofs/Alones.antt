@@ -79,7 +79,9 @@ both_alone u later p first other used looks =
           (a.0, a.1, λ busy. a.1 (sym once.1 ∙ busy))
       | inr more ↦
           let twice = looks.1 more in
-          let a = looks_alone u.seat.terms (place_of p u.table.cells) u.seat.seen twice.0 first used.alone (subst (λ s. Looks u.seat.terms s u.seat.seen twice.0 (place_of p u.table.cells) first) used.first twice.1) in
+          let a =
+          looks_alone u.seat.terms (place_of p u.table.cells) u.seat.seen twice.0 first used.alone
+          (subst (λ s. Looks u.seat.terms s u.seat.seen twice.0 (place_of p u.table.cells) first) used.first twice.1) in
           let b = looks_alone u.seat.terms (second_of p u.table.cells) twice.0 later other a.0 (subst (λ s. Looks u.seat.terms s twice.0 later (second_of p u.table.cells) other) used.first twice.2) in
           (b.0, a.1, b.1)
     ]

@@ -66,13 +66,23 @@ pub cuts : (about : Limits) (id : ℕ) (v : View) (q : Name) → v.stage ≡ Mak
 cuts about id v q is s r at =
     let seated : IsSeated v.stage = subst IsSeated (sym is) tt in let f = r.each id v at in let known = subst (Knows r.log s.words s.views v) is f.knows in
     let vs : List View = set s.views id (resting v) in let n : View = new_seat v (Making q) in
-    let r' : IsKept about (turned s s.words id (resting v)) = kept about s r id v (resting v) at seated tt refl [] s.words (rests about s r v.name) (still_fits about s r id v at seated s.words vs Idle tt) in
-    let new : IsNew vs q = λ j y e sy. ⊎_elim (λ (k : (j ≡ id) × (resting v ≡ y)). λ named. known.1 id v at seated (ap (λ (z : View). z.name) k.1 ∙ named))
+    let r' : IsKept about (turned s s.words id (resting v)) =
+    kept about s r id v (resting v) at seated tt refl [] s.words (rests about s r v.name)
+    (still_fits about s r id v at seated s.words vs Idle tt) in
+    let new : IsNew vs q = λ j y e sy.
+    ⊎_elim (λ (k : (j ≡ id) × (resting v ≡ y)). λ named. known.1 id v at seated (ap (λ (z : View). z.name) k.1 ∙ named))
     (λ (k : (j ≢ id) × (get_elem? s.views j ≡ some y)). known.1 j y k.1 sy) (at_set s.views id j (resting v) y e) in
-    let apart : (t : Name) (j : ℕ) (u : View) → get_elem? vs j ≡ some u → u.stage ≡ Making t → t ≢ q = λ t j u e is_making same. ⊎_elim
-    (λ (k : (j ≡ id) × (resting v ≡ u)). let idle : Idle ≡ u.stage = ap (λ (z : View). z.stage) k.1 in let two : Idle ≡ Making t = idle ∙ is_making in absurd (cc))
-    (λ (k : (j ≢ id) × (get_elem? s.views j ≡ some u)). let g = subst (Knows r.log s.words s.views u) is_making (r.each j u k.1).knows in let maker = subst (λ z. WasMadeBy author makes r.log u.name z) same g.0 in
-    let names : u.name ≡ v.name = one_maker author makes (Fits about.terms) r.log u.name v.name q r.legal maker known.0 in k.0 (r.one j id u v k.1 at (subst IsSeated (sym is_making) tt) seated names))
+    let apart : (t : Name) (j : ℕ) (u : View) → get_elem? vs j ≡ some u → u.stage ≡ Making t → t ≢ q = λ t j u e is_making same.
+    ⊎_elim
+    (λ (k : (j ≡ id) × (resting v ≡ u)).
+    let idle : Idle ≡ u.stage = ap (λ (z : View). z.stage) k.1 in
+    let two : Idle ≡ Making t = idle ∙ is_making in absurd (cc))
+    (λ (k : (j ≢ id) × (get_elem? s.views j ≡ some u)).
+    let g = subst (Knows r.log s.words s.views u) is_making (r.each j u k.1).knows in
+    let maker = subst (λ z. WasMadeBy author makes r.log u.name z) same g.0 in
+    let names : u.name ≡ v.name =
+    one_maker author makes (Fits about.terms) r.log u.name v.name q r.legal maker known.0 in
+    k.0 (r.one j id u v k.1 at (subst IsSeated (sym is_making) tt) seated names))
     (at_set s.views id j (resting v) u e) in
     let seen = f.seen seated in
     subst (λ st. IsKept about (with_views s (vs ++ new_seat v st ∷ []))) (sym is) (arrives about (turned s s.words id (resting v)) r' n tt new apart record {

@@ -27,7 +27,8 @@ found_by terms s earlier later c Busy l = tt
 pub looks_at : (u v : Use) (c d : ℕ) (earlier later : List Event) (found : Look) → fixed_of v ≡ fixed_of u → c ≡ d → LooksAt v c earlier later found → LooksAt u d earlier later found
 looks_at u v c d earlier later found fixed same l = subst (λ (z : Fixed × ℕ). Looks z.0.terms z.0.name earlier later z.1 found) (λ i. (fixed i, same i)) l
 
-pub puts_at : (u v : Use) (c d : ℕ) (earlier later : List Event) (given : Bounded) (did : Put) → fixed_of v ≡ fixed_of u → c ≡ d → PutsAt v c earlier later given did → PutsAt u d earlier later given did
+pub puts_at : (u v : Use) (c d : ℕ) (earlier later : List Event) (given : Bounded) (did : Put) → fixed_of v ≡ fixed_of u → c ≡ d → PutsAt v c earlier later given did
+    → PutsAt u d earlier later given did
 puts_at u v c d earlier later given did fixed same p = subst (λ (z : Fixed × ℕ). Puts z.0.terms z.0.name earlier later z.1 given did) (λ i. (fixed i, same i)) p
 
 -- the answer of a look for p by the scoring g

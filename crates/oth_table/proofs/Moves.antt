@@ -88,7 +88,8 @@ module _ (about : Limits) (s : St) (r : IsKept about s) where
           ));
     }
 
-    pub publishes_it : (given : Bounded) (kept : Bounded) → owner c r.log ≡ Some n → kept ≡ joined (content c r.log) given → IsTrueBy about.terms.scoring given → IsTrueBy about.terms.scoring kept → IsSeat makes r.log n
+    pub publishes_it : (given : Bounded) (kept : Bounded) → owner c r.log ≡ Some n → kept ≡ joined (content c r.log) given → IsTrueBy about.terms.scoring given
+        → IsTrueBy about.terms.scoring kept → IsSeat makes r.log n
         → HasWords s.words c 0 3 kept → Goes about r.log s.words n (Publish n c given kept ∷ []) (set s.words (first_word c) (version s.words c + 1))
     publishes_it given kept mine joins true_given true_kept seat words = let v : ℕ = version s.words c + 1 in record {
       legal = ((seat, tt), (mine, joins, true_given, true_kept), r.legal);

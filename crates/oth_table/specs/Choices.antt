@@ -1,5 +1,6 @@
 -- The two cells of a board, and which of them takes a store.
---     place_of p cells       the first cell of the board: the highest bits of a sum of two products of its words, as many bits as number the cells
+--     place_of p cells       the first cell of the board: the highest bits of a sum of two products of its words, as many bits as
+--                            number the cells
 --     second_of p cells      its second cell: the place with its lowest bit changed, and the place itself in a table of one cell
 --     entry_in found p       the entry of the board p, if a look found it
 --     picks_second f g p     whether a store of p goes to the second cell, after the looks f and g at the first and the second

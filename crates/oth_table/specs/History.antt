@@ -58,7 +58,8 @@ publishes c (e ∷ h) = publishes c h
 -- the event fits what came before it
 abbrev pub Fits : Terms → List Event → Event → Type 0
 Fits terms h (Claim s c) = (owner c h ≡ None) × (publishes c h < terms.wear)
-Fits terms h (Publish s c given kept) = (owner c h ≡ Some s) × (kept ≡ joined (content c h) given) × IsTrueBy terms.scoring given × IsTrueBy terms.scoring kept
+Fits terms h (Publish s c given kept) =
+    (owner c h ≡ Some s) × (kept ≡ joined (content c h) given) × IsTrueBy terms.scoring given × IsTrueBy terms.scoring kept
 Fits terms h (Look s c x) = x ≡ content c h
 Fits terms h (Away s c why) = why ≡ Worn → publishes c h ≡ terms.wear
 Fits terms h (Made s t) = Unit {0}

@@ -1,6 +1,7 @@
 -- What a search does to a table that gives each board two cells.
 --     LooksBoth u later p f g      after the looks f at the place of p and g at its second cell the seat has seen `later`
---     LooksFor u v p answer        a look for the board p: both cells are looked at, and the entry of p is the answer, the first cell's where both hold it
+--     LooksFor u v p answer        a look for the board p: both cells are looked at, and the entry of p is the answer, the first
+--                                  cell's where both hold it
 --     PutsFor u v given            a store: both cells are looked at, and one put is made, at the cell that is picked
 -- In a table of one cell there is one look, which counts as both.
 use Rattle.std.specs.Prelude.{◌≡◌, ◌≢◌, ℕ, List, Option}

@@ -56,7 +56,10 @@ module _ (terms : Terms) (s : Name) (earlier later : List Event) (c : ℕ) where
 
   abbrev pub Puts : Bounded → Put → Type 0
   Puts given Stored =
-      (kept : Bounded) × (between : List Event) × Ends terms s earlier between (Claim s c) × Ends terms s between later (Publish s c given kept)
+      (kept : Bounded)
+      × (between : List Event)
+      × Ends terms s earlier between (Claim s c)
+      × Ends terms s between later (Publish s c given kept)
   Puts given Skipped = GoesAway terms s c why.TheVariants.Skipped earlier later
   Puts given Worn = Ends terms s earlier later (Away s c why.TheVariants.Worn)
 

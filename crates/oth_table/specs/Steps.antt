@@ -47,7 +47,8 @@ glanced c v r w =
 
 -- the load of the i-th word, which is right if no version is known beyond the first
 abbrev pub read : ℕ → View → Stage → ℕ → View → Type 0
-read i v (Reading c at last (Some x)) r w = Stays v w × ((now : ℕ) × (w.stage ≡ Reading c at now (Some x)) × (now ≤ at → (last ≤ at) × (r ≡ slice_index (words_of x) i)))
+read i v (Reading c at last (Some x)) r w =
+    Stays v w × ((now : ℕ) × (w.stage ≡ Reading c at now (Some x)) × (now ≤ at → (last ≤ at) × (r ≡ slice_index (words_of x) i)))
 read i v _ r w = Unit {0}
 
 abbrev pub IsReading : ℕ → Stage → Type 0
@@ -56,7 +57,8 @@ IsReading c _ = ⊥
 
 -- the second load of the version
 abbrev pub checked : View → Stage → ℕ → View → Type 0
-checked v (Reading c at last (Some x)) r w = (r ≡ at → (last ≤ at) × IsTrueBy v.terms.scoring x × Did v w (Look v.name c (Some x))) × (r ≢ at → WentAway c Busy v w)
+checked v (Reading c at last (Some x)) r w =
+    (r ≡ at → (last ≤ at) × IsTrueBy v.terms.scoring x × Did v w (Look v.name c (Some x))) × (r ≢ at → WentAway c Busy v w)
 checked v _ r w = Unit {0}
 
 -- the first load of a put
@@ -72,7 +74,9 @@ IsOld g at (Some x) = (0 < at) × IsTrueBy g x
 
 -- the seat has the claim of the cell, whose version was `at`, and has stored nothing yet
 abbrev pub IsClaimed : Scoring → ℕ → ℕ → Bounded → Stage → Type 0
-IsClaimed g c at given st = (old : Option Bounded) × IsOld g at old × (st ≡ Writing c (at + 1) old given 0) × IsTrueBy g (joined old given) × IsTrueBy g given
+IsClaimed g c at given st =
+    (old : Option Bounded) × IsOld g at old × (st ≡ Writing c (at + 1) old given 0) × IsTrueBy g (joined old given)
+    × IsTrueBy g given
 
 -- the claim ends what the seat has seen, and the seat has the claim
 abbrev pub Claims : ℕ → ℕ → Bounded → View → View → Type 0

@@ -62,4 +62,5 @@ empty_more text black white n so_far is = record {
 }
 
 pub are_apart : (text : List ℕ) (black white n : ℕ) → AreDiscs text black white n → bit_and black white ≡ 0
-are_apart text black white n so_far = same_from_bits _ _ (λ i. bit_at_and black white i ∙ let rest = so_far.apart i in let none : min (bit_at black i) (bit_at white i) ≡ 0 = omega arith in none ∙ sym (bit_at-zero i))
+are_apart text black white n so_far =
+    same_from_bits _ _ (λ i. bit_at_and black white i ∙ let rest = so_far.apart i in let none : min (bit_at black i) (bit_at white i) ≡ 0 = omega arith in none ∙ sym (bit_at-zero i))

@@ -10,7 +10,8 @@ use Rattle.oth_rules.proofs.Counts.{counts}
 use Rattle.oth_rules.proofs.Scores.{cannot_move, does_move}
 use Rattle.oth_rules.proofs.SearchLaws.{empty_count-after}
 use Rattle.oth_text.specs.Sides.{opponent}
-use Rattle.oth_text.specs.Transcript.{Reached, StandsFrom, after_move, is_nil, is_square_name, or_fault, pair_fault, pending_bytes, played, resumed, square_of, transcript_reading_from, with_forced_pass}
+use Rattle.oth_text.specs.Transcript.{Reached, StandsFrom, after_move, is_nil, is_square_name, or_fault, pair_fault, pending_bytes}
+use Rattle.oth_text.specs.Transcript.{played, resumed, square_of, transcript_reading_from, with_forced_pass}
 use Rattle.oth_text.specs.declared.position.Side.{Side}
 use Rattle.oth_text.specs.declared.position.Position.{Position}
 use Rattle.oth_text.specs.declared.fault.TranscriptFault.{TranscriptFault}
@@ -84,7 +85,8 @@ no_pending : (p : Option ℕ) → is_some p ≡ false → p ≡ None
 no_pending None h = refl
 no_pending (Some b) h = absurd (let bad : true ≡ false = h in cc)
 
-whole_pairs : (from : Position) (kept : Reached) (text : List ℕ) → StandsFrom from kept text → is_some kept.pending ≡ false → transcript_reading_from from text ≡ resumed kept.fault kept.next_pair kept.position []
+whole_pairs : (from : Position) (kept : Reached) (text : List ℕ) → StandsFrom from kept text → is_some kept.pending ≡ false
+    → transcript_reading_from from text ≡ resumed kept.fault kept.next_pair kept.position []
 unfolding transcript_reading_from
 whole_pairs from kept text so_far none =
     let whole : text ≡ so_far.pairs ++ [] = so_far.text_is ∙ ap (λ p. so_far.pairs ++ pending_bytes p) (no_pending kept.pending none) in
@@ -93,7 +95,8 @@ whole_pairs from kept text so_far none =
     let test : (length text % 2 == 0) ≡ true = eq-eqb _ _ (rw len even) in
     rw test (ap (played 1 from) whole ∙ so_far.leads [])
 
-pub at_fault : (from : Position) (kept : Reached) (text : List ℕ) (f : TranscriptFault) → StandsFrom from kept text → is_some kept.pending ≡ false → kept.fault ≡ Some f → Err f ≡ transcript_reading_from from text
+pub at_fault : (from : Position) (kept : Reached) (text : List ℕ) (f : TranscriptFault) → StandsFrom from kept text → is_some kept.pending ≡ false → kept.fault ≡ Some f
+    → Err f ≡ transcript_reading_from from text
 at_fault from kept text f so_far none is = sym (whole_pairs from kept text so_far none ∙ ap (λ g. resumed g kept.next_pair kept.position []) is)
 
 pub at_end : (from : Position) (kept : Reached) (text : List ℕ) → StandsFrom from kept text → is_some kept.pending ≡ false → kept.fault ≡ None → Ok kept.position ≡ transcript_reading_from from text
@@ -119,7 +122,8 @@ passes_on p b m w v is none passes is_other some turned =
     let other : can_move (pass p.board) ≡ true = ap can_move (sym passes) ∙ does_move b v is_other some in
     rw (cannot_move p.board w is none, other, passes, turned) refl
 
-pub legal_pair : (k : ℕ) (p q : Position) (b : Discs) (m : Side) (letter digit s : ℕ) → IsTrue (is_square_name letter digit) → s ≡ square_of letter digit → is_over p.board ≡ false → IsTrue (is_legal p.board s)
+pub legal_pair : (k : ℕ) (p q : Position) (b : Discs) (m : Side) (letter digit s : ℕ) → IsTrue (is_square_name letter digit) → s ≡ square_of letter digit → is_over p.board ≡ false
+    → IsTrue (is_legal p.board s)
     → b ≡ after p.board s → m ≡ opponent p.mover → q ≡ with_forced_pass (record { board = b; mover = m }) → (pair_fault k p letter digit ≡ None) × (q ≡ after_move p (square_of letter digit))
 unfolding after_move
 legal_pair k p q b m letter digit s name is goes_on legal moved turned is_q =

@@ -1,5 +1,6 @@
 -- Board lines: what they show, and that each text has one reading.
-use Rattle.std.proofs.Common.{◌≡◌, ◌+◌, ◌<◌, ◌≤◌, ◌==◌, ◌&&◌, ℕ, List, [], ◌∷◌, ◌++◌, map, Bool, true, false, cond, Result, Ok, Err, IfOk, IfErr, length, slice_index, refl, sym, ap, ◌∙◌, arith, subst, nat_lt, inl, inr}
+use Rattle.std.proofs.Common.{◌≡◌, ◌+◌, ◌<◌, ◌≤◌, ◌==◌, ◌&&◌, ℕ, List, [], ◌∷◌, ◌++◌, map, Bool, true, false, cond, Result, Ok, Err}
+use Rattle.std.proofs.Common.{IfOk, IfErr, length, slice_index, refl, sym, ap, ◌∙◌, arith, subst, nat_lt, inl, inr}
 use Rattle.std.specs.Prelude.{◌↔◌, bit_and}
 use Rattle.std.specs.Int.{bit_at}
 use Rattle.std.proofs.lemmas.List.{ext_get_or, length-append, get_or_append_left, get_or-append_right, get_or_at}
@@ -17,7 +18,8 @@ use Rattle.oth_text.specs.declared.position.Position.{Position}
 use Rattle.oth_text.specs.declared.fault.LineFault.{LineFault}
 use Rattle.oth_text.specs.declared.fault.LineFault.TheVariants.{Length, BadCell, Space, Mover, Empties}
 use Rattle.oth_text.specs.Sides.{by_mover, start}
-use Rattle.oth_text.specs.BoardLine.{IsBoardLine, IsFirstFault, IsSolvableFault, IsSolvableLine, board_line, cell_byte, cell_of, if_solvable, most_empties, reading, shown, side_byte, side_of, solvable_reading}
+use Rattle.oth_text.specs.BoardLine.{IsBoardLine, IsFirstFault, IsSolvableFault, IsSolvableLine, board_line, cell_byte, cell_of}
+use Rattle.oth_text.specs.BoardLine.{if_solvable, most_empties, reading, shown, side_byte, side_of, solvable_reading}
 use Rattle.oth_text.specs.Discs.{ShowsDiscs, disc_byte}
 use Rattle.oth_text.proofs.FaultLemmas.{first_fault_is, first_fault_none}
 
@@ -131,7 +133,10 @@ written line black white space p board is_black is_white len shows is_space =
     line_of ((line ++ space ∷ []) ++ side_byte p.mover ∷ []) black white p board (apart_of p.mover p.board.own p.board.opp black white board.apart is_black is_white)
     (own_of p.mover p.board.own p.board.opp black white is_black is_white) (own_of p.mover p.board.opp p.board.own white black is_white is_black)
     (length-append (line ++ space ∷ []) (side_byte p.mover ∷ []) ∙ ap (λ n. n + 1) (length-append line (space ∷ [])) ∙ rw len refl)
-    (λ s l. get_or_append_left (line ++ space ∷ []) (side_byte p.mover ∷ []) 0 s (rw (length-append line (space ∷ [])) (omega arith)) ∙ get_or_append_left line (space ∷ []) 0 s (omega arith) ∙ shows s l)
+    (λ s l.
+    get_or_append_left (line ++ space ∷ []) (side_byte p.mover ∷ []) 0 s (rw (length-append line (space ∷ [])) (omega arith))
+    ∙ get_or_append_left line (space ∷ []) 0 s (omega arith)
+    ∙ shows s l)
     (get_or_append_left (line ++ space ∷ []) (side_byte p.mover ∷ []) 0 64 (rw (length-append line (space ∷ [])) (omega arith)) ∙ get_or_at line space [] 0 64 len ∙ is_space)
     (get_or_at (line ++ space ∷ []) (side_byte p.mover) [] 0 65 (length-append line (space ∷ []) ∙ rw len refl))
   where

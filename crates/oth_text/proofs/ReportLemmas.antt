@@ -14,13 +14,15 @@ use Rattle.oth_search.specs.declared.kind.Kind.{Kind}
 use Rattle.oth_text.specs.Report.{best_squares, moves_line_of, moves_or_word, report_line_of, score_text, squares_of}
 use Rattle.oth_text.proofs.SquareLemmas.{squares_of-word_of}
 
-pub moves_line_is : (b : Position) (before line : List ℕ) (k : Kind) (w : ℕ) → before ≡ [] → k ≡ kind_of b → w ≡ word_of (is_legal b) → line ≡ before ++ moves_or_word k (squares_of w) → line ≡ moves_line_of b
+pub moves_line_is : (b : Position) (before line : List ℕ) (k : Kind) (w : ℕ) → before ≡ [] → k ≡ kind_of b → w ≡ word_of (is_legal b) → line ≡ before ++ moves_or_word k (squares_of w)
+    → line ≡ moves_line_of b
 unfolding moves_line_of legal_squares
 moves_line_is b before line k w empty fits moves is =
     is ∙ ap (λ xs. xs ++ moves_or_word k (squares_of w)) empty ∙ ap (λ k. moves_or_word k (squares_of w)) fits
     ∙ ap (moves_or_word (kind_of b)) (ap squares_of moves ∙ squares_of-word_of (is_legal b))
 
-pub report_line_is : (g : Scoring) (b : Position) (scored spaced line : List ℕ) (score : ℤ) (best : ℕ) (k : Kind) → score ≡ value (score_of g) b → best ≡ word_of (is_best (score_of g) b) → k ≡ kind_of b
+pub report_line_is : (g : Scoring) (b : Position) (scored spaced line : List ℕ) (score : ℤ) (best : ℕ) (k : Kind) → score ≡ value (score_of g) b
+    → best ≡ word_of (is_best (score_of g) b) → k ≡ kind_of b
     → scored ≡ score_text (to_z w8 (of_z w8 score)) → spaced ≡ scored ++ 32 ∷ [] → line ≡ spaced ++ moves_or_word k (squares_of best) → line ≡ report_line_of g b
 unfolding report_line_of best_squares
 report_line_is g b scored spaced line score best k is_value are_best fits is_scored is_spaced is =

@@ -1,5 +1,6 @@
 -- Each text has one reading as a transcript.
-use Rattle.std.proofs.Common.{◌≡◌, ◌+◌, ◌*◌, ◌%◌, ◌/◌, ◌<◌, ◌≤◌, ◌==◌, ◌&&◌, ℕ, suc, List, [], ◌∷◌, ◌++◌, length, Bool, true, false, Option, Some, None, Result, Ok, Err, refl, sym, ap, ◌∙◌, append-nil, arith, inl, inr, subst, nat_le, IfOk, lit<}
+use Rattle.std.proofs.Common.{◌≡◌, ◌+◌, ◌*◌, ◌%◌, ◌/◌, ◌<◌, ◌≤◌, ◌==◌, ◌&&◌, ℕ, suc, List, [], ◌∷◌, ◌++◌, length, Bool, true, false, Option, Some}
+use Rattle.std.proofs.Common.{None, Result, Ok, Err, refl, sym, ap, ◌∙◌, append-nil, arith, inl, inr, subst, nat_le, IfOk, lit<}
 use Rattle.std.specs.Prelude.{if◌then◌else◌}
 use Rattle.std.proofs.lemmas.Bool.{cases_eq, eq-eqb, ne_eqb}
 use Rattle.std.proofs.lemmas.Bool.Decides.{nat_tests}
@@ -9,7 +10,8 @@ use Rattle.oth_rules.specs.Position.{Position as Discs, cell, is_mine_cell, is_t
 use Rattle.oth_rules.specs.Laws.{IsLegal}
 use Rattle.oth_rules.proofs.SearchLaws.{can_move-legal}
 use Rattle.oth_text.specs.Sides.{opponent, start}
-use Rattle.oth_text.specs.Transcript.{AreLegal, HasFaultyPair, MovesUnlessOver, with_forced_pass, IsPairFault, IsTranscriptFrom, IsTranscriptFaultFrom, after_move, after_moves, is_square_name, or_fault, pair_fault, played, square_of, transcript_of, transcript_reading_from}
+use Rattle.oth_text.specs.Transcript.{AreLegal, HasFaultyPair, MovesUnlessOver, with_forced_pass, IsPairFault, IsTranscriptFrom, IsTranscriptFaultFrom, after_move}
+use Rattle.oth_text.specs.Transcript.{after_moves, is_square_name, or_fault, pair_fault, played, square_of, transcript_of, transcript_reading_from}
 use Rattle.oth_text.specs.declared.position.Position.{Position}
 use Rattle.oth_text.proofs.ReadingLemmas.{start-own, start-opp}
 use Rattle.oth_text.specs.declared.fault.TranscriptFault.{TranscriptFault}
@@ -61,7 +63,8 @@ tests name over legal k = if name then (if over then Some (Over k) else (if lega
 pair_fault_none : (k : ℕ) (p : Position) (letter digit : ℕ) → pair_fault k p letter digit ≡ None → IsName letter digit × IsLegal p.board (square_of letter digit)
 pair_fault_none k p letter digit h = go (is_square_name letter digit) (is_over p.board) (is_legal p.board (square_of letter digit)) refl refl h
   where
-    go : (name over legal : Bool) → is_square_name letter digit ≡ name → is_legal p.board (square_of letter digit) ≡ legal → tests name over legal k ≡ None → IsName letter digit × IsLegal p.board (square_of letter digit)
+    go : (name over legal : Bool) → is_square_name letter digit ≡ name → is_legal p.board (square_of letter digit) ≡ legal → tests name over legal k ≡ None
+        → IsName letter digit × IsLegal p.board (square_of letter digit)
     go true false true is_n is_l h = let n = is_name letter digit is_n in (n, record { on_board = n.within; legal = is_l })
     go true false false is_n is_l h = absurd (let bad : Some (Illegal k) ≡ None = h in cc)
     go true true legal is_n is_l h = absurd (let bad : Some (Over k) ≡ None = h in cc)
@@ -70,7 +73,8 @@ pair_fault_none k p letter digit h = go (is_square_name letter digit) (is_over p
 pair_fault_some : (k : ℕ) (p : Position) (letter digit : ℕ) (f : TranscriptFault) → pair_fault k p letter digit ≡ Some f → IsPairFault k p letter digit f
 pair_fault_some k p letter digit f h = go (is_square_name letter digit) (is_over p.board) (is_legal p.board (square_of letter digit)) refl refl refl h
   where
-    go : (name over legal : Bool) → is_square_name letter digit ≡ name → is_over p.board ≡ over → is_legal p.board (square_of letter digit) ≡ legal → tests name over legal k ≡ Some f → IsPairFault k p letter digit f
+    go : (name over legal : Bool) → is_square_name letter digit ≡ name → is_over p.board ≡ over → is_legal p.board (square_of letter digit) ≡ legal → tests name over legal k ≡ Some f
+        → IsPairFault k p letter digit f
     go true false true is_n is_o is_l h = absurd (let bad : None ≡ Some f = h in cc)
     go true false false is_n is_o is_l h = let e : Some (Illegal k) ≡ Some f = h in let same : Illegal k ≡ f = cc in subst (IsPairFault k p letter digit) same (refl, is_n, is_o, is_l)
     go true true legal is_n is_o is_l h = let e : Some (Over k) ≡ Some f = h in let same : Over k ≡ f = cc in subst (IsPairFault k p letter digit) same (refl, is_n, is_o)
@@ -225,7 +229,8 @@ forced q = go (can_move q.board) (can_move (pass q.board)) refl refl
     go false false m t = rw (m, t) (λ open_game. absurd (let bad : true ≡ false = rw (m, t) at open_game in cc))
 
 start_legal : (b : Discs) → b.own ≡ 0x0000_0008_1000_0000 → b.opp ≡ 0x0000_0010_0800_0000 → is_legal b 19 ≡ true
-unfolding squares has directions stepped square_at next ray_from ray is_in cell is_mine_cell is_theirs_cell is_empty_cell is_mine is_theirs is_empty starts_with_mine outflanked flipped_along is_flipped is_legal
+unfolding squares has directions stepped square_at next ray_from ray is_in cell is_mine_cell is_theirs_cell is_empty_cell is_mine is_theirs is_empty starts_with_mine outflanked
+    flipped_along is_flipped is_legal
 start_legal b own opp = rw (own, opp) refl
 
 start_moves : can_move start.board ≡ true

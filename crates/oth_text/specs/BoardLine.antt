@@ -5,7 +5,8 @@
 --     IsFirstFault text f      the text is no board line, and this is its first fault
 --     reading text      the position of a board line, or the first fault of another text
 --     IsSolvableLine, IsSolvableFault, solvable_reading      the same for boards of at most 30 empty squares
-use Rattle.std.specs.Prelude.{◌≡◌, ◌≢◌, ℕ, ◌+◌, ◌-◌, ◌<◌, ◌≤◌, ◌==◌, ◌||◌, nat_lt, List, [], ◌∷◌, ◌++◌, map, Option, None, Some, Result, Ok, Err, length, take, slice_index, IsTrue, if◌then◌else◌, Bool}
+use Rattle.std.specs.Prelude.{◌≡◌, ◌≢◌, ℕ, ◌+◌, ◌-◌, ◌<◌, ◌≤◌, ◌==◌, ◌||◌, nat_lt, List, [], ◌∷◌, ◌++◌, map, Option, None}
+use Rattle.std.specs.Prelude.{Some, Result, Ok, Err, length, take, slice_index, IsTrue, if◌then◌else◌, Bool}
 use Rattle.oth_rules.specs.Square.{squares}
 use Rattle.oth_rules.specs.Position.{Cell, Mine, Theirs, Empty, IsBoard, cell, position_of, empty_count}
 use Rattle.oth_text.specs.declared.position.Side.{Side}
@@ -78,7 +79,10 @@ cell_fault_or None other = other
 
 -- the first fault of a text, if it has one
 unfoldable pub first_fault : List ℕ → Option LineFault
-first_fault text = if length text == 66 then cell_fault_or (first_bad 1 (take 64 text)) (fault_after_cells (slice_index text 64) (slice_index text 65)) else Some Length
+first_fault text =
+    if length text == 66
+    then cell_fault_or (first_bad 1 (take 64 text)) (fault_after_cells (slice_index text 64) (slice_index text 65))
+    else Some Length
 
 abbrev pub side_of : ℕ → Side
 side_of b = if b == 88 then Black else White

@@ -22,7 +22,8 @@ module _ {E : Type 0} (author : E → Name) (makes : E → Option Name) where
   )
 
   -- one further event of the seat, which makes another
-  pub makes_one : (Fits : List E → E → Type 0) (s : Name) (earlier later : List E) (e : E) → author e ≡ s → IsMaking author makes e → EndsBy author makes Fits s earlier later e → OnlyMakes author makes s earlier later
+  pub makes_one : (Fits : List E → E → Type 0) (s : Name) (earlier later : List E) (e : E) → author e ≡ s → IsMaking author makes e → EndsBy author makes Fits s earlier later e
+      → OnlyMakes author makes s earlier later
   makes_one Fits s earlier later e by making x = (
     e ∷ [],
     ap (events_of author s) x.last ∙ (events_of-own author s e x.before by ∙ ap (λ l. e ∷ l) (events_of-since author s earlier x.before x.since)),
@@ -63,7 +64,8 @@ LendsTable-then (Some a) (Some b) None one two = two
 LendsTable-then (Some a) (Some b) (Some c) one two = LendsSeat-then a b c one two
 
 -- a further seat of the table is made
-pub LendsSeat-made : (t : Shape) (s u new : Sitting) → (u.table ≡ s.table) × (u.terms ≡ s.terms) × (u.name ≡ s.name) → Makes s u new → LendsSeat (record { table = t; seat = s }) (record { table = t; seat = u })
+pub LendsSeat-made : (t : Shape) (s u new : Sitting) → (u.table ≡ s.table) × (u.terms ≡ s.terms) × (u.name ≡ s.name) → Makes s u new
+    → LendsSeat (record { table = t; seat = s }) (record { table = t; seat = u })
 LendsSeat-made t s u new same made =
     let e : table_events.Event = table_events.TheVariants.Made s.name new.name in
     record {

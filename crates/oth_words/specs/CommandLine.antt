@@ -10,7 +10,8 @@ use Rattle.std.specs.Str.Parse.{IsNumeral, digits_value, without_leading_plus}
 use Rattle.std.specs.String.{string_bytes}
 use Rattle.clap.specs.Kinds.{HasKind}
 use Rattle.clap.specs.Walk.{texts}
-use Rattle.clap.specs.Words.{App, Row, Rule, Text, fault_of, first_of, kind_of, new_app, new_rule, one_of, subcommand_of, takes, with_rule, with_subcommand}
+use Rattle.clap.specs.Words.{App, Row, Rule, Text, fault_of, first_of, kind_of, new_app, new_rule, one_of, subcommand_of, takes, with_rule}
+use Rattle.clap.specs.Words.{with_subcommand}
 use Rattle.clap.specs.declared.builder.action.ArgAction.TheVariants.{Set}
 use Rattle.clap.specs.declared.builder.texts.Texts.{Texts}
 use Rattle.clap.specs.declared.builder.texts.Texts.TheVariants.{One, Many}
@@ -92,8 +93,14 @@ program = record titled { top = record titled.top { subcommand_required = true }
 -- the command with its seven subcommands
 unfoldable pub othsolve : ScoringWords → App
 othsolve scorings =
-    with_subcommand (with_subcommand (with_subcommand (with_subcommand (with_subcommand (with_subcommand (with_subcommand program (solve_app scorings).top)
-    (scores_app scorings).top) (new_app (codes "moves")).top) (new_app (codes "transcript")).top) (new_app (codes "play")).top) verify_app.top) add_app.top
+    with_subcommand (with_subcommand (with_subcommand (with_subcommand (with_subcommand (with_subcommand (with_subcommand program
+    (solve_app scorings).top)
+    (scores_app scorings).top)
+    (new_app (codes "moves")).top)
+    (new_app (codes "transcript")).top)
+    (new_app (codes "play")).top)
+    verify_app.top)
+    add_app.top
 
 -- ---- what the words mean
 

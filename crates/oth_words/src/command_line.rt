@@ -24,6 +24,9 @@ use std::alloc::{AllocError, Global};
 // The words of `--scoring`.
 const SCORINGS: [&str; 2] = ["winner", "discs"];
 
+// The most cells that `--cells` takes; `run` then refuses what is no power of two.
+const MOST_CELLS: u32 = 262_144;
+
 // What `--version` prints behind the program's name.
 const VERSION: &str = "0.1.0";
 
@@ -182,7 +185,7 @@ fn cells_option<'a>(alloc: Global) -> Arg<'a>
     ensures local { result.global ≡ false }
 {
     option(alloc, "cells", "N")
-        .value_parser(value_parser!(u32).range(0..=262_144))
+        .value_parser(value_parser!(u32).range(0..=i64::from(MOST_CELLS)))
         .default_value("65536")
         .help(
             "Cells of 32 bytes of the table that they share: 0, or a power of two up to 262144. \
@@ -229,15 +232,21 @@ fn file_argument<'a>(alloc: Global) -> Arg<'a>
         .help("The file of a book of solved positions")
 }
 
-// The subcommand `solve` and its help, without options.
-fn titled_solve<'a>(alloc: Global) -> App<'a>
-    ensures app { app_of result ≡ new_app (codes "solve") }
+// A subcommand of this name and its help, without options: what it is about, how it is called, and what stands behind.
+fn titled_command<'a>(
+    alloc: Global,
+    name: &'a str,
+    about: &'a str,
+    usage: &'a str,
+    notes: &'a str,
+) -> App<'a>
+    ensures app { app_of result ≡ new_app name.entry.now }
     ensures local { (out-Command result).has_globals ≡ false }
 {
-    App::new(alloc, "solve")
-        .about("Writes the score and all best moves of each board line of standard input")
-        .override_usage("othsolve solve [OPTIONS] < BOARDS")
-        .after_help(SOLVE_NOTES)
+    App::new(alloc, name)
+        .about(about)
+        .override_usage(usage)
+        .after_help(notes)
 }
 
 // The subcommand with the options of a search.
@@ -261,18 +270,14 @@ fn solve_command<'a>(alloc: Global, scorings: &'a [&'a str]) -> Result<App<'a>, 
     ensures app { IfOk result (λ c. app_of c ≡ solve_app scorings.entry) }
     ensures local { IfOk result (λ c. (out-Command c).has_globals ≡ false) }
 {
-    with_search_options(alloc, titled_solve(alloc), scorings)?.arg(book_option(alloc))
-}
-
-// The subcommand `scores` and its help, without options.
-fn titled_scores<'a>(alloc: Global) -> App<'a>
-    ensures app { app_of result ≡ new_app (codes "scores") }
-    ensures local { (out-Command result).has_globals ≡ false }
-{
-    App::new(alloc, "scores")
-        .about("Writes the score of every move of each board line of standard input")
-        .override_usage("othsolve scores [OPTIONS] < BOARDS")
-        .after_help(SCORES_NOTES)
+    let solve = titled_command(
+        alloc,
+        "solve",
+        "Writes the score and all best moves of each board line of standard input",
+        "othsolve solve [OPTIONS] < BOARDS",
+        SOLVE_NOTES,
+    );
+    with_search_options(alloc, solve, scorings)?.arg(book_option(alloc))
 }
 
 // The subcommand `scores` with its options.
@@ -280,40 +285,14 @@ fn scores_command<'a>(alloc: Global, scorings: &'a [&'a str]) -> Result<App<'a>,
     ensures app { IfOk result (λ c. app_of c ≡ scores_app scorings.entry) }
     ensures local { IfOk result (λ c. (out-Command c).has_globals ≡ false) }
 {
-    with_search_options(alloc, titled_scores(alloc), scorings)
-}
-
-// The subcommand `moves`.
-fn moves_command<'a>(alloc: Global) -> App<'a>
-    ensures app { app_of result ≡ new_app (codes "moves") }
-    ensures local { (out-Command result).has_globals ≡ false }
-{
-    App::new(alloc, "moves")
-        .about("Writes all legal moves of each board line of standard input")
-        .override_usage("othsolve moves < BOARDS")
-        .after_help(MOVES_NOTES)
-}
-
-// The subcommand `transcript`.
-fn transcript_command<'a>(alloc: Global) -> App<'a>
-    ensures app { app_of result ≡ new_app (codes "transcript") }
-    ensures local { (out-Command result).has_globals ≡ false }
-{
-    App::new(alloc, "transcript")
-        .about("Writes the board line that each transcript of standard input leads to")
-        .override_usage("othsolve transcript < GAMES")
-        .after_help(TRANSCRIPT_NOTES)
-}
-
-// The subcommand `play`.
-fn play_command<'a>(alloc: Global) -> App<'a>
-    ensures app { app_of result ≡ new_app (codes "play") }
-    ensures local { (out-Command result).has_globals ≡ false }
-{
-    App::new(alloc, "play")
-        .about("Writes the board line that moves on each board line of standard input lead to")
-        .override_usage("othsolve play < GAMES")
-        .after_help(PLAY_NOTES)
+    let scores = titled_command(
+        alloc,
+        "scores",
+        "Writes the score of every move of each board line of standard input",
+        "othsolve scores [OPTIONS] < BOARDS",
+        SCORES_NOTES,
+    );
+    with_search_options(alloc, scores, scorings)
 }
 
 // The subcommand `book-verify`.
@@ -362,9 +341,27 @@ fn command<'a>(alloc: Global, scorings: &'a [&'a str]) -> Result<App<'a>, AllocE
         .subcommand_required(true)
         .subcommand(solve_command(alloc, scorings)?)?
         .subcommand(scores_command(alloc, scorings)?)?
-        .subcommand(moves_command(alloc))?
-        .subcommand(transcript_command(alloc))?
-        .subcommand(play_command(alloc))?
+        .subcommand(titled_command(
+            alloc,
+            "moves",
+            "Writes all legal moves of each board line of standard input",
+            "othsolve moves < BOARDS",
+            MOVES_NOTES,
+        ))?
+        .subcommand(titled_command(
+            alloc,
+            "transcript",
+            "Writes the board line that each transcript of standard input leads to",
+            "othsolve transcript < GAMES",
+            TRANSCRIPT_NOTES,
+        ))?
+        .subcommand(titled_command(
+            alloc,
+            "play",
+            "Writes the board line that moves on each board line of standard input lead to",
+            "othsolve play < GAMES",
+            PLAY_NOTES,
+        ))?
         .subcommand(verify_command(alloc)?)?
         .subcommand(add_command(alloc)?)
 }
@@ -390,7 +387,7 @@ fn search_settings(matches: &ArgMatches<'_>, command: Command, scoring: Scoring)
         (λ s. HasNumbers (rows_of (found_of matches.now)) s × (s.command ≡ command) × (s.scoring ≡ scoring)) }
 {
     let workers = number(matches, "workers", 1, 16);
-    let cells = number(matches, "cells", 0, 262_144);
+    let cells = number(matches, "cells", 0, MOST_CELLS);
     match (workers, cells) {
         (Some(workers), Some(cells)) => Some(Settings {
             command,

@@ -12,6 +12,14 @@ fn kind_of_error(alloc: Global, words: &[&str]) -> Option<ErrorKind> {
     }
 }
 
+// The settings of the run without a book that these words ask for.
+fn run_of(alloc: Global, words: &[&str]) -> Option<Settings> {
+    match read_words(alloc, words) {
+        Ok(Words::Run(settings, None)) => Some(settings),
+        _ => None,
+    }
+}
+
 const DEFAULTS: Settings = Settings {
     command: Command::Solve,
     workers: 1,
@@ -22,13 +30,8 @@ const DEFAULTS: Settings = Settings {
 #[test]
 fn solve_has_defaults_and_takes_values(rt: HostRuntime) {
     let words = ["othsolve", "solve"];
-    match read_words(rt.alloc(), words.as_slice()).expect(&rt, "words") {
-        Words::Run(settings, None) => {
-            assert!(rt; settings == DEFAULTS);
-            assert!(rt; settings.cells == DEFAULT_CELLS);
-        }
-        _ => panic!(rt; "another command"),
-    }
+    assert!(rt; run_of(rt.alloc(), words.as_slice()) == Some(DEFAULTS));
+    assert!(rt; DEFAULTS.cells == DEFAULT_CELLS);
     let words = [
         "othsolve",
         "solve",
@@ -60,18 +63,11 @@ fn solve_has_defaults_and_takes_values(rt: HostRuntime) {
 #[test]
 fn scores_has_defaults_and_takes_values(rt: HostRuntime) {
     let words = ["othsolve", "scores"];
-    match read_words(rt.alloc(), words.as_slice()).expect(&rt, "words") {
-        Words::Run(settings, None) => {
-            assert!(rt;
-                settings
-                    == Settings {
-                        command: Command::Scores,
-                        ..DEFAULTS
-                    }
-            );
-        }
-        _ => panic!(rt; "another command"),
-    }
+    let wanted = Settings {
+        command: Command::Scores,
+        ..DEFAULTS
+    };
+    assert!(rt; run_of(rt.alloc(), words.as_slice()) == Some(wanted));
     let words = [
         "othsolve",
         "scores",
@@ -81,20 +77,13 @@ fn scores_has_defaults_and_takes_values(rt: HostRuntime) {
         "--scoring",
         "discs",
     ];
-    match read_words(rt.alloc(), words.as_slice()).expect(&rt, "words") {
-        Words::Run(settings, None) => {
-            assert!(rt;
-                settings
-                    == Settings {
-                        command: Command::Scores,
-                        workers: 4,
-                        cells: 128,
-                        scoring: Scoring::Discs
-                    }
-            );
-        }
-        _ => panic!(rt; "another command"),
-    }
+    let wanted = Settings {
+        command: Command::Scores,
+        workers: 4,
+        cells: 128,
+        scoring: Scoring::Discs,
+    };
+    assert!(rt; run_of(rt.alloc(), words.as_slice()) == Some(wanted));
 }
 
 #[test]
@@ -105,20 +94,12 @@ fn the_plain_commands_take_no_options(rt: HostRuntime) {
         ("play", Command::Play),
     ];
     for (word, command) in commands {
-        match read_words(rt.alloc(), ["othsolve", word].as_slice()).expect(&rt, "words") {
-            Words::Run(settings, None) => {
-                assert!(rt;
-                    settings
-                        == Settings {
-                            command,
-                            workers: 1,
-                            cells: 0,
-                            scoring: Scoring::Winner
-                        }
-                );
-            }
-            _ => panic!(rt; "another command"),
-        }
+        let wanted = Settings {
+            command,
+            cells: 0,
+            ..DEFAULTS
+        };
+        assert!(rt; run_of(rt.alloc(), ["othsolve", word].as_slice()) == Some(wanted));
     }
 }
 
@@ -132,15 +113,11 @@ fn the_words_of_a_book_name_its_file(rt: HostRuntime) {
     let words = ["othsolve", "book-add", "--cells", "64", "a.book"];
     match read_words(rt.alloc(), words.as_slice()).expect(&rt, "words") {
         Words::Add(settings, file) => {
-            assert!(rt;
-                settings
-                    == Settings {
-                        command: Command::Solve,
-                        workers: 1,
-                        cells: 64,
-                        scoring: Scoring::Winner
-                    }
-            );
+            let wanted = Settings {
+                cells: 64,
+                ..DEFAULTS
+            };
+            assert!(rt; settings == wanted);
             assert!(rt; file.as_str() == "a.book");
         }
         _ => panic!(rt; "another command"),

@@ -47,4 +47,5 @@ returns-clause-some c =
     let entry = c.if-not-is_entry.ensures.0 refl in
     let small = bounds_small c.in-Some.bounds.is_interval in
     rw (to_z-of_z w8 c.in-Some.bounds.lower (record { sfits = omega (arith, small.0) }), to_z-of_z w8 c.in-Some.bounds.upper (record { sfits = omega (arith, small.1) }))
-    (is_entry_at c.args.version line c.read_cells-board.result _ _ c.read_numeral-best.result c.requires cells c.read_cells-board.ensures.board c.in-Some.ensures.said bounds digits fits entry.0 entry.1)
+    (is_entry_at c.args.version line c.read_cells-board.result _ _ c.read_numeral-best.result c.requires cells c.read_cells-board.ensures.board c.in-Some.ensures.said bounds digits fits
+    entry.0 entry.1)

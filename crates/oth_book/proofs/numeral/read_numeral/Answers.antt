@@ -17,7 +17,11 @@ overflow_mul-number c =
 pub overflow_add-number : goal.overflow_add-number
 overflow_add-number c =
     let is = c.requires.digits c.loop-digit.digit-index c.loop-digit-test.true in
-    omega (arith, c.value.ensures, push_fits c.args.base c.loop-digit.digit-index (length c.args.digits.now) c.loop-digit.number _ is.value c.loop-digit.invariant.bound c.loop-digit-test.true c.requires.room)
+    omega (
+      arith,
+      c.value.ensures,
+      push_fits c.args.base c.loop-digit.digit-index (length c.args.digits.now) c.loop-digit.number _ is.value c.loop-digit.invariant.bound c.loop-digit-test.true c.requires.room,
+    )
 
 pub loop-digit-preserved : goal.loop-digit-preserved
 loop-digit-preserved c =

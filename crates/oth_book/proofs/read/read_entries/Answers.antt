@@ -22,7 +22,9 @@ returns-in_err-claim-clause-fault c =
 
 pub loop-claims-preserved : goal.loop-claims-preserved
 loop-claims-preserved c =
-    let next = next_here _ c.loop-claims.claims.items _ _ _ _ (rw c.as_slice.ensures.value at c.after.ensures.count) (rw c.as_slice.ensures.value at c.after.ensures.last) (rw c.in-Some.is at c.in_ok-claim.ensures.entry) in
+    let next =
+    next_here _ c.loop-claims.claims.items _ _ _ _ (rw c.as_slice.ensures.value at c.after.ensures.count) (rw c.as_slice.ensures.value at c.after.ensures.last)
+    (rw c.in-Some.is at c.in_ok-claim.ensures.entry) in
     rw (c.push.ensures.items, c.if-is_err.ensures.negation, c.after_line-rest-in-Some.ensures)
     (begins_push c.args.version c.loop-claims.claims.items c.loop-claims.rest.now c.args.bytes.now _ c.loop-claims.invariant next)
 

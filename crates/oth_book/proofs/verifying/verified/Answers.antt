@@ -12,7 +12,8 @@ pub returns-in-Err-clause-wrong : goal.returns-in-Err-clause-wrong
 returns-in-Err-clause-wrong g c = (
   c.loop-claim.claim-index,
   ap (λ n. n + 1) (c.len-in-Err.ensures ∙ c.loop-claim.invariant.len),
-  untrue_at c.args.scoring c.loop-claim.entries.items c.args.claims.now c.loop-claim.claim-index _ _ c.loop-claim.invariant.same c.loop-claim.invariant.each c.loop-claim-test.true c.claim-item.is c.in-Err.ensures.cause,
+  untrue_at c.args.scoring c.loop-claim.entries.items c.args.claims.now c.loop-claim.claim-index _ _ c.loop-claim.invariant.same c.loop-claim.invariant.each c.loop-claim-test.true
+      c.claim-item.is c.in-Err.ensures.cause,
 )
 
 pub loop-claim-preserved : goal.loop-claim-preserved

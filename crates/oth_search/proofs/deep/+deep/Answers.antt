@@ -3,7 +3,8 @@ use Rattle.std.specs.Prelude.{ℤ, neg_ℤ}
 use Rattle.std.proofs.lemmas.Int.{ints}
 use Rattle.oth_search.proofs.SquareSets.{Takes-without, In-none}
 use Rattle.oth_search.proofs.Enclosing.{BoundsAt-lower, BoundsAt-upper, BoundsAt-same, Encloses-known, Encloses-same, value-known, IsCanonical-canonical}
-use Rattle.oth_search.proofs.Replies.{BoundsAt-reply, BoundsAt-cut, BoundsAt-pass, BoundsAt-over, ReplyLoop-start, ReplyLoop-keeps, ReplyLoop-takes, ReplyLoop-end, NoneAbove-moves, can_move-from_moves, can_move-from_none, fewer_after, same_after_pass}
+use Rattle.oth_search.proofs.Replies.{BoundsAt-reply, BoundsAt-cut, BoundsAt-pass, BoundsAt-over, ReplyLoop-start, ReplyLoop-keeps, ReplyLoop-takes}
+use Rattle.oth_search.proofs.Replies.{ReplyLoop-end, NoneAbove-moves, can_move-from_moves, can_move-from_none, fewer_after, same_after_pass}
 use Rattle.oth_search.proofs.deep.+deep.Goals as goal
 
 pub nws_kept-known-known-requires : goal.nws_kept-known-known-requires
@@ -81,7 +82,8 @@ pub nws_children-returns-then-reply-alpha-clause-value : goal.nws_children-retur
 nws_children-returns-then-reply-alpha-clause-value g t c =
     let made = c.next_child-child.ensures.child in
     BoundsAt-cut c.args.scoring c.args.node.board c.next_child-child.result.square c.args.alpha _ made.legal
-    (BoundsAt-reply c.args.scoring c.args.node.board c.next_child-child.result.board c.next_child-child.result.square c.args.alpha _ _ c.nws_node-reply.result made.board (omega (arith, ints)) (omega (arith, ints)) c.nws_node-reply.ensures.value)
+    (BoundsAt-reply c.args.scoring c.args.node.board c.next_child-child.result.board c.next_child-child.result.square c.args.alpha _ _ c.nws_node-reply.result made.board
+    (omega (arith, ints)) (omega (arith, ints)) c.nws_node-reply.ensures.value)
     (omega (arith, ints, c.if-reply-alpha.true))
 
 pub nws_children-loop-left-preserved : goal.nws_children-loop-left-preserved

@@ -16,7 +16,8 @@ pub returns-then-reply-alpha : goal.returns-then-reply-alpha
 returns-then-reply-alpha c =
     BoundsAt-cut c.args.scoring c.args.node.board c.preferred-square.result c.args.alpha _
     (c.loop-left.invariant.replies.untried c.preferred-square.result c.preferred-square.ensures)
-    (BoundsAt-reply c.args.scoring c.args.node.board c.play_legal.result c.preferred-square.result c.args.alpha _ _ c.nws-reply.result c.play_legal.ensures (omega (arith, ints)) (omega (arith, ints)) c.nws-reply.ensures)
+    (BoundsAt-reply c.args.scoring c.args.node.board c.play_legal.result c.preferred-square.result c.args.alpha _ _ c.nws-reply.result c.play_legal.ensures (omega (arith, ints))
+    (omega (arith, ints)) c.nws-reply.ensures)
     (omega (arith, ints, c.if-reply-alpha.true))
 
 pub loop-left-preserved : goal.loop-left-preserved
@@ -31,7 +32,8 @@ pub loop-left-preserved-then-reply-best : goal.loop-left-preserved-then-reply-be
 loop-left-preserved-then-reply-best c =
     ReplyLoop-takes c.args.scoring c.args.node.board _ _ c.preferred-square.result _ _ _ c.loop-left.invariant
     (Takes-without _ _ _ c.preferred-square.ensures c.without-left.ensures.rest)
-    (BoundsAt-reply c.args.scoring c.args.node.board c.play_legal.result c.preferred-square.result _ _ _ c.nws-reply.result c.play_legal.ensures (omega (arith, ints)) (omega (arith, ints)) c.nws-reply.ensures)
+    (BoundsAt-reply c.args.scoring c.args.node.board c.play_legal.result c.preferred-square.result _ _ _ c.nws-reply.result c.play_legal.ensures (omega (arith, ints))
+    (omega (arith, ints)) c.nws-reply.ensures)
     (omega (arith, ints, c.if-reply-alpha.false))
     (omega (arith, ints, c.if-reply-best.true))
 

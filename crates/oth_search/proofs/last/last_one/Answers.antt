@@ -18,7 +18,8 @@ returns-in-Some c =
 
 pub returns-then-rest-alpha : goal.returns-then-rest-alpha
 returns-then-rest-alpha c =
-    BoundsAt-left c.args.scoring c.args.board _ c.args.a c.args.alpha _ c.requires.last (λ h. false≢true (c.in_default.ensures.legal.1 h)) refl (omega (arith, ints, c.final_score-rest.ensures)) (omega (arith, ints, c.if-rest-alpha.true))
+    BoundsAt-left c.args.scoring c.args.board _ c.args.a c.args.alpha _ c.requires.last (λ h. false≢true (c.in_default.ensures.legal.1 h)) refl
+    (omega (arith, ints, c.final_score-rest.ensures)) (omega (arith, ints, c.if-rest-alpha.true))
 
 pub overflow_sub-result : goal.overflow_sub-result
 overflow_sub-result c =

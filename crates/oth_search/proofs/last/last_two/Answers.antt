@@ -7,14 +7,21 @@ pub moves_two-found-requires-2-clause-last : goal.moves_two-found-requires-2-cla
 moves_two-found-requires-2-clause-last c = l.Leaves-pass c.args.board c.pass-passed.result (c.args.a ∷ c.args.b ∷ []) c.requires.last c.pass-passed.ensures
 
 pub returns-then-found : goal.returns-then-found
-returns-then-found c = l.BoundsAt-moves c.args.scoring c.args.board c.args.alpha _ c.moves_two-found.result (omega (arith, ints)) (l.MovesAt-at c.args.scoring c.args.board c.args.alpha _ c.moves_two-found.result (omega (arith, ints)) c.moves_two-found.ensures) (λ e. absurd (omega (arith, ints, e, c.if-found.true)))
+returns-then-found c =
+    l.BoundsAt-moves c.args.scoring c.args.board c.args.alpha _ c.moves_two-found.result (omega (arith, ints))
+    (l.MovesAt-at c.args.scoring c.args.board c.args.alpha _ c.moves_two-found.result (omega (arith, ints)) c.moves_two-found.ensures)
+    (λ e. absurd (omega (arith, ints, e, c.if-found.true)))
 
 pub returns-then-found-2 : goal.returns-then-found-2
 returns-then-found-2 c =
-    l.BoundsAt-passed c.args.scoring c.args.board c.pass-passed.result c.args.alpha _ c.moves_two-found.result _ c.moves_two-found-2.result c.pass-passed.ensures (l.MovesAt-at c.args.scoring c.args.board c.args.alpha _ c.moves_two-found.result (omega (arith, ints)) c.moves_two-found.ensures) (omega (arith, ints, c.if-found.false))
+    l.BoundsAt-passed c.args.scoring c.args.board c.pass-passed.result c.args.alpha _ c.moves_two-found.result _ c.moves_two-found-2.result c.pass-passed.ensures
+    (l.MovesAt-at c.args.scoring c.args.board c.args.alpha _ c.moves_two-found.result (omega (arith, ints)) c.moves_two-found.ensures)
+    (omega (arith, ints, c.if-found.false))
     (omega (arith, ints)) (omega (arith, ints)) c.moves_two-found-2.ensures (λ e. absurd (omega (arith, ints, e, c.if-found-2.true)))
 
 pub returns : goal.returns
 returns c =
-    l.BoundsAt-ended c.args.scoring c.args.board c.pass-passed.result c.args.alpha _ c.moves_two-found.result c.moves_two-found-2.result _ c.pass-passed.ensures (l.MovesAt-at c.args.scoring c.args.board c.args.alpha _ c.moves_two-found.result (omega (arith, ints)) c.moves_two-found.ensures) (omega (arith, ints, c.if-found.false))
+    l.BoundsAt-ended c.args.scoring c.args.board c.pass-passed.result c.args.alpha _ c.moves_two-found.result c.moves_two-found-2.result _ c.pass-passed.ensures
+    (l.MovesAt-at c.args.scoring c.args.board c.args.alpha _ c.moves_two-found.result (omega (arith, ints)) c.moves_two-found.ensures)
+    (omega (arith, ints, c.if-found.false))
     c.moves_two-found-2.ensures (omega (arith, ints, c.if-found-2.false)) (omega (arith, ints, c.final_score.ensures))

@@ -2,7 +2,8 @@ use Rattle.std.proofs.Common.{refl, arith}
 use Rattle.std.specs.Prelude.{ℤ, neg_ℤ}
 use Rattle.std.proofs.lemmas.Int.{ints}
 use Rattle.oth_search.proofs.SquareSets.{Takes-without, In-none}
-use Rattle.oth_search.proofs.Replies.{BoundsAt-reply, BoundsAt-cut, BoundsAt-pass, BoundsAt-over, NoneAbove-moves, ReplyLoop-start, ReplyLoop-keeps, ReplyLoop-takes, ReplyLoop-end, can_move-from_moves, can_move-from_none, fewer_after, same_after_pass}
+use Rattle.oth_search.proofs.Replies.{BoundsAt-reply, BoundsAt-cut, BoundsAt-pass, BoundsAt-over, NoneAbove-moves, ReplyLoop-start, ReplyLoop-keeps}
+use Rattle.oth_search.proofs.Replies.{ReplyLoop-takes, ReplyLoop-end, can_move-from_moves, can_move-from_none, fewer_after, same_after_pass}
 use Rattle.oth_search.proofs.nws.+nws.Goals as goal
 
 pub nws_with_odd-nws_moves-requires : goal.nws_with_odd-nws_moves-requires
@@ -62,7 +63,8 @@ pub nws_moves-returns-then-reply-alpha : goal.nws_moves-returns-then-reply-alpha
 nws_moves-returns-then-reply-alpha t c =
     BoundsAt-cut c.args.scoring c.args.board c.preferred-square.result c.args.alpha _
     (c.loop-rest.invariant.replies.untried c.preferred-square.result c.preferred-square.ensures)
-    (BoundsAt-reply c.args.scoring c.args.board c.play_legal-child.result c.preferred-square.result c.args.alpha _ _ c.nws_with_odd-reply.result c.play_legal-child.ensures (omega (arith, ints)) (omega (arith, ints)) c.nws_with_odd-reply.ensures)
+    (BoundsAt-reply c.args.scoring c.args.board c.play_legal-child.result c.preferred-square.result c.args.alpha _ _ c.nws_with_odd-reply.result c.play_legal-child.ensures
+    (omega (arith, ints)) (omega (arith, ints)) c.nws_with_odd-reply.ensures)
     (omega (arith, ints, c.if-reply-alpha.true))
 
 pub nws_moves-loop-rest-preserved : goal.nws_moves-loop-rest-preserved
@@ -70,14 +72,16 @@ nws_moves-loop-rest-preserved t c =
     let r : ℤ = neg_ℤ c.nws_with_odd-reply.result in
     ReplyLoop-keeps c.args.scoring c.args.board _ _ c.preferred-square.result _ _ r c.loop-rest.invariant
     (Takes-without _ _ _ c.preferred-square.ensures c.without-rest.ensures.rest)
-    (BoundsAt-reply c.args.scoring c.args.board c.play_legal-child.result c.preferred-square.result _ _ r c.nws_with_odd-reply.result c.play_legal-child.ensures (omega (arith, ints)) refl c.nws_with_odd-reply.ensures)
+    (BoundsAt-reply c.args.scoring c.args.board c.play_legal-child.result c.preferred-square.result _ _ r c.nws_with_odd-reply.result c.play_legal-child.ensures (omega (arith, ints))
+    refl c.nws_with_odd-reply.ensures)
     (omega (arith, ints, c.if-reply-best.false))
 
 pub nws_moves-loop-rest-preserved-then-reply-best : goal.nws_moves-loop-rest-preserved-then-reply-best
 nws_moves-loop-rest-preserved-then-reply-best t c =
     ReplyLoop-takes c.args.scoring c.args.board _ _ c.preferred-square.result _ _ _ c.loop-rest.invariant
     (Takes-without _ _ _ c.preferred-square.ensures c.without-rest.ensures.rest)
-    (BoundsAt-reply c.args.scoring c.args.board c.play_legal-child.result c.preferred-square.result _ _ _ c.nws_with_odd-reply.result c.play_legal-child.ensures (omega (arith, ints)) (omega (arith, ints)) c.nws_with_odd-reply.ensures)
+    (BoundsAt-reply c.args.scoring c.args.board c.play_legal-child.result c.preferred-square.result _ _ _ c.nws_with_odd-reply.result c.play_legal-child.ensures (omega (arith, ints))
+    (omega (arith, ints)) c.nws_with_odd-reply.ensures)
     (omega (arith, ints, c.if-reply-alpha.false))
     (omega (arith, ints, c.if-reply-best.true))
 

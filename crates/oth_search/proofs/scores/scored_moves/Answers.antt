@@ -13,19 +13,29 @@ loop-rest-init g c = record {
 }
 
 pub play_legal-child-requires : goal.play_legal-child-requires
-play_legal-child-requires g c = listed-legal place_of c.args.board.now _ c.loop-rest.rest c.first-square.result c.without-rest.result c.loop-rest.invariant.listed c.first-square.ensures.member c.without-rest.ensures.rest c.first-square.ensures.least
+play_legal-child-requires g c =
+    listed-legal place_of c.args.board.now _ c.loop-rest.rest c.first-square.result c.without-rest.result c.loop-rest.invariant.listed c.first-square.ensures.member
+    c.without-rest.ensures.rest c.first-square.ensures.least
 
 pub push-requires : goal.push-requires
-push-requires g c = (omega arith, room place_of c.args.board.now _ c.loop-rest.rest c.first-square.result c.without-rest.result c.loop-rest.invariant.listed c.first-square.ensures.member c.without-rest.ensures.rest c.first-square.ensures.least)
+push-requires g c = (
+  omega arith,
+  room place_of c.args.board.now _ c.loop-rest.rest c.first-square.result c.without-rest.result c.loop-rest.invariant.listed c.first-square.ensures.member c.without-rest.ensures.rest
+      c.first-square.ensures.least,
+)
 
 pub loop-rest-preserved : goal.loop-rest-preserved
 loop-rest-preserved g c =
     let p = c.args.board.now in
     let by = c.args.scoring in
     let r = c.exact-reply.result in
-    let legal = listed-legal place_of p _ c.loop-rest.rest c.first-square.result c.without-rest.result c.loop-rest.invariant.listed c.first-square.ensures.member c.without-rest.ensures.rest c.first-square.ensures.least in
+    let legal =
+    listed-legal place_of p _ c.loop-rest.rest c.first-square.result c.without-rest.result c.loop-rest.invariant.listed c.first-square.ensures.member c.without-rest.ensures.rest
+    c.first-square.ensures.least in
     record {
-      listed = listed-more place_of p c.loop-rest.found.items _ _ c.loop-rest.rest c.first-square.result c.without-rest.result c.loop-rest.invariant.listed c.push.ensures.items refl c.first-square.ensures.member c.without-rest.ensures.rest c.first-square.ensures.least;
+      listed =
+          listed-more place_of p c.loop-rest.found.items _ _ c.loop-rest.rest c.first-square.result c.without-rest.result c.loop-rest.invariant.listed c.push.ensures.items refl
+          c.first-square.ensures.member c.without-rest.ensures.rest c.first-square.ensures.least;
       scores = scored-more p by c.loop-rest.found.items _ _ c.loop-rest.invariant.scores c.push.ensures.items (record {
         legal = legal;
         score = scored-exactly p r.board by r.scoring c.first-square.result r.interval.lower r.interval.upper _

@@ -5,7 +5,8 @@ use Rattle.oth_search.proofs.searching.narrow.Goals as goal
 
 pub search_window-found-requires : goal.search_window-found-requires
 search_window-found-requires g c =
-    (cut _ _ _ _ _ _ c.requires.window c.args.known.interval.is_interval c.requires.open c.greater-low.ensures.right c.greater-low.ensures.one c.lesser-high.ensures.right c.lesser-high.ensures.one).inner
+    (cut _ _ _ _ _ _ c.requires.window c.args.known.interval.is_interval c.requires.open c.greater-low.ensures.right c.greater-low.ensures.one c.lesser-high.ensures.right
+    c.lesser-high.ensures.one).inner
 
 pub narrowed-requires : goal.narrowed-requires
 narrowed-requires g c =
@@ -18,11 +19,14 @@ narrowed-requires-2 g c =
     let k = c.args.known in
     let n = c.narrowed.result in
     let window = cut _ _ _ _ _ _ c.requires.window k.interval.is_interval c.requires.open c.greater-low.ensures.right c.greater-low.ensures.one c.lesser-high.ensures.right c.lesser-high.ensures.one in
-    BoundsAt-high _ _ _ _ _ (value-known k.scoring n.scoring c.args.board k.board n.board c.requires.image c.narrowed.ensures.board c.narrowed.ensures.scoring) window.inner c.search_window-found.ensures.value
+    BoundsAt-high _ _ _ _ _ (value-known k.scoring n.scoring c.args.board k.board n.board c.requires.image c.narrowed.ensures.board c.narrowed.ensures.scoring) window.inner
+    c.search_window-found.ensures.value
 
 pub returns-clause-decides : goal.returns-clause-decides
 returns-clause-decides g c =
-    let window = cut _ _ _ _ _ _ c.requires.window c.args.known.interval.is_interval c.requires.open c.greater-low.ensures.right c.greater-low.ensures.one c.lesser-high.ensures.right c.lesser-high.ensures.one in
+    let window =
+    cut _ _ _ _ _ _ c.requires.window c.args.known.interval.is_interval c.requires.open c.greater-low.ensures.right c.greater-low.ensures.one c.lesser-high.ensures.right
+    c.lesser-high.ensures.one in
     Decides-narrowed _ _ _ _ _ _ _ _ _ _ _ window
     (record { above = c.narrowed.ensures.above; below = c.narrowed.ensures.below })
     (record { above = c.narrowed-2.ensures.above; below = c.narrowed-2.ensures.below })

@@ -28,7 +28,8 @@ loop-square-preserved-then-reply-score g c =
       c.loop-square.invariant.0,
       RootLoop-worse c.args.root.scoring c.args.root.board _ s _ _ _ c.loop-square.invariant.1
           (Takes-next xs i s (omega (arith, c.loop-square-test.true)) (search rules))
-          (gives_less c.args.root.scoring c.args.root.board c.play_legal-child.result s _ r.lower r.upper c.play_legal-child.ensures c.reply_below-reply.ensures.encloses (omega (arith, ints, c.if-reply-score.true))),
+          (gives_less c.args.root.scoring c.args.root.board c.play_legal-child.result s _ r.lower r.upper c.play_legal-child.ensures c.reply_below-reply.ensures.encloses
+          (omega (arith, ints, c.if-reply-score.true))),
       c.reply_below-reply.ensures.fixed ∙ c.loop-square.invariant.2,
     )
 
@@ -39,7 +40,8 @@ loop-square-preserved g c =
     let s : ℕ = c.square-item.result in
     let r = c.reply_below-reply.result in
     let takes = Takes-next xs i s (omega (arith, c.loop-square-test.true)) (search rules) in
-    let exactly = gives_exactly c.args.root.scoring c.args.root.board c.play_legal-child.result s c.loop-square.score r.lower r.upper _ _ c.play_legal-child.ensures c.reply_below-reply.ensures.encloses r.is_interval c.reply_below-reply.ensures.decides
+    let exactly = gives_exactly c.args.root.scoring c.args.root.board c.play_legal-child.result s c.loop-square.score r.lower r.upper _ _ c.play_legal-child.ensures
+    c.reply_below-reply.ensures.encloses r.is_interval c.reply_below-reply.ensures.decides
     (omega (arith, ints)) (omega (arith, ints, c.loop-square.score-is)) (omega (arith, ints, c.loop-square.score-is, c.if-reply-score.false)) in
     let same = c.reply_below-reply.ensures.fixed ∙ c.loop-square.invariant.2 in
     elim c.if-reply-score-2.branch [

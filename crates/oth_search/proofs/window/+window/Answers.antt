@@ -24,7 +24,9 @@ search_moves-search_reply-reply-requires g t c =
     let legal = c.loop-square.invariant.0.replies.untried s (c.loop-square.square-index, omega arith, omega (arith, c.loop-square-test.true), search rules) in
     let i = c.loop-square.invariant.0 in
     let n = w.IsInner-next c.args.alpha c.args.beta (to_z w8 c.loop-square.best-bits) c.greater-low.result c.requires.window (let below = i.in_reach in omega (arith, ints, below))
-    (greater-of c.args.alpha (to_z w8 c.loop-square.best-bits) c.greater-low.result _ _ (omega (arith, ints)) (omega (arith, ints, c.loop-square.best-is)) c.greater-low.ensures.left c.greater-low.ensures.right c.greater-low.ensures.one) in
+    (greater-of c.args.alpha (to_z w8 c.loop-square.best-bits) c.greater-low.result _ _ (omega (arith, ints)) (omega (arith, ints, c.loop-square.best-is)) c.greater-low.ensures.left
+    c.greater-low.ensures.right c.greater-low.ensures.one)
+    in
     λ κs within. (
       omega (arith, c.decreases, fewer_after c.args.board c.play_legal.result s c.play_legal.ensures legal),
       (within, w.IsInner-same c.greater-low.result c.args.beta _ _ (omega (arith, ints)) (omega (arith, ints)) n),
@@ -39,7 +41,8 @@ search_moves-returns-then-reply-beta-clause-value g t c =
     (w.WithinAt-cut c.args.scoring c.args.board _ _ _ s (to_z w8 c.loop-square.best-bits) low r c.loop-square.invariant.0
     (c.loop-square.square-index, omega arith, omega (arith, c.loop-square-test.true), search rules)
     (w.WithinAt-reply c.args.scoring c.args.board c.play_legal.result s _ _ _ _ r c.play_legal.ensures (omega (arith, ints)) (omega (arith, ints)) c.search_reply-reply.ensures.value)
-    (greater-of _ (to_z w8 c.loop-square.best-bits) low _ _ (omega (arith, ints)) (omega (arith, ints, c.loop-square.best-is)) c.greater-low.ensures.left c.greater-low.ensures.right c.greater-low.ensures.one)
+    (greater-of _ (to_z w8 c.loop-square.best-bits) low _ _ (omega (arith, ints)) (omega (arith, ints, c.loop-square.best-is)) c.greater-low.ensures.left c.greater-low.ensures.right
+    c.greater-low.ensures.one)
     (w.IsInner-same c.args.alpha c.args.beta _ _ (omega (arith, ints)) (omega (arith, ints)) c.requires.window)
     (omega (arith, ints, c.if-reply-beta.true)))
 
@@ -54,9 +57,11 @@ search_moves-loop-square-preserved g t c =
           (w.WithinLoop-next c.args.scoring c.args.board _ _ _ s _ (to_z w8 c.loop-square.best-bits) low r c.greater-best.result c.loop-square.invariant.0
           (Takes-next xs i s (omega (arith, c.loop-square-test.true)) (search rules))
           (w.WithinAt-reply c.args.scoring c.args.board c.play_legal.result s _ _ _ _ r c.play_legal.ensures (omega (arith, ints)) (omega (arith, ints)) c.search_reply-reply.ensures.value)
-          (greater-of _ (to_z w8 c.loop-square.best-bits) low _ _ (omega (arith, ints)) (omega (arith, ints, c.loop-square.best-is)) c.greater-low.ensures.left c.greater-low.ensures.right c.greater-low.ensures.one)
+          (greater-of _ (to_z w8 c.loop-square.best-bits) low _ _ (omega (arith, ints)) (omega (arith, ints, c.loop-square.best-is)) c.greater-low.ensures.left
+          c.greater-low.ensures.right c.greater-low.ensures.one)
           (omega (arith, ints, c.if-reply-beta.false))
-          (greater-of (to_z w8 c.loop-square.best-bits) r c.greater-best.result _ _ (omega (arith, ints, c.loop-square.best-is)) (omega (arith, ints)) c.greater-best.ensures.left c.greater-best.ensures.right c.greater-best.ensures.one)),
+          (greater-of (to_z w8 c.loop-square.best-bits) r c.greater-best.result _ _ (omega (arith, ints, c.loop-square.best-is)) (omega (arith, ints)) c.greater-best.ensures.left
+          c.greater-best.ensures.right c.greater-best.ensures.one)),
       c.search_reply-reply.ensures.fixed ∙ c.loop-square.invariant.1,
     )
 
@@ -112,7 +117,8 @@ search_reply-returns-clause-value g t c =
     (omega (arith, ints, s.low, s.high, c.if-found-alpha.false))
     refl
     (w.WithinAt-negated _ found c.args.beta _ _ _ c.search_window-2.result (omega (arith, ints)) (omega (arith, ints, s.low, s.high)) refl c.search_window-2.ensures.value)
-    (greater-of found (neg_ℤ c.search_window-2.result) c.greater.result _ _ (omega (arith, ints, s.low, s.high)) (omega (arith, ints, n.low, n.high)) c.greater.ensures.left c.greater.ensures.right c.greater.ensures.one))
+    (greater-of found (neg_ℤ c.search_window-2.result) c.greater.result _ _ (omega (arith, ints, s.low, s.high)) (omega (arith, ints, n.low, n.high)) c.greater.ensures.left
+    c.greater.ensures.right c.greater.ensures.one))
 
 pub search_window-search_moves-requires : goal.search_window-search_moves-requires
 search_window-search_moves-requires g t c =

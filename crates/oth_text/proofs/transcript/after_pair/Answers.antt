@@ -6,7 +6,8 @@ pub returns-in-Some-play-clause-ok : goal.returns-in-Some-play-clause-ok
 returns-in-Some-play-clause-ok c =
     let named = c.in-Some.ensures in
     let moved = c.in-Some-play.ensures.moved in
-    legal_pair c.args.k c.args.position.now _ _ _ c.args.letter c.args.digit c.in-Some.square named.0 named.1 (sym c.if-is_over.ensures) moved.0 moved.1 c.opponent.ensures c.with_forced_pass.ensures.passed
+    legal_pair c.args.k c.args.position.now _ _ _ c.args.letter c.args.digit c.in-Some.square named.0 named.1 (sym c.if-is_over.ensures) moved.0 moved.1 c.opponent.ensures
+    c.with_forced_pass.ensures.passed
 
 pub returns-in-Some-play-clause-fewer : goal.returns-in-Some-play-clause-fewer
 returns-in-Some-play-clause-fewer c =

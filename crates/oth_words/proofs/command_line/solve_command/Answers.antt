@@ -7,7 +7,7 @@ use Rattle.oth_words.proofs.command_line.solve_command.Goals as goal
 
 pub returns-clause-app : goal.returns-clause-app
 returns-clause-app c =
-    let searcher = c.in_ok-with_search_options.ensures.app ∙ ap (λ (a : App). searcher_app a c.args.scorings) c.titled_solve.ensures.app in
+    let searcher = c.in_ok-with_search_options.ensures.app ∙ ap (λ (a : App). searcher_app a c.args.scorings) c.titled_command-solve.ensures.app in
     IfOk-weaker c.arg.result _ _ (λ r added. added.shape c.book_option.ensures.local ∙ ap₂ with_rule searcher c.book_option.ensures.rule) c.arg.ensures
 
 pub returns-clause-local : goal.returns-clause-local

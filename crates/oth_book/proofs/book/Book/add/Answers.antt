@@ -19,7 +19,9 @@ invariant_of-self-in-Err c =
 pub returns-then-is_exact-clause-added : goal.returns-then-is_exact-clause-added
 returns-then-is_exact-clause-added c =
     let at = rw c.as_slice.ensures.value at c.in-Ok.ensures.found in
-    rw (← c.self.view_is) (answer_present c.self.inside.scoring c.self.inside.entries.items c.in-Ok.place _ c.entry_of-entry.result c.args.answer.now c.entry_of-entry.ensures.entry at c.index.ensures (c.if-is_exact.ensures.0 refl))
+    rw (← c.self.view_is)
+    (answer_present c.self.inside.scoring c.self.inside.entries.items c.in-Ok.place _ c.entry_of-entry.result c.args.answer.now c.entry_of-entry.ensures.entry at c.index.ensures
+    (c.if-is_exact.ensures.0 refl))
 
 pub returns-else-is_exact-clause-added : goal.returns-else-is_exact-clause-added
 returns-else-is_exact-clause-added c =
@@ -37,8 +39,9 @@ pub returns-in-Err-clause-refused : goal.returns-in-Err-clause-refused
 returns-in-Err-clause-refused c =
     let by = c.if-not-agree.ensures.0 refl in
     let gap = rw c.as_slice.ensures.value at c.in-Err.ensures.absent in
-    rw (← c.self.view_is) (answer_refused c.self.inside.scoring c.self.inside.entries.items _ c.in-Err.place c.entry_of-entry.result c.args.answer.now c.put_in.result by c.entry_of-entry.ensures.entry gap
-    (is_put _ _ _ _ _ c.put_in.ensures.new c.put_in.ensures.full c.put_in.ensures.room c.put_in.ensures.unchanged))
+    rw (← c.self.view_is)
+    (answer_refused c.self.inside.scoring c.self.inside.entries.items _ c.in-Err.place c.entry_of-entry.result c.args.answer.now c.put_in.result by c.entry_of-entry.ensures.entry
+    gap (is_put _ _ _ _ _ c.put_in.ensures.new c.put_in.ensures.full c.put_in.ensures.room c.put_in.ensures.unchanged))
 
 pub returns-else-is_exact-clause-kept : goal.returns-else-is_exact-clause-kept
 returns-else-is_exact-clause-kept c =

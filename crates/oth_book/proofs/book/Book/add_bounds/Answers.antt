@@ -7,7 +7,8 @@ pub invariant_of-self : goal.invariant_of-self
 invariant_of-self c =
     let by = c.if-not-agree.ensures.0 refl in
     let at = rw c.as_slice.ensures.value at c.in-Ok.ensures.found in
-    closer_set c.self.inside.scoring c.self.inside.entries.items c.in-Ok.place _ c.bounds_of-entry.result c.closer_of-closer.result c.args.solved.now c.self.invariant by c.bounds_of-entry.ensures at c.index.ensures c.closer_of-closer.ensures
+    closer_set c.self.inside.scoring c.self.inside.entries.items c.in-Ok.place _ c.bounds_of-entry.result c.closer_of-closer.result c.args.solved.now c.self.invariant by
+    c.bounds_of-entry.ensures at c.index.ensures c.closer_of-closer.ensures
     (λ h. let no : false ≡ true = c.if-is_exact.ensures.1 h in cc)
 
 pub invariant_of-self-in-Err : goal.invariant_of-self-in-Err
@@ -23,13 +24,16 @@ pub returns-then-is_exact-2-clause-refused : goal.returns-then-is_exact-2-clause
 returns-then-is_exact-2-clause-refused c =
     let gap = rw c.as_slice.ensures.value at c.in-Err.ensures.absent in
     rw (← c.self.view_is) (bounds_one_new c.self.inside.scoring c.self.inside.entries.items c.in-Err.place c.bounds_of-entry.result c.args.solved.now
-    (askable c.self.inside.scoring c.self.inside.entries.items c.args.solved.now (c.if-not-agree.ensures.0 refl) (c.if-not-has_few_empties.ensures.0 refl)) c.bounds_of-entry.ensures gap (c.if-is_exact-2.ensures.0 refl))
+    (askable c.self.inside.scoring c.self.inside.entries.items c.args.solved.now (c.if-not-agree.ensures.0 refl) (c.if-not-has_few_empties.ensures.0 refl)) c.bounds_of-entry.ensures gap
+    (c.if-is_exact-2.ensures.0 refl))
 
 pub returns-else-is_exact-clause-added : goal.returns-else-is_exact-clause-added
 returns-else-is_exact-clause-added c =
     let at = rw c.as_slice.ensures.value at c.in-Ok.ensures.found in
-    rw (← c.self.view_is) (bounds_sharper c.self.inside.scoring c.self.inside.entries.items c.in-Ok.place _ c.bounds_of-entry.result c.closer_of-closer.result c.args.solved.now c.bounds_of-entry.ensures at c.index.ensures c.closer_of-closer.ensures
-    (λ h. let no : false ≡ true = c.if-same_bounds.ensures.1 h in cc) (λ h. let no : false ≡ true = c.if-is_exact.ensures.1 h in cc))
+    rw (← c.self.view_is)
+    (bounds_sharper c.self.inside.scoring c.self.inside.entries.items c.in-Ok.place _ c.bounds_of-entry.result c.closer_of-closer.result c.args.solved.now c.bounds_of-entry.ensures
+    at c.index.ensures c.closer_of-closer.ensures (λ h. let no : false ≡ true = c.if-same_bounds.ensures.1 h in cc)
+    (λ h. let no : false ≡ true = c.if-is_exact.ensures.1 h in cc))
 
 pub returns-else-is_exact-2-clause-added : goal.returns-else-is_exact-2-clause-added
 returns-else-is_exact-2-clause-added c =
@@ -49,13 +53,15 @@ returns-else-is_exact-2-clause-refused c =
 pub returns-else-is_exact-clause-kept : goal.returns-else-is_exact-clause-kept
 returns-else-is_exact-clause-kept c =
     let at = rw c.as_slice.ensures.value at c.in-Ok.ensures.found in
-    rw (← c.self.view_is) (closer_keeps c.self.inside.scoring c.self.inside.entries.items c.in-Ok.place _ c.closer_of-closer.result c.args.solved.now at.within c.index.ensures c.closer_of-closer.ensures)
+    rw (← c.self.view_is)
+    (closer_keeps c.self.inside.scoring c.self.inside.entries.items c.in-Ok.place _ c.closer_of-closer.result c.args.solved.now at.within c.index.ensures c.closer_of-closer.ensures)
 
 pub returns-else-is_exact-clause-book : goal.returns-else-is_exact-clause-book
 returns-else-is_exact-clause-book c =
     let by = c.if-not-agree.ensures.0 refl in
     let at = rw c.as_slice.ensures.value at c.in-Ok.ensures.found in
-    closer_set c.self.inside.scoring c.self.inside.entries.items c.in-Ok.place _ c.bounds_of-entry.result c.closer_of-closer.result c.args.solved.now c.self.invariant by c.bounds_of-entry.ensures at c.index.ensures c.closer_of-closer.ensures
+    closer_set c.self.inside.scoring c.self.inside.entries.items c.in-Ok.place _ c.bounds_of-entry.result c.closer_of-closer.result c.args.solved.now c.self.invariant by
+    c.bounds_of-entry.ensures at c.index.ensures c.closer_of-closer.ensures
     (λ h. let no : false ≡ true = c.if-is_exact.ensures.1 h in cc)
 
 pub returns-else-is_exact-2-clause-kept : goal.returns-else-is_exact-2-clause-kept

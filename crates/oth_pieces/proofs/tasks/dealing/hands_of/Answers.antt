@@ -15,4 +15,6 @@ loop-owner-preserved c =
     let N : ℕ → Type 0 = λ n. IsNewHand c.args.tasks.now n c.in_ok-hand.hand in
     let new : IsNewHand c.args.tasks.now (length os) c.in_ok-hand.hand = subst N (c.len-number.ensures ∙ c.pop.new.self.ok.0) c.in_ok-hand.ensures in
     let M : List Hand → Type 0 = Making c.args.tasks.now os ps in
-    subst M (sym put) (making_steps c.args.tasks.now c.loop-owner.owners.items os c.loop-owner.piles.items ps c.loop-owner.hands.items c.in-Some.owner c.in-Some-pop.passes c.in_ok-hand.hand c.loop-owner.invariant is are new)
+    subst M (sym put)
+    (making_steps c.args.tasks.now c.loop-owner.owners.items os c.loop-owner.piles.items ps c.loop-owner.hands.items c.in-Some.owner c.in-Some-pop.passes c.in_ok-hand.hand
+    c.loop-owner.invariant is are new)

@@ -9,4 +9,7 @@ loop-owner-preserved c =
     c.loop-owner.invariant is c.gather.ensures.put c.gather.ensures.fair c.gather.ensures.sum c.gather.ensures.shorter
 
 pub returns : goal.returns
-returns c = let size = c.loop-owner.owners.ok.0 in let none = c.in_default.ensures.cases in settling_ends (vec_len c.args.owners) c.args.owners.items c.args.piles.now c.loop-owner.owners.items c.loop-owner.piles (sym size ∙ none.0) c.loop-owner.invariant
+returns c =
+    let size = c.loop-owner.owners.ok.0 in
+    let none = c.in_default.ensures.cases in
+    settling_ends (vec_len c.args.owners) c.args.owners.items c.args.piles.now c.loop-owner.owners.items c.loop-owner.piles (sym size ∙ none.0) c.loop-owner.invariant

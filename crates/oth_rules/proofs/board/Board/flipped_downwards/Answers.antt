@@ -23,7 +23,11 @@ returns c =
     let ray : ℕ → ℕ = λ i. slice_index_or rays i 0 in
     falling_four p c.args.square rays (down_lane own opp (ray 0)) (down_lane own opp (ray 1)) (down_lane own opp (ray 2)) (down_lane own opp (ray 3))
     c.falling_rays.ensures.below c.falling_rays.ensures.value
-    (down_lane-is p own opp (ray 0) c.own.ensures.board c.own.ensures.value c.opp.ensures.value (falling_fits 0 c.args.square rays (omega arith) c.falling_rays.ensures.below c.falling_rays.ensures.value))
-    (down_lane-is p own opp (ray 1) c.own.ensures.board c.own.ensures.value c.opp.ensures.value (falling_fits 1 c.args.square rays (omega arith) c.falling_rays.ensures.below c.falling_rays.ensures.value))
-    (down_lane-is p own opp (ray 2) c.own.ensures.board c.own.ensures.value c.opp.ensures.value (falling_fits 2 c.args.square rays (omega arith) c.falling_rays.ensures.below c.falling_rays.ensures.value))
-    (down_lane-is p own opp (ray 3) c.own.ensures.board c.own.ensures.value c.opp.ensures.value (falling_fits 3 c.args.square rays (omega arith) c.falling_rays.ensures.below c.falling_rays.ensures.value))
+    (down_lane-is p own opp (ray 0) c.own.ensures.board c.own.ensures.value c.opp.ensures.value
+    (falling_fits 0 c.args.square rays (omega arith) c.falling_rays.ensures.below c.falling_rays.ensures.value))
+    (down_lane-is p own opp (ray 1) c.own.ensures.board c.own.ensures.value c.opp.ensures.value
+    (falling_fits 1 c.args.square rays (omega arith) c.falling_rays.ensures.below c.falling_rays.ensures.value))
+    (down_lane-is p own opp (ray 2) c.own.ensures.board c.own.ensures.value c.opp.ensures.value
+    (falling_fits 2 c.args.square rays (omega arith) c.falling_rays.ensures.below c.falling_rays.ensures.value))
+    (down_lane-is p own opp (ray 3) c.own.ensures.board c.own.ensures.value c.opp.ensures.value
+    (falling_fits 3 c.args.square rays (omega arith) c.falling_rays.ensures.below c.falling_rays.ensures.value))

@@ -13,9 +13,15 @@ returns-clause-count c =
     let factors = c.line_factors.result.now in
     let across = ap (λ n. n % 8) c.number-place.ensures.value in
     let down = ap (λ n. n / 8) c.number.ensures.value in
-    let by : (x place place' i : ℕ) → x ≡ slice_index_or (slice_index_or LINE_COUNTS place []) (gathered (bit_and c.own-own.result (slice_index_or masks i 0)) (slice_index_or factors i 0)) 0 → place ≡ place' →
-    x ≡ slice_index_or (slice_index_or LINE_COUNTS place' []) (gathered (bit_and p.own (slice_index_or masks i 0)) (slice_index_or factors i 0)) 0 =
-    λ x place place' i e ep. count_same x c.own-own.result p.own place place' (slice_index_or masks i 0) (slice_index_or factors i 0) e c.own-own.ensures.value ep in
+    let by : (x place place' i : ℕ)
+    → x ≡ slice_index_or (slice_index_or LINE_COUNTS place [])
+    (gathered (bit_and c.own-own.result (slice_index_or masks i 0)) (slice_index_or factors i 0)) 0
+    → place ≡ place'
+    → x ≡ slice_index_or (slice_index_or LINE_COUNTS place' [])
+    (gathered (bit_and p.own (slice_index_or masks i 0)) (slice_index_or factors i 0)) 0 =
+    λ x place place' i e ep.
+    count_same x c.own-own.result p.own place place' (slice_index_or masks i 0) (slice_index_or factors i 0) e
+    c.own-own.ensures.value ep in
     last_flips p s c.own-own.ensures.board c.requires masks factors
     c.counted.result c.counted-2.result c.counted-3.result c.counted-4.result
     c.line_masks.ensures.value c.line_factors.ensures.value

@@ -17,7 +17,9 @@ unreachable-requires c =
 pub invariant_of-result : goal.invariant_of-result
 invariant_of-result c =
     let x = c.requires.0 in
-    subst IsTrueEntry (sym (of_words_is x c.args.words c.in-Ok.board c.args.scoring _ _ c.requires.1 c.requires.2 c.requires.3 c.in-Ok.ensures.value c.lowered.ensures c.lowered-2.ensures)) c.requires.1
+    subst IsTrueEntry
+    (sym (of_words_is x c.args.words c.in-Ok.board c.args.scoring _ _ c.requires.1 c.requires.2 c.requires.3 c.in-Ok.ensures.value c.lowered.ensures c.lowered-2.ensures))
+    c.requires.1
 
 pub returns : goal.returns
 returns c = λ x t s e. of_words_is x c.args.words c.in-Ok.board c.args.scoring _ _ t s e c.in-Ok.ensures.value c.lowered.ensures c.lowered-2.ensures

@@ -11,7 +11,10 @@ between-requires-clause-bounds c =
     let o = c.args.other.now in
     let board : o.board ≡ s.board = search rules in
     let scoring : o.scoring ≡ s.scoring = search rules in
-    (joined-both (value (score_of s.scoring) s.board) s.interval.lower s.interval.upper o.interval.lower o.interval.upper _ _ _ _ c.greater-lower.result c.lesser-upper.result _ _ s.interval.is_interval s.encloses (Encloses-same s.scoring o.scoring s.board o.board _ _ board scoring o.encloses) (omega (arith, ints)) (omega (arith, ints)) (omega (arith, ints)) (omega (arith, ints)) c.greater-lower.ensures.one c.greater-lower.ensures.left c.lesser-upper.ensures.one c.lesser-upper.ensures.left (omega (arith, ints)) (omega (arith, ints))).interval
+    (joined-both (value (score_of s.scoring) s.board) s.interval.lower s.interval.upper o.interval.lower o.interval.upper _ _ _ _ c.greater-lower.result c.lesser-upper.result _ _
+    s.interval.is_interval s.encloses (Encloses-same s.scoring o.scoring s.board o.board _ _ board scoring o.encloses) (omega (arith, ints)) (omega (arith, ints))
+    (omega (arith, ints)) (omega (arith, ints)) c.greater-lower.ensures.one c.greater-lower.ensures.left c.lesser-upper.ensures.one c.lesser-upper.ensures.left (omega (arith, ints))
+    (omega (arith, ints))).interval
 
 pub between-requires-clause-encloses : goal.between-requires-clause-encloses
 between-requires-clause-encloses c =
@@ -19,4 +22,7 @@ between-requires-clause-encloses c =
     let o = c.args.other.now in
     let board : o.board ≡ s.board = search rules in
     let scoring : o.scoring ≡ s.scoring = search rules in
-    (joined-both (value (score_of s.scoring) s.board) s.interval.lower s.interval.upper o.interval.lower o.interval.upper _ _ _ _ c.greater-lower.result c.lesser-upper.result _ _ s.interval.is_interval s.encloses (Encloses-same s.scoring o.scoring s.board o.board _ _ board scoring o.encloses) (omega (arith, ints)) (omega (arith, ints)) (omega (arith, ints)) (omega (arith, ints)) c.greater-lower.ensures.one c.greater-lower.ensures.left c.lesser-upper.ensures.one c.lesser-upper.ensures.left (omega (arith, ints)) (omega (arith, ints))).encloses
+    (joined-both (value (score_of s.scoring) s.board) s.interval.lower s.interval.upper o.interval.lower o.interval.upper _ _ _ _ c.greater-lower.result c.lesser-upper.result _ _
+    s.interval.is_interval s.encloses (Encloses-same s.scoring o.scoring s.board o.board _ _ board scoring o.encloses) (omega (arith, ints)) (omega (arith, ints))
+    (omega (arith, ints)) (omega (arith, ints)) c.greater-lower.ensures.one c.greater-lower.ensures.left c.lesser-upper.ensures.one c.lesser-upper.ensures.left (omega (arith, ints))
+    (omega (arith, ints))).encloses

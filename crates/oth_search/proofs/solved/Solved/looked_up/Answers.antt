@@ -7,4 +7,8 @@ known-found-requires g c = IsCanonical-canonical c.args.board.now c.canonical.re
 pub invariant_of-result : goal.invariant_of-result
 invariant_of-result g c =
     let k = c.known-found.result in
-    record { encloses = Encloses-known c.args.scoring k.scoring c.args.board.now c.canonical.result.0 k.board _ _ c.canonical.ensures.board c.known-found.ensures.board c.known-found.ensures.scoring k.encloses }
+    record {
+      encloses =
+          Encloses-known c.args.scoring k.scoring c.args.board.now c.canonical.result.0 k.board _ _ c.canonical.ensures.board c.known-found.ensures.board c.known-found.ensures.scoring
+          k.encloses;
+    }
