@@ -36,7 +36,10 @@ module _ (items : List Item) (scoring : Scoring) (tasks : Tasks) (work : Work) (
     hand = is_hand;
     holds = record {
       replies = can.holds.replies;
-      once = λ x. let o = can.holds.once x in let s : times x (list_of hand) ≡ times x (list_of work.hand ++ number ∷ []) = ap (times x) longer in omega (arith, times-append x (list_of work.hand) (number ∷ []));
+      once = λ x.
+          let o = can.holds.once x in
+          let s : times x (list_of hand) ≡ times x (list_of work.hand ++ number ∷ []) = ap (times x) longer in
+          omega (arith, times-append x (list_of work.hand) (number ∷ []));
     };
   }
 
@@ -49,7 +52,8 @@ module _ (items : List Item) (scoring : Scoring) (tasks : Tasks) (work : Work) (
       once = λ x.
           let o = can.holds.once x in
           let s : times x (list_of hand) ≡ times x (list_of work.hand ++ number ∷ []) = ap (times x) longer in
-          let n : times x (numbers_of replies.items) ≡ times x (numbers_of work.replies.items ++ r.number ∷ []) = ap (λ l. times x (numbers_of l)) pushed ∙ ap (times x) (map-append (λ (q : Reply). q.number) work.replies.items (r ∷ [])) in
+          let n : times x (numbers_of replies.items) ≡ times x (numbers_of work.replies.items ++ r.number ∷ []) =
+          ap (λ l. times x (numbers_of l)) pushed ∙ ap (times x) (map-append (λ (q : Reply). q.number) work.replies.items (r ∷ [])) in
           let e : times x (r.number ∷ []) ≡ times x (number ∷ []) = ap (λ k. times x (k ∷ [])) is in
           omega (arith, times-append x (list_of work.hand) (number ∷ []), times-append x (numbers_of work.replies.items) (r.number ∷ []));
     };
@@ -77,7 +81,8 @@ times_vecs x [] = refl
 times_vecs x (l ∷ ls) = let rest = times_vecs x ls in omega (arith, sum_by-cons (times x) l.items (map (λ (k : Vec ℕ Global). k.items) ls), sum_by-cons (λ (k : Vec ℕ Global). times x k.items) l ls)
 
 -- what the workers found and what was drawn
-pub gathered : (items : List Item) (scoring : Scoring) (count : ℕ) (works : List Work) (hands : List Hand) (g : Gathered) → count ≡ length items → AreOnce count g.drawn → lists_of g.drawn ≡ map list_of hands → hands ≡ map hand_of works
+pub gathered : (items : List Item) (scoring : Scoring) (count : ℕ) (works : List Work) (hands : List Hand) (g : Gathered) → count ≡ length items → AreOnce count g.drawn
+    → lists_of g.drawn ≡ map list_of hands → hands ≡ map hand_of works
     → All (IsReplyOf items scoring) g.replies.items → ((x : ℕ) → times x (numbers_of g.replies.items) ≤ times_by x works) → AreGathered items scoring g
 gathered items scoring count works hands g same drawn lists are replies once = record {
   drawn = let P : ℕ → Type 0 = λ n. AreOnce n g.drawn in subst P same drawn;
@@ -92,7 +97,8 @@ pub All-longer : {X : Type 0} (P : X → Type 0) (xs ys : List X) (x : X) → ys
 All-longer P xs ys x e all one = subst (All P) (sym e) (All-push P xs x all one)
 
 module _ {C : Type 0} (items : List Item) (scoring : Scoring) (tasks : Tasks) where
-  pub jobs_can : (jobs : List (Job C)) → AreAllHands tasks (map (λ (j : Job C). j.work.hand) jobs) → All (λ (j : Job C). Holds items scoring j.work) jobs → (i : ℕ) (d : Job C) → i < length jobs → CanWork items scoring tasks (get_or jobs i d).work
+  pub jobs_can : (jobs : List (Job C)) → AreAllHands tasks (map (λ (j : Job C). j.work.hand) jobs) → All (λ (j : Job C). Holds items scoring j.work) jobs → (i : ℕ) (d : Job C)
+      → i < length jobs → CanWork items scoring tasks (get_or jobs i d).work
   jobs_can jobs all each i d below = record {
     hand =
         let P : Hand → Type 0 = IsHandOf tasks in
@@ -113,13 +119,16 @@ module _ {C : Type 0} (items : List Item) (scoring : Scoring) (tasks : Tasks) wh
       let b : length now ≡ length new = length_map (λ (j : Job C). j.work.hand) new in
       each_drew tasks was now all (b ∙ (long ∙ sym a))
       (λ i h below. let P : Hand → Type 0 = IsHandOf tasks in subst P (sym (get_or_map (λ (j : Job C). j.work.hand) new i o h (omega arith))) (each i o (omega arith)).hand)
-      (λ i h below. ap number_of (get_or_map (λ (j : Job C). j.work.hand) new i o h (omega arith)) ∙ (same i o (omega arith) ∙ sym (ap number_of (get_or_map (λ (j : Job C). j.work.hand) (o ∷ os) i o h (omega arith)))))
+      (λ i h below.
+      ap number_of (get_or_map (λ (j : Job C). j.work.hand) new i o h (omega arith))
+      ∙ (same i o (omega arith) ∙ sym (ap number_of (get_or_map (λ (j : Job C). j.work.hand) (o ∷ os) i o h (omega arith)))))
 
 pub twice : {C : Type 0} (js : List (Job C)) → map (λ (j : Job C). j.work.hand) js ≡ map hand_of (map (λ (j : Job C). j.work) js)
 twice [] = refl
 twice (j ∷ js) = ap (λ l. j.work.hand ∷ l) (twice js)
 
-pub times_more : {C : Type 0} (x : ℕ) (jobs : List (Job C)) (j : Job C) → times_by x (map (λ (k : Job C). k.work) (jobs ++ j ∷ [])) ≡ times_by x (map (λ (k : Job C). k.work) jobs) + times x (list_of j.work.hand)
+pub times_more : {C : Type 0} (x : ℕ) (jobs : List (Job C)) (j : Job C)
+    → times_by x (map (λ (k : Job C). k.work) (jobs ++ j ∷ [])) ≡ times_by x (map (λ (k : Job C). k.work) jobs) + times x (list_of j.work.hand)
 times_more {C} x jobs j =
     let e : map (λ (k : Job C). k.work) (jobs ++ j ∷ []) ≡ map (λ (k : Job C). k.work) jobs ++ j.work ∷ [] = map-append (λ (k : Job C). k.work) jobs (j ∷ []) in
     ap (times_by x) e ∙ sum_by_push (λ (w : Work). times x (list_of (hand_of w))) (map (λ (k : Job C). k.work) jobs) j.work

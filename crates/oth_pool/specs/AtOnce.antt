@@ -20,4 +20,5 @@ module _ {F T : Type 0} (g : Shared F (MutBor T × Unit {0}) (Unit {0} × (MutBo
   -- A pair that begins with `slice_index_or ys i d ≡ slice_index_or ys i d` shows the prover the term at which to use the rest.
   pub record ChangesEach (xs ys : List T) : Type 0 where
     pub len : length ys ≡ length xs
-    pub each : (i : ℕ) (d : T) → i < length xs → (slice_index_or ys i d ≡ slice_index_or ys i d) × Changes (slice_index_or xs i d) (slice_index_or ys i d)
+    pub each : (i : ℕ) (d : T) → i < length xs
+        → (slice_index_or ys i d ≡ slice_index_or ys i d) × Changes (slice_index_or xs i d) (slice_index_or ys i d)

@@ -9,7 +9,8 @@ use Rattle.oth_pool.proofs.run.run_jobs.Goals as goal
 
 pub work_all-requires-after_bounds : goal.work_all-requires-after_bounds
 work_all-requires-after_bounds g c κs within =
-    let P : List (Job g.row.C.Denot) → Type 0 = λ js. (i : ℕ) (d : Job g.row.C.Denot) → i < length js → CanWork c.args.scene.now.frontier.now c.args.scene.now.plan.scoring c.args.tasks.now (get_or js i d).work in
+    let P : List (Job g.row.C.Denot) → Type 0 = λ js.
+    (i : ℕ) (d : Job g.row.C.Denot) → i < length js → CanWork c.args.scene.now.frontier.now c.args.scene.now.plan.scoring c.args.tasks.now (get_or js i d).work in
     subst P (sym c.as_mut_slice.ensures.value) (jobs_can c.args.scene.now.frontier.now c.args.scene.now.plan.scoring c.args.tasks.now c.args.jobs.items c.requires.hands c.requires.each)
 
 pub returns-clause-hands : goal.returns-clause-hands

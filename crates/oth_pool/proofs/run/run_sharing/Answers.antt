@@ -13,5 +13,6 @@ returns-clause-gathered g c =
     let jobs : List (Job WorkerCells) = c.run_jobs-jobs.result.items in
     let all : Gathered = record { drawn = c.close-drawn.result; replies = c.replies_of-replies.result } in
     let P : List (Job WorkerCells) → Type 0 = λ js. (x : ℕ) → times x (numbers_of c.replies_of-replies.result.items) ≤ times_by x (map (λ (j : Job WorkerCells). j.work) js) in
-    gathered c.args.scene.now.frontier.now c.args.scene.now.plan.scoring (count_of c.in-Ok.tasks) (map (λ (j : Job WorkerCells). j.work) jobs) c.hands_in-hands.result.items all c.in-Ok.ensures.count c.close-drawn.ensures.once c.close-drawn.ensures.lists
+    gathered c.args.scene.now.frontier.now c.args.scene.now.plan.scoring (count_of c.in-Ok.tasks) (map (λ (j : Job WorkerCells). j.work) jobs) c.hands_in-hands.result.items all
+    c.in-Ok.ensures.count c.close-drawn.ensures.once c.close-drawn.ensures.lists
     (c.hands_in-hands.ensures ∙ twice jobs) c.replies_of-replies.ensures.replies (subst P c.as_slice-2.ensures.value c.replies_of-replies.ensures.once)
