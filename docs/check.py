@@ -26,7 +26,8 @@ It tests, in each document and, where it says so, in the code:
 - of docs/WRONG_BODIES.md: that each `CRATE/NAME` is an edit of that crate's must-fail/, each name that follows it one too or a test of that
   crate, and each other name with an underscore an edit, a function or a part of a crate;
 - that the headline is word for word the same wherever it stands, and that the README has at most 110 lines;
-- of each file of code: that its first line is a head (`//!`), and that no line is longer than 120 characters;
+- of each file of code: that its first line is a head (`//!`), and that no line is longer than 120 characters; of `specs/`, that none is
+  longer than 140, and of `proofs/`, than 200;
 - that the tables and the plot of the measured figures are those of bench/figures.txt (`bench/plot.py --check`), and that a plain Rust
   copy of the search can be made (`bench/plain.py --check`);
 - that the version is the same in the code, docs/FORMATS.md, the man page, the C header and two parts of hostile;
@@ -41,6 +42,7 @@ import sys
 
 ROOT = pathlib.Path(__file__).resolve().parent.parent
 WIDTH = 120
+LOGIC_WIDTHS = {"specs": 140, "proofs": 200}
 FOLDERS = r"crates|docs|bench|examples|hostile|completions|include|\.ci"
 ROW = re.compile(r"^\| `([^`]+)` \| \[?`([^`:]+):(\d+)`(?:\]\(([^)]*)\))? \|")
 VALUE = re.compile(r"^\| `([A-Z_]+)` \| `([^`]+)` \| `([^`]+)` \|")
@@ -528,8 +530,15 @@ def test_code():
     for path in sorted(ROOT.glob("crates/*/src/**/*.rt")):
         text = lines_of(path)
         test(text[0].startswith("//! "), f"{shown(path)}:1: no head")
-        long = [str(number) for number, line in enumerate(text, 1) if len(line) > WIDTH]
-        test(not long, f"{shown(path)}: more than {WIDTH} characters in line {', '.join(long)}")
+        test_width(path, WIDTH)
+    for folder, width in LOGIC_WIDTHS.items():
+        for path in sorted(ROOT.glob(f"crates/*/{folder}/**/*.antt")):
+            test_width(path, width)
+
+
+def test_width(path, width):
+    long = [str(number) for number, line in enumerate(lines_of(path), 1) if len(line) > width]
+    test(not long, f"{shown(path)}: more than {width} characters in line {', '.join(long)}")
 
 
 def test_constants():

@@ -3,7 +3,8 @@
 --         one before by the answers of its lines
 --     FindsNoRoom before lines      the answer of one of these lines has no room in the book, or no memory
 --     IsStatus status Done Failed Stopped      0, 1 or 3, with what it tells
---     IsAdding before book kept input      an addition halfway, after this input: the book so far, and what is kept of the line that has begun
+--     IsAdding before book kept input      an addition halfway, after this input: the book so far, and what is kept of the line
+--                                          that has begun
 use Rattle.std.specs.Prelude.{◌≡◌, ◌⊎◌, ⊤, ℕ, Bool, true, List, ◌++◌, Option, Result, Ok, Err, All, Contains}
 use Rattle.std.specs.Io.KnownBytes.{Appends, Consumes, IsAtEnd}
 use Rattle.oth_rules.specs.Symmetry.{canonical}
@@ -84,10 +85,12 @@ pub record IsAdding (before book : Contents) (kept input : List ℕ) : Type 0 wh
 
 -- what a call makes of further bytes of the input, and what is found where it stops within them
 abbrev pub AddsBytes : Contents → List ℕ → Contents → List ℕ → List ℕ → Type 0
-AddsBytes book kept book' kept' bytes = (before : Contents) (input : List ℕ) → IsAdding before book kept input → IsAdding before book' kept' (input ++ bytes)
+AddsBytes book kept book' kept' bytes =
+    (before : Contents) (input : List ℕ) → IsAdding before book kept input → IsAdding before book' kept' (input ++ bytes)
 
 abbrev pub IsFullWithin : Contents → List ℕ → List ℕ → Type 0
-IsFullWithin book kept bytes = (before : Contents) (input : List ℕ) → IsAdding before book kept input → FindsNoRoom before (cut (input ++ bytes)).lines
+IsFullWithin book kept bytes =
+    (before : Contents) (input : List ℕ) → IsAdding before book kept input → FindsNoRoom before (cut (input ++ bytes)).lines
 
 -- all lines of the input are answered
 pub record HasAdded (before book : Contents) (input : List ℕ) : Type 0 where

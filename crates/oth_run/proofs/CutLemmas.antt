@@ -178,7 +178,8 @@ unfolding report
 written_beginning reply before now input part = part
 
 -- the report of the lines that ended begins the whole one
-pub ended_begins_report : (reply : List ℕ → List ℕ) (before b : Option (List ℕ)) (input : List ℕ) → AppendsBeginning before b (ended_report reply input) → AppendsBeginning before b (report reply input)
+pub ended_begins_report : (reply : List ℕ → List ℕ) (before b : Option (List ℕ)) (input : List ℕ) → AppendsBeginning before b (ended_report reply input)
+    → AppendsBeginning before b (report reply input)
 unfolding report
 ended_begins_report reply before b input part = beginning_within before b _ _ part (last_report reply (cut input).rest, refl)
 

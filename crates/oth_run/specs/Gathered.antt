@@ -22,4 +22,5 @@ abbrev pub WritesOut : Option (List ℕ) → Option (List ℕ) → List ℕ → 
 WritesOut sink sink' waiting = (before : Option (List ℕ)) (done : List ℕ) → IsGathered before sink waiting done → Appends before sink' done
 
 abbrev pub StopsInWaiting : Option (List ℕ) → Option (List ℕ) → List ℕ → Type 0
-StopsInWaiting sink sink' waiting = (before : Option (List ℕ)) (done : List ℕ) → IsGathered before sink waiting done → AppendsBeginning before sink' done
+StopsInWaiting sink sink' waiting =
+    (before : Option (List ℕ)) (done : List ℕ) → IsGathered before sink waiting done → AppendsBeginning before sink' done

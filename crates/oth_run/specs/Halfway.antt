@@ -15,12 +15,14 @@ use Rattle.oth_run.specs.Line.{Holds}
 use Rattle.oth_run.specs.Reply.{reply}
 use Rattle.oth_run.specs.Report.{cut, ended_report}
 
-pub record IsUpTo (reply : List ℕ → List ℕ) (holds : List ℕ → Type 0) (before sink : Option (List ℕ)) (waiting input : List ℕ) : Type 0 where
+pub record IsUpTo (reply : List ℕ → List ℕ) (holds : List ℕ → Type 0)
+    (before sink : Option (List ℕ)) (waiting input : List ℕ) : Type 0 where
   pub line : holds (cut input).rest
   pub gathered : IsGathered before sink waiting (ended_report reply input)
 
 abbrev pub IsAt : Settings → Engine → Option (List ℕ) → Option (List ℕ) → List ℕ → Type 0
-IsAt settings engine before sink input = IsUpTo (reply settings) (Holds settings.command engine.line) before sink engine.waiting.bytes.items input
+IsAt settings engine before sink input =
+    IsUpTo (reply settings) (Holds settings.command engine.line) before sink engine.waiting.bytes.items input
 
 abbrev pub Takes : Settings → Engine → Engine → Option (List ℕ) → Option (List ℕ) → List ℕ → Type 0
 Takes settings old new sink sink' bytes = (before : Option (List ℕ)) (input : List ℕ)

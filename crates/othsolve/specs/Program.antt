@@ -1,6 +1,8 @@
--- What the program has done where its status is 0. Its input is known bytes `reader`, of which `reader'` are left; known bytes `writer` of its output become `writer'`.
+-- What the program has done where its status is 0. Its input is known bytes `reader`, of which `reader'` are left; known bytes
+-- `writer` of its output become `writer'`.
 --     HasReported settings reader reader' writer writer'      all input was read, and the report of its lines was written
---     HasObeyed words reader reader' writer writer'      the same, where the words ask for a report; `book-verify` reads no input; `book-add` read it
+--     HasObeyed words reader reader' writer writer'      the same, where the words ask for a report; `book-verify` reads no input;
+--                                                        `book-add` read it
 --         all, and wrote the text of a true book, which extends that of a file by the answers of its lines
 --     AreRefused words      the settings that the words give are refused
 use Rattle.std.specs.Prelude.{◌≡◌, ℕ, List, Option}

@@ -13,7 +13,9 @@ returns-in-Err g c = λ line kept.
 pub returns-in-Ok-awaited_scores_line : goal.returns-in-Ok-awaited_scores_line
 returns-in-Ok-awaited_scores_line g c = λ line kept.
     c.in-Ok-awaited_scores_line.ensures.line
-    ∙ sym (reply-few (scores_line_of c.args.settings.now.scoring) line c.in-Ok.position (sym (c.read.ensures line kept) ∙ c.in-Ok.is) (λ many. true≢false (sym (c.in-Ok-awaited_scores_line.ensures.refused.1 many))))
+    ∙ sym
+    (reply-few (scores_line_of c.args.settings.now.scoring) line c.in-Ok.position (sym (c.read.ensures line kept) ∙ c.in-Ok.is)
+    (λ many. true≢false (sym (c.in-Ok-awaited_scores_line.ensures.refused.1 many))))
 
 pub returns-in-Err-awaited_scores_line : goal.returns-in-Err-awaited_scores_line
 returns-in-Err-awaited_scores_line g c = λ line kept.

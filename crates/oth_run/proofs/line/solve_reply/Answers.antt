@@ -15,7 +15,9 @@ returns-in-Ok-awaited_answer_of g c = λ line kept.
     c.copied-in-Ok-awaited_answer_of.ensures ∙ c.as_slice-in-Ok-awaited_answer_of.ensures.value ∙ c.report_line.ensures.text
     ∙ ap (λ b. report_line_of c.in-Ok-awaited_answer_of.answer.scoring b) c.in-Ok-awaited_answer_of.ensures.board
     ∙ ap (λ s. report_line_of s c.in-Ok.position.board) c.in-Ok-awaited_answer_of.ensures.scoring
-    ∙ sym (reply-few (report_line_of c.args.settings.now.scoring) line c.in-Ok.position (sym (c.read.ensures line kept) ∙ c.in-Ok.is) (λ many. true≢false (sym (c.in-Ok-awaited_answer_of.ensures.refused.1 many))))
+    ∙ sym
+    (reply-few (report_line_of c.args.settings.now.scoring) line c.in-Ok.position (sym (c.read.ensures line kept) ∙ c.in-Ok.is)
+    (λ many. true≢false (sym (c.in-Ok-awaited_answer_of.ensures.refused.1 many))))
 
 pub returns-in-Err-awaited_answer_of : goal.returns-in-Err-awaited_answer_of
 returns-in-Err-awaited_answer_of g c = λ line kept.
