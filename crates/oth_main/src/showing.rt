@@ -153,6 +153,7 @@ impl<'w, R: Wait, W: Sink, E: Sink> Report<'w, R, W, E> {
     pub fn of(rt: &'w R, watch: &'w Watch<E>, writer: W) -> Self
         ensures contents { ⟦<Report<'w, R, W, E> as Sink>⟧.contents result ≡ W.contents writer }
         ensures failed { ⟦<Report<'w, R, W, E> as Sink>⟧.failed result ≡ W.failed writer }
+        ensures flushed { ⟦<Report<'w, R, W, E> as Sink>⟧.flushed result ≡ W.flushed writer }
     {
         Report { rt, watch, writer }
     }

@@ -1,10 +1,10 @@
-//! Parts of the search that no answer rests on, and that only its speed tells of. Each board is one of 13 empty squares
-//! of a random game, but the last, on which the part in question makes the greatest difference of 24 such boards.
+//! Parts of the search that no answer rests on, and that only its speed tells of. The boards are of random games. Each
+//! of 13 empty squares is the one of 24 on which the part in question makes the greatest difference.
 
 use crate::keeping_tests::Counted;
 use crate::tests::board_of;
-use oth_rules::Scoring;
-use oth_search::{Memo, NoCells, guessed_score, search, solve_with};
+use oth_rules::{Board, Scoring, Square};
+use oth_search::{Cells, Entry, Memo, NoCells, Solved, guessed_score, search, solve_with};
 use std::test::Fail;
 
 /// The root's score is known from its replies before the moves that may reach it are compared: 779 boards are looked
@@ -46,5 +46,47 @@ fn a_guess_is_of_the_movers_side(rt: HostRuntime) -> Result<(), Fail> {
     let board = board_of(&rt, [0x1fff_442a_1d20_0000, 0x6000_bad4_e21d_7ae0]);
     assert!(rt; guessed_score(&board, &mut NoCells, Scoring::Winner) > 0);
     assert!(rt; guessed_score(&board.pass(), &mut NoCells, Scoring::Winner) < 0);
+    Ok(())
+}
+
+/// Keeps nothing but the board that is looked up first after the root.
+#[derive(Drop)]
+struct SecondLook {
+    looks: u32,
+    board: Option<Board>,
+}
+
+impl Cells for SecondLook {
+    ghost Fixed = { Unit {0} };
+
+    ghost fixed = { λ c. tt };
+
+    fn look(&mut self, board: &Board, _scoring: Scoring) -> Option<Entry> {
+        self.looks = self.looks.wrapping_add(1);
+        if self.looks == 2 {
+            self.board = Some(*board);
+        }
+        None
+    }
+
+    fn put(&mut self, _entry: &Entry) {}
+}
+
+/// On this board of ten empty squares b1 and h6 leave the opponent four moves each, and no other move leaves so few.
+/// After b1 eight empty squares touch a disc of the mover, after h6 six: so h6 is searched first, and b1 where children
+/// are ranked by the board before them.
+#[test]
+fn a_move_that_leaves_less_open_is_searched_first(rt: HostRuntime) -> Result<(), Fail> {
+    let board = board_of(&rt, [0x1f39_7978_dcfc_fc98, 0x0006_0687_2303_0260]);
+    assert!(rt; board.empties() == 10);
+    let Some(child) = board.play(Square::numbered(47)) else {
+        panic!(rt; "no move")
+    };
+    let mut cells = SecondLook {
+        looks: 0,
+        board: None,
+    };
+    Solved::by_null_window(&board, 0, &mut cells, Scoring::Winner);
+    assert!(rt; cells.board == Some(child.canonical().0));
     Ok(())
 }

@@ -97,6 +97,7 @@ impl<const CAPACITY: usize> ByteSink<CAPACITY> {
     pub fn new(until_failure: usize) -> Self
         ensures contents { ⟦<ByteSink<CAPACITY> as Sink>⟧.contents result ≡ Some [] }
         ensures works { ⟦<ByteSink<CAPACITY> as Sink>⟧.failed result ≡ false }
+        ensures unflushed { ⟦<ByteSink<CAPACITY> as Sink>⟧.flushed result ≡ false }
     {
         ByteSink {
             taken: ArrayVec::new(),

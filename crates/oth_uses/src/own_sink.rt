@@ -27,7 +27,7 @@ impl Sink for Kept {
             self.failed = true;
             return Err(Failed);
         }
-        self.flushed = false;
+        self.flushed = self.flushed && buffer.is_empty();
         Ok(buffer.len())
     }
 
@@ -48,7 +48,7 @@ pub fn kept_report(alloc: Global, answer: &Answer) -> Result<Vec<u8>, Failed>
     let mut kept = Kept {
         text: Vec::new(alloc),
         failed: false,
-        flushed: true,
+        flushed: false,
     };
     write_all(&mut kept, report_line(answer).as_slice())?;
     Ok(kept.text)

@@ -4,10 +4,11 @@ use super::board;
 use super::crews::BOARDS;
 use super::rows::ROWS;
 use super::view::TableView;
-use oth_pool::{Floor, Frontier, Gate, Open, TableAccess, run_workers};
+use oth_pool::{Floor, Frontier, Gate, Open, TableAccess, WorkerCells, run_workers};
 use oth_rules::{Board, Scoring};
-use oth_search::Kind;
+use oth_search::{Answer, Kind, solve_with};
 use oth_table::SharedTable;
+use oth_walk::Plan;
 use std::alloc::Global;
 use std::process::Abort;
 use std::sync::atomic::{AtomicU64, Ordering};
@@ -121,8 +122,9 @@ fn each_of_two_workers_searches_its_first_item(rt: HostRuntime) -> Result<(), Fa
     Ok(())
 }
 
-// The floor of the board of these discs, when sixteen workers over one cell have searched all its items.
-fn floor_by_sixteen<R: Threads + Sync>(rt: &R, alloc: Global, words: [u64; 2]) -> Option<i8> {
+// The floor of the board of these discs, when sixteen workers over one cell have searched all its items, and the answer
+// by the caller over what they left in that cell.
+fn by_sixteen<R: Threads + Sync>(rt: &R, alloc: Global, words: [u64; 2]) -> Option<(i8, Answer)> {
     let root = board(words)?;
     let frontier = Frontier::of(&root, 2);
     let Ok((floor, mut seat)) = Floor::new(alloc, &root, Scoring::Winner) else {
@@ -142,22 +144,29 @@ fn floor_by_sixteen<R: Threads + Sync>(rt: &R, alloc: Global, words: [u64; 2]) -
         &mut access,
         &Open,
     );
-    if found.drawn.left.is_empty() && found.drawn.lists.len() == 16 {
-        Some(floor.read(&mut seat))
-    } else {
-        None
+    if !found.drawn.left.is_empty() || found.drawn.lists.len() != 16 {
+        return None;
     }
+    let mut cells = WorkerCells::of(alloc, Plan::of(Scoring::Winner, 0, false), &mut access);
+    let answer = solve_with(root, &mut cells, Scoring::Winner);
+    Some((floor.read(&mut seat), answer))
 }
 
-// `run_workers` starts as many as it is told, whatever the board.
+// `run_workers` starts as many as it is told, whatever the board. Of an answer the score, the best moves and the kind
+// are compared, which is all that its line has.
 #[test]
 fn sixteen_workers_raise_the_floor_to_the_value_over_one_cell(rt: HostRuntime) {
     for _ in 0..100 {
-        for (words, score, _, kind) in &ROWS[4..] {
-            if *kind == Kind::Move {
-                let floor = floor_by_sixteen(&rt, rt.alloc(), *words);
-                assert!(rt; floor == Some(*score), "the board of {}", words[0]);
+        for (words, score, best, kind) in &ROWS[4..] {
+            if *kind != Kind::Move {
+                continue;
             }
+            let Some((floor, answer)) = by_sixteen(&rt, rt.alloc(), *words) else {
+                panic!(rt; "no workers")
+            };
+            assert!(rt; floor == *score, "the board of {}", words[0]);
+            let told = (answer.score, answer.best, answer.kind);
+            assert!(rt; told == (*score, *best, *kind), "the board of {}", words[0]);
         }
     }
 }
