@@ -1,5 +1,5 @@
 -- What a worker's job keeps.
-use Rattle.std.proofs.Common.{◌≡◌, ℕ, ◌+◌, ◌<◌, ◌≤◌, length, get_or, List, [], ◌∷◌, ◌++◌, map, sym, refl, ap, ◌∙◌, subst, arith, Vec}
+use Rattle.std.proofs.Common.{◌≡◌, Bool, true, false, cond, ℕ, ◌+◌, ◌<◌, ◌≤◌, length, get_or, List, [], ◌∷◌, ◌++◌, map, sym, refl, ap, ◌∙◌, subst, arith, Vec}
 use Rattle.std.proofs.lemmas.List.{map-append}
 use Rattle.std.proofs.lemmas.List.Elements.{All-push, All-nil}
 use Rattle.std.specs.List.{All, sum_by}
@@ -59,8 +59,13 @@ module _ (items : List Item) (scoring : Scoring) (tasks : Tasks) (work : Work) (
     };
   }
 
-pub numbers_push : (x : ℕ) (xs : List Reply) (r : Reply) → times x (numbers_of (xs ++ r ∷ [])) ≡ times x (numbers_of xs) + times x (numbers_of (r ∷ []))
-numbers_push x xs r = ap (times x) (map-append (λ (q : Reply). q.number) xs (r ∷ [])) ∙ times-append x (numbers_of xs) (numbers_of (r ∷ []))
+pub numbers_append : (x : ℕ) (xs ys : List Reply) → times x (numbers_of (xs ++ ys)) ≡ times x (numbers_of xs) + times x (numbers_of ys)
+numbers_append x xs ys = ap (times x) (map-append (λ (q : Reply). q.number) xs ys) ∙ times-append x (numbers_of xs) (numbers_of ys)
+
+-- what holds of a list whether or not it could be made longer
+pub either_way : {X : Type 0} (P : List X → Type 0) (is_longer : Bool) (new old more : List X) → new ≡ cond is_longer (old ++ more) old → P old → P (old ++ more) → P new
+either_way P true new old more is short long = subst P (sym is) long
+either_way P false new old more is short long = subst P (sym is) short
 
 pub no_replies : (items : List Item) (scoring : Scoring) (w : Work) → w.replies.items ≡ [] → Holds items scoring w
 no_replies items scoring w none = record {

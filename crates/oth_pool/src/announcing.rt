@@ -3,7 +3,7 @@
 use oth_pieces::Frontier;
 use oth_rules::{Board, Scoring, Square};
 use oth_search::{Cells, Observer, Solved, known_below};
-use oth_walk::{Gate, Scene, is_settled};
+use oth_walk::{Gate, Search, is_settled};
 
 // The items of a frontier by the root's moves, of which some were announced.
 #[derive(Drop)]
@@ -18,12 +18,12 @@ struct Items<'s> {
 
 impl<'s> Items<'s> {
     // None was announced.
-    fn of(scene: &Scene<'s>) -> Items<'s> {
+    fn of(shared: &Search<'s>) -> Items<'s> {
         Items {
-            root: scene.root,
-            scoring: scene.plan.scoring,
-            frontier: scene.frontier,
-            squares: scene.squares,
+            root: shared.root,
+            scoring: shared.scoring,
+            frontier: shared.frontier,
+            squares: shared.squares,
             announced: 0,
         }
     }
@@ -73,9 +73,9 @@ pub(crate) struct Announcer<'s, G> {
 
 impl<'s, G: Gate> Announcer<'s, G> {
     /// No item was announced yet.
-    pub fn of(scene: &Scene<'s>, gate: &'s G) -> Announcer<'s, G> {
+    pub fn of(shared: &Search<'s>, gate: &'s G) -> Announcer<'s, G> {
         Announcer {
-            items: Items::of(scene),
+            items: Items::of(shared),
             gate,
             open: None,
         }

@@ -3,7 +3,7 @@ use arrayvec::ArrayVec;
 use oth_pieces::{MOST_ITEMS, awake};
 use oth_rules::{Board, Square};
 use oth_search::order;
-use oth_walk::Scene;
+use oth_walk::Search;
 
 // A rank beyond the number of a board's moves.
 const BEYOND: u32 = 64;
@@ -11,18 +11,18 @@ const BEYOND: u32 = 64;
 /// The rank of each item of the frontier, the least first: all replies to the root's first move in their order, then
 /// the best reply to each other move, then the second ones, and so on. Nothing rests on it but time.
 #[inline(never)]
-pub(crate) fn ranks(scene: &Scene) -> ArrayVec<u32, MOST_ITEMS> {
+pub(crate) fn ranks(shared: &Search) -> ArrayVec<u32, MOST_ITEMS> {
     let mut ranks = ArrayVec::new();
-    let mut replies = replies_to(scene, Square::numbered(0));
+    let mut replies = ArrayVec::<Board, 64>::new();
     let mut to = None;
-    for number in 0..scene.frontier.len() {
+    for number in 0..shared.frontier.len() {
         let mut rank = u32::MAX;
-        if let Some(item) = scene.frontier.entry(number) {
+        if let Some(item) = shared.frontier.entry(number) {
             if to != Some(item.square) {
-                replies = replies_to(scene, item.square);
+                replies = replies_to(shared, item.square);
                 to = Some(item.square);
             }
-            let of_move = place_of(scene.squares, &item.square);
+            let of_move = place_of(shared.squares, &item.square);
             rank = rank_of(of_move, place_of(replies.as_slice(), &item.board));
         }
         let _ = ranks.try_push(rank);
@@ -41,9 +41,9 @@ fn rank_of(of_move: u32, of_reply: u32) -> u32 {
 
 // The boards after the replies to a move of the root, after a forced pass where there is one, in the order in which
 // they are searched.
-fn replies_to(scene: &Scene, square: Square) -> ArrayVec<Board, 64> {
+fn replies_to(shared: &Search, square: Square) -> ArrayVec<Board, 64> {
     let mut replies = ArrayVec::new();
-    if let Some(child) = scene.root.play(square) {
+    if let Some(child) = shared.root.play(square) {
         let (child, _) = awake(child);
         let squares = order(&child);
         for reply in squares.as_slice() {

@@ -1,7 +1,9 @@
 //! Workers over all items of a frontier.
-ghost use Rattle.std.specs.Prelude.{◌≡◌, ◌+◌, ◌≤◌, ℕ, IfSome, length, map, vec_len, vec_capacity, All, [], ◌∷◌};
+ghost use Rattle.std.specs.Prelude.{◌≡◌, ◌≤◌, ℕ, IfSome, List, length, map, vec_len, vec_capacity, All, []};
+ghost use Rattle.oth_rules.specs.declared.scoring.Scoring.{Scoring};
+ghost use Rattle.oth_pieces.specs.declared.frontier.item.Item.{Item};
 ghost use Rattle.oth_pieces.specs.Watch.{IsSeatOf};
-ghost use Rattle.oth_pieces.specs.Hands.{AreAllHands, IsCrew, count_of};
+ghost use Rattle.oth_pieces.specs.Hands.{AreAllHands, IsCrew};
 ghost use Rattle.oth_pieces.specs.Dealing.{times};
 ghost use Rattle.oth_pieces.specs.Drawn.{lists_of};
 ghost use Rattle.oth_walk.specs.Lending.{LendsFloor, LendsTable};
@@ -11,10 +13,9 @@ use crate::draw_order::ranks;
 use crate::work::{Job, Work};
 use crate::workers::work_all;
 use oth_pieces::{Drawn, Floor, FloorSeat, Frontier, Hand, Reply, Tasks};
-use oth_rules::Scoring;
 use oth_search::{Cells, Solved, order};
 use oth_walk::{
-    Gate, HintSeat, Hints, Plan, RootBound, Scene, TableAccess, Walk, WorkerCells, orders_for,
+    Gate, HintSeat, Hints, RootBound, Search, Sharing, TableAccess, Worker, WorkerCells, orders_for,
 };
 use std::alloc::Global;
 use std::thread::Threads;
@@ -35,10 +36,9 @@ pub(crate) struct Means<'m, R, G> {
     pub workers: u8,
 }
 
-// How the search is made, and what the workers share besides the table.
+// How workers reach each other besides by the table.
 #[derive(Clone, Copy)]
-struct Shared<'s> {
-    plan: Plan,
+struct Links<'s> {
     floor: &'s Floor,
     hints: &'s Option<Hints>,
 }
@@ -65,26 +65,22 @@ pub fn run_workers<'t, R: Threads + Sync, G: Gate>(
 {
     let root = floor.board();
     let squares = order(&root);
-    let scene = Scene {
-        frontier,
-        root,
-        squares: squares.as_slice(),
-        plan: Plan::of(floor.scoring(), root.empties(), table.is_some()),
-    };
+    let sharing = Sharing::of_several(table.is_some());
+    let shared = Search::of(root, floor.scoring(), squares.as_slice(), frontier, sharing);
     let means = Means {
         rt,
         alloc,
         gate,
         workers,
     };
-    run(&means, &scene, floor, seat, table).0
+    run(&means, &shared, floor, seat, table).0
 }
 
 /// The same, and what the workers found of the boards after the root's moves.
 #[inline(never)]
 pub(crate) fn run<'t, R: Threads + Sync, G: Gate>(
     means: &Means<R, G>,
-    scene: &Scene,
+    shared: &Search,
     floor: &Floor,
     seat: &mut FloorSeat,
     table: &mut Option<TableAccess<'t>>,
@@ -93,53 +89,52 @@ pub(crate) fn run<'t, R: Threads + Sync, G: Gate>(
     requires seat { IsSeatOf floor.now seat.old }
     ensures seat { LendsFloor seat.old seat.new }
     ensures table { LendsTable table.old table.new }
-    ensures gathered { AreGathered scene.now.frontier.now scene.now.plan.scoring result.0 }
+    ensures gathered { AreGathered shared.now.frontier.now shared.now.scoring result.0 }
     ensures lists { HasLists means.now.workers result.0.drawn }
 {
-    let hints = hints_for(means, scene);
-    let shared = Shared {
-        plan: scene.plan,
+    let hints = hints_for(means, shared);
+    let links = Links {
         floor,
         hints: &hints,
     };
-    run_sharing(means, scene, shared, seat, table)
+    run_linked(means, shared, links, seat, table)
 }
 
-// The same, where this is shared.
-fn run_sharing<'w, 't, R: Threads + Sync, G: Gate>(
+// The same, by workers with these links.
+fn run_linked<'w, 't, R: Threads + Sync, G: Gate>(
     means: &Means<R, G>,
-    scene: &Scene,
-    shared: Shared<'w>,
+    shared: &Search,
+    links: Links<'w>,
     seat: &mut FloorSeat,
     table: &mut Option<TableAccess<'t>>,
 ) -> (Gathered, Vec<Solved>)
     requires crew { IsCrew means.now.workers }
-    requires seat { IsSeatOf shared.floor.now seat.old }
+    requires seat { IsSeatOf links.floor.now seat.old }
     ensures seat { LendsFloor seat.old seat.new }
     ensures table { LendsTable table.old table.new }
-    ensures gathered { AreGathered scene.now.frontier.now scene.now.plan.scoring result.0 }
+    ensures gathered { AreGathered shared.now.frontier.now shared.now.scoring result.0 }
     ensures lists { HasLists means.now.workers result.0.drawn }
 {
     let alloc = means.alloc;
-    let ranks = ranks(scene);
-    let Ok((tasks, hands)) = Tasks::by_rank(alloc, scene.frontier, ranks.as_slice(), means.workers)
+    let ranks = ranks(shared);
+    let Ok((tasks, hands)) = Tasks::by_rank(alloc, shared.frontier, ranks.as_slice(), means.workers)
     else {
-        return nothing(alloc, scene);
+        return nothing(alloc, shared);
     };
     let count = hands.len();
-    let Some(walks) = walks_of(alloc, count, shared, seat, table) else {
-        return without_jobs(alloc, scene, tasks, hands);
-    };
-    let (Ok(jobs), Ok(room), Ok(replies)) = (
+    let (Some(workers), Ok(jobs), Ok(room), Ok(replies)) = (
+        workers_of(means, shared, links, seat, table),
         Vec::with_capacity(alloc, count),
         Vec::with_capacity(alloc, count),
-        Vec::with_capacity(alloc, scene.frontier.len() as usize),
+        Vec::with_capacity(alloc, shared.frontier.len() as usize),
     ) else {
-        return without_jobs(alloc, scene, tasks, hands);
+        let drawn = tasks.close(hands);
+        let replies = Vec::new(alloc);
+        return (Gathered { drawn, replies }, Vec::new(alloc));
     };
-    let jobs = jobs_of(alloc, scene, hands, walks, jobs);
-    let jobs = run_jobs(means, scene, &tasks, jobs);
-    let replies = replies_of(scene, jobs.as_slice(), replies);
+    let jobs = jobs_of(alloc, shared, hands, workers, jobs);
+    let jobs = run_jobs(means, shared, &tasks, jobs);
+    let replies = replies_of(jobs.as_slice(), replies);
     let found = found_by_workers(alloc, jobs.as_slice());
     let hands = hands_in(room, jobs);
     let drawn = tasks.close(hands);
@@ -147,96 +142,76 @@ fn run_sharing<'w, 't, R: Threads + Sync, G: Gate>(
 }
 
 // The hints of several workers; one worker needs none.
-fn hints_for<R, G>(means: &Means<R, G>, scene: &Scene) -> Option<Hints> {
+fn hints_for<R, G>(means: &Means<R, G>, shared: &Search) -> Option<Hints> {
     if means.workers == 1 {
         return None;
     }
-    Hints::new(means.alloc, orders_for(scene.root.empties()))
+    Hints::new(means.alloc, orders_for(shared.root.empties()))
 }
 
 // All is left.
 #[inline(never)]
-fn nothing(alloc: Global, scene: &Scene) -> (Gathered, Vec<Solved>)
-    ensures gathered { AreGathered scene.now.frontier.now scene.now.plan.scoring result.0 }
+fn nothing(alloc: Global, shared: &Search) -> (Gathered, Vec<Solved>)
+    ensures gathered { AreGathered shared.now.frontier.now shared.now.scoring result.0 }
     ensures lists { lists_of result.0.drawn ≡ [] }
 {
     let gathered = Gathered {
-        drawn: Drawn::nothing(alloc, scene.frontier.len()),
+        drawn: Drawn::nothing(alloc, shared.frontier.len()),
         replies: Vec::new(alloc),
     };
     (gathered, Vec::new(alloc))
 }
 
-// The hands are closed before anything is drawn with them.
-#[inline(never)]
-fn without_jobs(
-    alloc: Global,
-    scene: &Scene,
-    tasks: Tasks,
-    hands: Vec<Hand>,
-) -> (Gathered, Vec<Solved>)
-    requires hands { AreAllHands tasks hands.items }
-    requires count { count_of tasks ≡ length scene.now.frontier.now }
-    ensures gathered { AreGathered scene.now.frontier.now scene.now.plan.scoring result.0 }
-    ensures lists { length (lists_of result.0.drawn) ≡ length hands.items }
-{
-    let _items = scene.frontier.len();
-    let gathered = Gathered {
-        drawn: tasks.close(hands),
-        replies: Vec::new(alloc),
-    };
-    (gathered, Vec::new(alloc))
-}
-
-// What so many workers search with.
-fn walks_of<'w, 't>(
-    alloc: Global,
-    count: usize,
-    shared: Shared<'w>,
+// The workers, which have searched nothing yet.
+fn workers_of<'w, 't, R, G>(
+    means: &Means<R, G>,
+    shared: &Search,
+    links: Links<'w>,
     seat: &mut FloorSeat,
     table: &mut Option<TableAccess<'t>>,
-) -> Option<Vec<Walk<'w, WorkerCells<'t>>>>
-    requires { IsSeatOf shared.floor.now seat.old }
+) -> Option<Vec<Worker<'w, WorkerCells<'t>>>>
+    requires { IsSeatOf links.floor.now seat.old }
     ensures seat { LendsFloor seat.old seat.new }
     ensures table { LendsTable table.old table.new }
-    ensures many { IfSome result (λ walks. vec_len walks ≡ count) }
+    ensures many { IfSome result (λ workers. vec_len workers ≡ means.now.workers) }
 {
-    let Ok(mut walks) = Vec::with_capacity(alloc, count) else {
+    let alloc = means.alloc;
+    let Ok(mut workers) = Vec::with_capacity(alloc, means.workers as usize) else {
         return None;
     };
-    for _ in 0..count {
-        let Ok(own) = shared.floor.seat(alloc, seat) else {
+    for _ in 0..means.workers {
+        let Ok(own) = links.floor.seat(alloc, seat) else {
             return None;
         };
-        let root_bound = RootBound::of(shared.floor, own);
-        let hints = HintSeat::of(shared.hints);
-        let cells = WorkerCells::of(alloc, shared.plan, table);
-        walks.push_reserved(Walk::of(alloc, shared.plan, cells, root_bound, hints));
+        let root_bound = RootBound::of(links.floor, own);
+        let hints = HintSeat::of(links.hints);
+        let cells = WorkerCells::of(alloc, shared.root.empties(), shared.shape.sharing, table);
+        workers.push_reserved(Worker::of(alloc, cells, root_bound, hints));
     }
-    Some(walks)
+    Some(workers)
 }
 
 // A job for each hand.
 fn jobs_of<'w, C: Drop>(
     alloc: Global,
-    scene: &Scene,
+    shared: &Search,
     hands: Vec<Hand>,
-    mut walks: Vec<Walk<'w, C>>,
+    mut workers: Vec<Worker<'w, C>>,
     mut jobs: Vec<Job<'w, C>>,
 ) -> Vec<Job<'w, C>>
-    requires many { vec_len walks ≡ vec_len hands }
+    requires many { vec_len workers ≡ vec_len hands }
     requires room { (vec_len jobs ≡ 0) × (vec_len hands ≤ vec_capacity jobs) }
     ensures hands { map (λ j. j.work.hand) result.items ≡ hands.items }
-    ensures each { All (λ j. Holds scene.now.frontier.now scene.now.plan.scoring j.work) result.items }
+    ensures each { All (λ j. Holds shared.now.frontier.now shared.now.scoring j.work) result.items }
     ensures many { vec_len result ≡ vec_len hands }
 {
     for hand in hands {
-        let Some(walk) = walks.pop() else {
+        let Some(worker) = workers.pop() else {
             unreachable!()
         };
-        let replies = room_for(alloc, scene.frontier.len());
+        let replies = room_for(alloc, shared.frontier.len());
         let work = Work { hand, replies };
-        jobs.push_reserved(Job { work, walk });
+        jobs.push_reserved(Job { work, worker });
     }
     jobs
 }
@@ -244,17 +219,17 @@ fn jobs_of<'w, C: Drop>(
 // The jobs, when each has searched until nothing was left.
 fn run_jobs<'w, R: Threads + Sync, G: Gate, C: Cells + Send + Drop>(
     means: &Means<R, G>,
-    scene: &Scene,
+    shared: &Search,
     tasks: &Tasks,
     mut jobs: Vec<Job<'w, C>>,
 ) -> Vec<Job<'w, C>>
     requires hands { AreAllHands tasks.now (map (λ j. j.work.hand) jobs.items) }
-    requires each { All (λ j. Holds scene.now.frontier.now scene.now.plan.scoring j.work) jobs.items }
+    requires each { All (λ j. Holds shared.now.frontier.now shared.now.scoring j.work) jobs.items }
     ensures hands { AreAllHands tasks.now (map (λ j. j.work.hand) result.items) }
-    ensures each { All (λ j. Holds scene.now.frontier.now scene.now.plan.scoring j.work) result.items }
+    ensures each { All (λ j. Holds shared.now.frontier.now shared.now.scoring j.work) result.items }
     ensures many { vec_len result ≡ vec_len jobs.entry }
 {
-    work_all(means.rt, scene, tasks, means.gate, jobs.as_mut_slice());
+    work_all(means.rt, shared, tasks, means.gate, jobs.as_mut_slice());
     jobs
 }
 
@@ -269,15 +244,16 @@ pub(crate) fn room_for<T: Drop>(alloc: Global, count: u32) -> Vec<T>
 }
 
 // All replies of the jobs, as far as there is room for them.
-fn replies_of<'w, C>(scene: &Scene, jobs: &[Job<'w, C>], room: Vec<Reply>) -> Vec<Reply>
-    requires each { All (λ j. Holds scene.now.frontier.now scene.now.plan.scoring j.work) jobs.now }
-    requires room { room.items ≡ [] }
-    ensures replies { All (IsReplyOf scene.now.frontier.now scene.now.plan.scoring) result.items }
-    ensures once { (x : ℕ) → times x (numbers_of result.items) ≤ times_by x (map (λ j. j.work) jobs.now) }
+fn replies_of<'w, C>(jobs: &[Job<'w, C>], room: Vec<Reply>) -> Vec<Reply>
+    requires { room.items ≡ [] }
+    ensures replies { (items : List Item) (scoring : Scoring) → All (λ j. Holds items scoring j.work) jobs.now
+        → All (IsReplyOf items scoring) result.items }
+    ensures once { (items : List Item) (scoring : Scoring) → All (λ j. Holds items scoring j.work) jobs.now
+        → (x : ℕ) → times x (numbers_of result.items) ≤ times_by x (map (λ j. j.work) jobs.now) }
 {
     let mut replies = room;
     for job in jobs {
-        take_all(scene, &mut replies, job.work.replies.as_slice());
+        let _ = replies.extend_from_slice(job.work.replies.as_slice());
     }
     replies
 }
@@ -286,9 +262,7 @@ fn replies_of<'w, C>(scene: &Scene, jobs: &[Job<'w, C>], room: Vec<Reply>) -> Ve
 fn found_by_workers<'w, C>(alloc: Global, jobs: &[Job<'w, C>]) -> Vec<Solved> {
     let mut found = Vec::new(alloc);
     for job in jobs {
-        for solved in job.walk.found.as_slice() {
-            let _ = found.push(*solved);
-        }
+        let _ = found.extend_from_slice(job.worker.found.as_slice());
     }
     found
 }
@@ -299,36 +273,9 @@ fn hands_in<'w, C: Drop>(mut room: Vec<Hand>, jobs: Vec<Job<'w, C>>) -> Vec<Hand
     ensures { result.items ≡ map (λ j. j.work.hand) jobs.entry.items }
 {
     for job in jobs {
-        let Job { work, walk: _ } = job;
+        let Job { work, worker: _ } = job;
         let Work { hand, replies: _ } = work;
         room.push_reserved(hand);
     }
     room
-}
-
-// Adds these replies, as far as there is room.
-fn take_all(scene: &Scene, replies: &mut Vec<Reply>, more: &[Reply])
-    requires old { All (IsReplyOf scene.now.frontier.now scene.now.plan.scoring) replies.old.items }
-    requires more { All (IsReplyOf scene.now.frontier.now scene.now.plan.scoring) more.now }
-    ensures all { All (IsReplyOf scene.now.frontier.now scene.now.plan.scoring) replies.new.items }
-    ensures once { (x : ℕ) → times x (numbers_of replies.new.items)
-        ≤ times x (numbers_of replies.old.items) + times x (numbers_of more.now) }
-{
-    for reply in more {
-        take_one(scene, replies, reply);
-    }
-}
-
-// Adds a reply, if there is room for it.
-fn take_one(scene: &Scene, replies: &mut Vec<Reply>, reply: &Reply)
-    requires old { All (IsReplyOf scene.now.frontier.now scene.now.plan.scoring) replies.old.items }
-    requires one { IsReplyOf scene.now.frontier.now scene.now.plan.scoring reply.now }
-    ensures all { All (IsReplyOf scene.now.frontier.now scene.now.plan.scoring) replies.new.items }
-    ensures once { (x : ℕ) → times x (numbers_of replies.new.items)
-        ≤ times x (numbers_of replies.old.items) + times x (numbers_of (reply.now ∷ [])) }
-{
-    let _items = scene.frontier.len();
-    if replies.len() < replies.capacity() {
-        replies.push_reserved(*reply);
-    }
 }

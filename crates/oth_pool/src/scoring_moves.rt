@@ -16,7 +16,7 @@ use oth_book::Book;
 use oth_rules::{Board, Scoring};
 use oth_search::{NoCells, Scores, Solved, answer_by};
 use oth_table::SharedTable;
-use oth_walk::{Gate, Plan, TableAccess};
+use oth_walk::{Gate, TableAccess};
 use std::alloc::Global;
 use std::thread::Threads;
 
@@ -99,11 +99,5 @@ fn replies_over<'t, R: Threads + Sync, G: Gate>(
     if queue.len() < crewed.workers as usize {
         return valued_together(&crewed, &queue, access);
     }
-    let shared = Plan::of(scoring, board.empties(), access.is_some());
-    let plan = if crewed.workers == 1 {
-        shared.for_one()
-    } else {
-        shared
-    };
-    valued_apart(&crewed, &queue, plan, access)
+    valued_apart(&crewed, &queue, board.empties(), access)
 }

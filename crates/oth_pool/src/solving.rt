@@ -21,7 +21,8 @@ use oth_search::{
 };
 use oth_table::{SharedTable, is_size};
 use oth_walk::{
-    Gate, HintSeat, Plan, RootBound, Scene, TableAccess, Walk, WorkerCells, is_settled, search_item,
+    Gate, HintSeat, RootBound, RootMove, Search, Sharing, TableAccess, Worker, WorkerCells,
+    is_settled, search_item,
 };
 use std::alloc::Global;
 use std::thread::Threads;
@@ -200,25 +201,26 @@ fn answer_by_items<'t, R: Threads + Sync, G: Gate>(
     ensures scoring { result.scoring ≡ by_book.now.scoring }
 {
     let squares = order(&by_book.board);
-    let plan = Plan::of(by_book.scoring, by_book.board.empties(), access.is_some());
-    let scene = Scene {
+    let sharing = Sharing::of_several(access.is_some());
+    let shared = Search::of(
+        by_book.board,
+        by_book.scoring,
+        squares.as_slice(),
         frontier,
-        root: by_book.board,
-        squares: squares.as_slice(),
-        plan,
-    };
+        sharing,
+    );
     if means.workers > 1 {
-        if let Some(answer) = answer_together(means, &scene, by_book, access) {
+        if let Some(answer) = answer_together(means, &shared, by_book, access) {
             return answer;
         }
     }
-    answer_alone(means, &scene, by_book, access)
+    answer_alone(means, &shared, by_book, access)
 }
 
 // The answer by the caller alone, where it is the only worker or there is no memory for a floor.
 fn answer_alone<'t, R: Threads + Sync, G: Gate>(
     means: &Means<R, G>,
-    scene: &Scene,
+    shared: &Search,
     by_book: &Solved,
     access: &mut Option<TableAccess<'t>>,
 ) -> Answer
@@ -226,8 +228,8 @@ fn answer_alone<'t, R: Threads + Sync, G: Gate>(
     ensures board { result.board ≡ by_book.now.board }
     ensures scoring { result.scoring ≡ by_book.now.scoring }
 {
-    let mut cells = WorkerCells::of(means.alloc, scene.plan.for_one(), access);
-    let mut announcer = Announcer::of(scene, means.gate);
+    let mut cells = WorkerCells::of(means.alloc, shared.root.empties(), Sharing::Alone, access);
+    let mut announcer = Announcer::of(shared, means.gate);
     let answer = solve_moves(*by_book, &[], &mut cells, &mut announcer);
     announcer.finish();
     answer
@@ -237,7 +239,7 @@ fn answer_alone<'t, R: Threads + Sync, G: Gate>(
 // no memory for a floor.
 fn answer_together<'t, R: Threads + Sync, G: Gate>(
     means: &Means<R, G>,
-    scene: &Scene,
+    shared: &Search,
     by_book: &Solved,
     access: &mut Option<TableAccess<'t>>,
 ) -> Option<Answer>
@@ -248,20 +250,14 @@ fn answer_together<'t, R: Threads + Sync, G: Gate>(
 {
     let alloc = means.alloc;
     let (floor, mut seat) = raised_floor(alloc, by_book)?;
-    let (gathered, found) = run(means, scene, &floor, &mut seat, access);
-    let cells = WorkerCells::of(alloc, scene.plan, access);
-    let mut walk = Walk::of(
-        alloc,
-        scene.plan,
-        cells,
-        RootBound::of(&floor, seat),
-        HintSeat::none(),
-    );
-    walk.found = found;
-    let replies = replies_of(scene, &gathered, means.gate, &mut walk);
-    let children = children_of(scene, replies.as_slice(), &mut walk);
-    let root = by_book.joined(&walk.root());
-    let mut cells = walk.into_cells();
+    let (gathered, found) = run(means, shared, &floor, &mut seat, access);
+    let cells = WorkerCells::of(alloc, shared.root.empties(), shared.shape.sharing, access);
+    let mut worker = Worker::of(alloc, cells, RootBound::of(&floor, seat), HintSeat::none());
+    worker.found = found;
+    let replies = replies_of(means, shared, &gathered, &mut worker);
+    let children = children_of(alloc, shared, replies.as_slice(), &mut worker);
+    let root = by_book.joined(&worker.root());
+    let mut cells = worker.into_cells();
     Some(solve_moves(root, children.as_slice(), &mut cells, &mut Unobserved))
 }
 
@@ -278,19 +274,19 @@ fn raised_floor(alloc: Global, by_book: &Solved) -> Option<(Floor, FloorSeat)>
 }
 
 // What the workers found of the items, and the caller of those that none took, as far as there is room for it.
-fn replies_of<G: Gate, C: Cells>(
-    scene: &Scene,
+fn replies_of<R, G: Gate, C: Cells>(
+    means: &Means<R, G>,
+    shared: &Search,
     gathered: &Gathered,
-    gate: &G,
-    walk: &mut Walk<C>,
+    worker: &mut Worker<C>,
 ) -> Vec<Solved> {
-    let mut replies = room_for(walk.alloc, scene.frontier.len());
+    let mut replies = room_for(means.alloc, shared.frontier.len());
     for reply in gathered.replies.as_slice() {
         let _ = replies.push(reply.solved);
     }
     for number in gathered.drawn.left.as_slice() {
-        if let Some(item) = scene.frontier.entry(*number) {
-            let _ = replies.push(search_item(scene, *number, &item, gate, walk));
+        if let Some(item) = shared.frontier.entry(*number) {
+            let _ = replies.push(search_item(shared, *number, &item, means.gate, worker));
         }
     }
     replies
@@ -298,17 +294,23 @@ fn replies_of<G: Gate, C: Cells>(
 
 // What is known of the boards after the root's moves, by what workers found of them, and by the replies where that
 // leaves something open. The floor is raised by each.
-fn children_of<C: Cells>(scene: &Scene, replies: &[Solved], walk: &mut Walk<C>) -> Vec<Solved> {
-    let mut children = room_for(walk.alloc, 64);
-    for square in scene.squares {
-        if let Some(child) = scene.root.play(*square) {
-            let by_workers = joined_bounds(child, walk.found.as_slice(), scene.plan.scoring);
-            let bounds = if is_settled(&by_workers, walk.floor()) {
+fn children_of<C: Cells>(
+    alloc: Global,
+    shared: &Search,
+    replies: &[Solved],
+    worker: &mut Worker<C>,
+) -> Vec<Solved> {
+    let mut children = room_for(alloc, 64);
+    for square in shared.squares {
+        if let Some(root_move) = RootMove::of(&*shared, *square) {
+            let child = root_move.child;
+            let by_workers = joined_bounds(child, worker.found.as_slice(), shared.scoring);
+            let bounds = if is_settled(&by_workers, worker.floor()) {
                 by_workers
             } else {
-                by_workers.joined(&known_below(child, 1, replies, scene.plan.scoring))
+                by_workers.joined(&known_below(child, 1, replies, shared.scoring))
             };
-            walk.raise_by(&scene.root, *square, &bounds);
+            worker.raise_by(&root_move, &bounds);
             let _ = children.push(bounds);
         }
     }

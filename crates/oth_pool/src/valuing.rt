@@ -11,7 +11,7 @@ use crate::solving::{answer_over, crew, frontier_of};
 use arrayvec::ArrayVec;
 use oth_pieces::{Frontier, awake};
 use oth_search::{Cells, Interval, Solved, ended, order, value_of};
-use oth_walk::{Gate, Plan, Scene, TableAccess, WorkerCells};
+use oth_walk::{Gate, Search, Sharing, TableAccess, WorkerCells};
 use std::thread::Threads;
 
 // What one worker searches over, and the boards that it has valued.
@@ -21,22 +21,22 @@ struct Valuer<'t> {
     valued: ArrayVec<Solved, 64>,
 }
 
-/// The boards of the queue with their values, each by one worker: it takes the next board until there is none. What
-/// they leave where they are out of memory the caller values.
+/// The boards of the queue, with so many empty squares and less, with their values, each by one worker: it takes the
+/// next board until there is none. What they leave where they are out of memory the caller values.
 pub(crate) fn valued_apart<'t, R: Threads + Sync, G: Gate>(
     means: &Means<R, G>,
     queue: &Queue,
-    plan: Plan,
+    empties: u8,
     access: &mut Option<TableAccess<'t>>,
 ) -> ArrayVec<Solved, 64> {
-    let mut valuers = valuers_of(means, plan, access);
+    let mut valuers = valuers_of(means, empties, access);
     for_each_at_once(
         means.rt,
         &|valuer: &mut Valuer| { value_next_ones(means, queue, valuer) },
         valuers.as_mut_slice(),
     );
     let mut last = Valuer {
-        cells: WorkerCells::of(means.alloc, plan, access),
+        cells: cells_of(means, empties, access),
         valued: valued_by(valuers.as_slice()),
     };
     value_next_ones(means, queue, &mut last);
@@ -64,18 +64,32 @@ pub(crate) fn valued_together<'t, R: Threads + Sync, G: Gate>(
 // So many workers as there are, as far as there is memory for them.
 fn valuers_of<'t, R, G>(
     means: &Means<R, G>,
-    plan: Plan,
+    empties: u8,
     access: &mut Option<TableAccess<'t>>,
 ) -> Vec<Valuer<'t>> {
     let mut valuers = room_for(means.alloc, u32::from(means.workers));
     for _ in 0..means.workers {
         let valuer = Valuer {
-            cells: WorkerCells::of(means.alloc, plan, access),
+            cells: cells_of(means, empties, access),
             valued: ArrayVec::new(),
         };
         let _ = valuers.push(valuer);
     }
     valuers
+}
+
+// What a worker searches over that values boards after a root with so many empty squares.
+fn cells_of<'t, R, G>(
+    means: &Means<R, G>,
+    empties: u8,
+    access: &mut Option<TableAccess<'t>>,
+) -> WorkerCells<'t> {
+    let sharing = if means.workers == 1 {
+        Sharing::Alone
+    } else {
+        Sharing::of_several(access.is_some())
+    };
+    WorkerCells::of(means.alloc, empties, sharing, access)
 }
 
 // Values the next boards of the queue, until all are taken.
@@ -144,13 +158,14 @@ fn value_by_items<R, G: Gate, C: Cells>(
 ) -> Solved {
     let (root, _) = awake(by_book.board);
     let squares = order(&root);
-    let scene = Scene {
-        frontier,
+    let shared = Search::of(
         root,
-        squares: squares.as_slice(),
-        plan: Plan::of(by_book.scoring, root.empties(), false),
-    };
-    let mut announcer = Announcer::of(&scene, means.gate);
+        by_book.scoring,
+        squares.as_slice(),
+        frontier,
+        Sharing::Alone,
+    );
+    let mut announcer = Announcer::of(&shared, means.gate);
     let valued = value_of(by_book, sibling, cells, &mut announcer);
     announcer.finish();
     valued

@@ -1,6 +1,6 @@
 //! What one worker has of its own.
 use oth_pieces::{Hand, Reply};
-use oth_walk::Walk;
+use oth_walk::Worker;
 
 /// What a worker draws with, and its replies.
 #[derive(Drop)]
@@ -13,5 +13,5 @@ pub struct Work {
 #[derive(Drop)]
 pub(crate) struct Job<'w, C> {
     pub work: Work,
-    pub walk: Walk<'w, C>,
+    pub worker: Worker<'w, C>,
 }

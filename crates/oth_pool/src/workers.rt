@@ -7,67 +7,67 @@ use crate::at_once::for_each_at_once;
 use crate::work::{Job, Work};
 use oth_pieces::{Reply, Tasks};
 use oth_search::Cells;
-use oth_walk::{Gate, Scene, Walk, search_item, settle_all};
+use oth_walk::{Gate, Search, Worker, search_item, settle_all};
 use std::thread::Threads;
 
 /// Lets each job search items until no number is left and no move of the root is open, in a thread of its own where one
 /// can be made.
 pub(crate) fn work_all<'w, R: Threads + Sync, G: Gate, C: Cells + Send>(
     rt: &R,
-    scene: &Scene,
+    shared: &Search,
     tasks: &Tasks,
     gate: &G,
     jobs: &mut [Job<'w, C>],
 )
     requires { (i : ℕ) (d : Job C) → i < length jobs.old
-        → CanWork scene.now.frontier.now scene.now.plan.scoring tasks.now (slice_index_or jobs.old i d).work }
+        → CanWork shared.now.frontier.now shared.now.scoring tasks.now (slice_index_or jobs.old i d).work }
     ensures works { (i : ℕ) (d : Job C) → i < length jobs.old
-        → CanWork scene.now.frontier.now scene.now.plan.scoring tasks.now (slice_index_or jobs.new i d).work }
+        → CanWork shared.now.frontier.now shared.now.scoring tasks.now (slice_index_or jobs.new i d).work }
     ensures numbers { (i : ℕ) (d : Job C) → i < length jobs.old
         → number_of (slice_index_or jobs.new i d).work.hand ≡ number_of (slice_index_or jobs.old i d).work.hand }
 {
     for_each_at_once(
         rt,
         &|job: &mut Job<C>|
-            requires { CanWork scene.now.frontier.now scene.now.plan.scoring tasks.now job.old.work }
-            ensures works { CanWork scene.entry.now.frontier.now scene.entry.now.plan.scoring
+            requires { CanWork shared.now.frontier.now shared.now.scoring tasks.now job.old.work }
+            ensures works { CanWork shared.entry.now.frontier.now shared.entry.now.scoring
                 tasks.entry.now job.new.work }
             ensures number { number_of job.new.work.hand ≡ number_of job.old.work.hand }
-        { search_all(scene, tasks, gate, &mut job.work, &mut job.walk) },
+        { search_all(shared, tasks, gate, &mut job.work, &mut job.worker) },
         jobs,
     );
 }
 
 // Searches items until no number is left, and then what is open of the root's moves.
 fn search_all<G: Gate, C: Cells>(
-    scene: &Scene,
+    shared: &Search,
     tasks: &Tasks,
     gate: &G,
     work: &mut Work,
-    walk: &mut Walk<C>,
+    worker: &mut Worker<C>,
 )
-    requires { CanWork scene.now.frontier.now scene.now.plan.scoring tasks.now work.old }
-    ensures works { CanWork scene.now.frontier.now scene.now.plan.scoring tasks.now work.new }
+    requires { CanWork shared.now.frontier.now shared.now.scoring tasks.now work.old }
+    ensures works { CanWork shared.now.frontier.now shared.now.scoring tasks.now work.new }
     ensures number { number_of work.new.hand ≡ number_of work.old.hand }
 {
     for _ in 0..u64::MAX {
-        if !search_next(scene, tasks, gate, work, walk) {
+        if !search_next(shared, tasks, gate, work, worker) {
             break;
         }
     }
-    settle_all(scene, gate, walk);
+    settle_all(shared, gate, worker);
 }
 
 // Draws a number and searches its item. False where there is none.
 fn search_next<G: Gate, C: Cells>(
-    scene: &Scene,
+    shared: &Search,
     tasks: &Tasks,
     gate: &G,
     work: &mut Work,
-    walk: &mut Walk<C>,
+    worker: &mut Worker<C>,
 ) -> bool
-    requires { CanWork scene.now.frontier.now scene.now.plan.scoring tasks.now work.old }
-    ensures works { CanWork scene.now.frontier.now scene.now.plan.scoring tasks.now work.new }
+    requires { CanWork shared.now.frontier.now shared.now.scoring tasks.now work.old }
+    ensures works { CanWork shared.now.frontier.now shared.now.scoring tasks.now work.new }
     ensures number { number_of work.new.hand ≡ number_of work.old.hand }
 {
     if work.replies.len() >= work.replies.capacity() {
@@ -76,10 +76,10 @@ fn search_next<G: Gate, C: Cells>(
     let Some(number) = tasks.draw(&mut work.hand) else {
         return false;
     };
-    let Some(item) = scene.frontier.entry(number) else {
+    let Some(item) = shared.frontier.entry(number) else {
         return false;
     };
-    let solved = search_item(scene, number, &item, gate, walk);
+    let solved = search_item(shared, number, &item, gate, worker);
     work.replies.push_reserved(Reply { number, solved });
     true
 }

@@ -16,7 +16,7 @@ use oth_rules::samples::board;
 use oth_rules::{Board, Scoring, Square};
 use oth_search::{Answer, Cells, Kind};
 use oth_table::SharedTable;
-use oth_walk::Plan;
+use oth_walk::Sharing;
 use std::alloc::Global;
 use std::test::Fail;
 use std::thread::Threads;
@@ -86,7 +86,7 @@ fn workers_search_over_the_table(rt: HostRuntime) -> Result<(), Fail> {
         &Open,
     );
     assert!(rt; found.drawn.left.is_empty() && found.replies.len() == 2);
-    let mut cells = WorkerCells::of(rt.alloc(), Plan::of(Scoring::Winner, 0, false), &mut access);
+    let mut cells = WorkerCells::of(rt.alloc(), 0, Sharing::Apart, &mut access);
     let mut whole = false;
     for number in [1, 7] {
         if let Some(child) = a.play(Square::numbered(number)) {

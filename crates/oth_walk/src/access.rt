@@ -4,7 +4,7 @@ ghost use Rattle.oth_rules.specs.Symmetry.{IsCanonical};
 ghost use Rattle.oth_table.specs.SharedTable.{IsSeatOf};
 ghost use Rattle.oth_walk.specs.Lending.{LendsSeat, LendsTable};
 
-use crate::scene::Plan;
+use crate::shared::Sharing;
 use oth_rules::{Board, Scoring};
 use oth_search::{Cells, Entry, Memories, Solved};
 use oth_table::{SharedTable, TableCells, TableSeat};
@@ -67,11 +67,17 @@ pub struct WorkerCells<'t> {
 }
 
 impl<'t> WorkerCells<'t> {
-    /// Cells of the table, where there is one and a seat of it can be had.
-    pub fn of(alloc: Global, plan: Plan, access: &mut Option<TableAccess<'t>>) -> WorkerCells<'t>
+    /// Cells of the table, where there is one and a seat of it can be had, for the search of a root with so many empty
+    /// squares.
+    pub fn of(
+        alloc: Global,
+        empties: u8,
+        sharing: Sharing,
+        access: &mut Option<TableAccess<'t>>,
+    ) -> WorkerCells<'t>
         ensures lends { LendsTable access.old access.new }
     {
-        let memories = Memories::of(alloc, plan.root, plan.is_alone());
+        let memories = Memories::of(alloc, empties, sharing.is_alone());
         match access {
             Some(access) => WorkerCells {
                 cells: access.cells(alloc),

@@ -3,8 +3,9 @@
 ghost use Rattle.std.specs.Prelude.{pos, negsuc, ◌≤ℤ◌};
 
 use crate::move_order::beginning_with;
+use crate::shared::Search;
 use crate::tuning::{CLOSE, FIRST_STEP, GLANCE_ROUNDS, TURNS};
-use crate::walk::Walk;
+use crate::worker::Worker;
 use oth_rules::{Board, Square};
 use oth_search::{Cells, NullWindow, seeming_value};
 
@@ -27,8 +28,8 @@ impl Guess {
 }
 
 /// The score that the root seems to reach and its move, or what another worker has told of them meanwhile.
-pub(crate) fn glance<C: Cells>(root: &Board, walk: &mut Walk<C>) -> Guess {
-    let squares = walk.order(root);
+pub(crate) fn glance<C: Cells>(shared: &Search, worker: &mut Worker<C>) -> Guess {
+    let squares = worker.order(&shared.root);
     let mut best = match squares.first() {
         Some(square) => *square,
         None => Square::numbered(0),
@@ -37,8 +38,8 @@ pub(crate) fn glance<C: Cells>(root: &Board, walk: &mut Walk<C>) -> Guess {
     for _ in 0..GLANCE_ROUNDS {
         let score = range.next();
         let ordered = beginning_with(Some(best), squares.as_slice());
-        let found = reaching(root, ordered.as_slice(), score, walk);
-        if let Some(told) = walk.told_guess() {
+        let found = reaching(shared, ordered.as_slice(), score, worker);
+        if let Some(told) = worker.told_guess() {
             return told;
         }
         range = range.after(score, found.is_some());
@@ -129,33 +130,34 @@ fn later(before: Square, found: Option<Square>) -> Square {
 
 // The first of these moves of the root by which it seems to reach the score. All workers begin with the first one.
 fn reaching<C: Cells>(
-    root: &Board,
+    shared: &Search,
     squares: &[Square],
     score: i8,
-    walk: &mut Walk<C>,
+    worker: &mut Worker<C>,
 ) -> Option<Square>
     requires low { negsuc 62 ≤ℤ score }
     requires high { score ≤ℤ pos 64 }
 {
+    let root = &shared.root;
     let mut seen = 0;
     for turn in 0..TURNS {
         for (place, square) in squares.iter().enumerate() {
             if let Some(child) = root.play(*square) {
-                let is_next = turn > 0 || place == 0 || !walk.is_left(&child);
+                let is_next = turn > 0 || place == 0 || !worker.is_left(&child, shared);
                 if seen & square.word() == 0 && is_next {
                     seen |= square.word();
-                    if seems_reached(&child, score, walk) {
-                        walk.tell_seen(root, score, true);
+                    if seems_reached(&child, score, shared, worker) {
+                        worker.tell_seen(root, score, true);
                         return Some(*square);
                     }
-                    if walk.seen(root, score).is_some() {
-                        return told_of(root, squares, score, walk);
+                    if worker.seen(root, score).is_some() {
+                        return told_of(root, squares, score, worker);
                     }
                 }
             }
         }
     }
-    walk.tell_seen(root, score, false);
+    worker.tell_seen(root, score, false);
     None
 }
 
@@ -164,11 +166,11 @@ fn told_of<C: Cells>(
     root: &Board,
     squares: &[Square],
     score: i8,
-    walk: &mut Walk<C>,
+    worker: &mut Worker<C>,
 ) -> Option<Square> {
     for square in squares {
         if let Some(child) = root.play(*square) {
-            if walk.seen(&child, score) == Some(true) {
+            if worker.seen(&child, score) == Some(true) {
                 return Some(*square);
             }
         }
@@ -177,40 +179,45 @@ fn told_of<C: Cells>(
 }
 
 // Whether the root seems to reach the score by the move to this child.
-fn seems_reached<C: Cells>(child: &Board, score: i8, walk: &mut Walk<C>) -> bool
+fn seems_reached<C: Cells>(
+    child: &Board,
+    score: i8,
+    shared: &Search,
+    worker: &mut Worker<C>,
+) -> bool
     requires low { negsuc 62 ≤ℤ score }
     requires high { score ≤ℤ pos 64 }
 {
-    if let Some(told) = walk.seen(child, score) {
+    if let Some(told) = worker.seen(child, score) {
         return told;
     }
-    walk.begin(child);
+    worker.begin(child);
     let found = if child.can_move() {
-        all_leave(child, score, walk)
+        all_leave(child, score, shared, worker)
     } else {
-        leaves(&child.pass(), score, walk)
+        leaves(&child.pass(), score, shared, worker)
     };
-    walk.tell_seen(child, score, found);
-    walk.end(child);
+    worker.tell_seen(child, score, found);
+    worker.end(child);
     found
 }
 
 // Whether each reply to the child seems to leave the root the score.
-fn all_leave<C: Cells>(child: &Board, score: i8, walk: &mut Walk<C>) -> bool
+fn all_leave<C: Cells>(child: &Board, score: i8, shared: &Search, worker: &mut Worker<C>) -> bool
     requires low { negsuc 62 ≤ℤ score }
     requires high { score ≤ℤ pos 64 }
 {
-    let squares = walk.order(child);
+    let squares = worker.order(child);
     let mut seen = 0;
     for turn in 0..TURNS {
         for square in squares.as_slice() {
             if let Some(reply) = child.play(*square) {
-                if seen & square.word() == 0 && (turn > 0 || !walk.is_left(&reply)) {
+                if seen & square.word() == 0 && (turn > 0 || !worker.is_left(&reply, shared)) {
                     seen |= square.word();
-                    if !leaves(&reply, score, walk) {
+                    if !leaves(&reply, score, shared, worker) {
                         return false;
                     }
-                    if let Some(told) = walk.seen(child, score) {
+                    if let Some(told) = worker.seen(child, score) {
                         return told;
                     }
                 }
@@ -221,18 +228,18 @@ fn all_leave<C: Cells>(child: &Board, score: i8, walk: &mut Walk<C>) -> bool
 }
 
 // Whether this board, where the root's mover is on the move, seems to have the score.
-fn leaves<C: Cells>(reply: &Board, score: i8, walk: &mut Walk<C>) -> bool
+fn leaves<C: Cells>(reply: &Board, score: i8, shared: &Search, worker: &mut Worker<C>) -> bool
     requires low { negsuc 62 ≤ℤ score }
     requires high { score ≤ℤ pos 64 }
 {
-    if let Some(told) = walk.seen(reply, score) {
+    if let Some(told) = worker.seen(reply, score) {
         return told;
     }
-    walk.begin(reply);
+    worker.begin(reply);
     let window = NullWindow::at(score);
-    let value = seeming_value(*reply, window.alpha, &mut walk.cells, walk.plan.scoring);
+    let value = seeming_value(*reply, window.alpha, &mut worker.cells, shared.scoring);
     let found = window.is_reached(value);
-    walk.tell_seen(reply, score, found);
-    walk.end(reply);
+    worker.tell_seen(reply, score, found);
+    worker.end(reply);
     found
 }

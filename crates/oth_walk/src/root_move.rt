@@ -1,26 +1,29 @@
 //! A move of the root, searched until it needs no further search.
-ghost use Rattle.std.specs.Prelude.{◌≡◌, pos, negsuc, ◌≤ℤ◌};
+ghost use Rattle.std.specs.Prelude.{◌≡◌, pos, negsuc, ◌≤ℤ◌, IfSome};
 
+use crate::shared::Search;
 use crate::tuning::{MOST_IN_VAIN, MOST_WINDOWS};
-use crate::walk::Walk;
 use crate::window::{Pace, is_settled, shared_window};
+use crate::worker::Worker;
 use oth_rules::{Board, Square};
 use oth_search::{Cells, Interval, NullWindow, Solved, known_below};
 
-/// A move of the root, and the board after it.
+/// A move of the root of a search, and the board after it.
 #[derive(Clone, Copy)]
-pub struct RootMove {
-    pub root: Board,
+pub struct RootMove<'s> {
+    pub shared: &'s Search<'s>,
     pub square: Square,
     pub child: Board,
 }
 
-impl RootMove {
+impl<'s> RootMove<'s> {
     /// The root's move to this square, where it is legal.
-    pub fn of(root: Board, square: Square) -> Option<RootMove> {
-        let child = root.play(square)?;
+    pub fn of(shared: &'s Search<'s>, square: Square) -> Option<RootMove<'s>>
+        ensures { IfSome result (λ m. m.shared.now ≡ shared.now) }
+    {
+        let child = shared.root.play(square)?;
         Some(RootMove {
-            root,
+            shared,
             square,
             child,
         })
@@ -28,54 +31,52 @@ impl RootMove {
 
     /// Searches the board after the move until it is settled: its value is known, or that the root gets less than the
     /// floor by it.
-    pub fn settle<C: Cells>(&self, walk: &mut Walk<C>) {
-        if walk.is_settled(self.square) {
+    pub fn settle<C: Cells>(&self, worker: &mut Worker<C>) {
+        if worker.is_settled(self.square) {
             return;
         }
-        walk.begin(&self.child);
-        let found = self.pursue(walk);
-        walk.end(&self.child);
-        walk.keep(self.square, found);
+        worker.begin(&self.child);
+        let found = self.pursue(worker);
+        worker.end(&self.child);
+        worker.keep(self.square, found);
     }
 
     /// Asks whether the root reaches the score by the move, unless that is known, and tells the others. What the root
     /// gets by it at most.
-    pub(crate) fn ask<C: Cells>(&self, score: i8, walk: &mut Walk<C>) -> i8
+    pub(crate) fn ask<C: Cells>(&self, score: i8, worker: &mut Worker<C>) -> i8
         requires low { negsuc 62 ≤ℤ score }
         requires high { score ≤ℤ pos 64 }
     {
-        let known = walk.look_up(&self.child);
+        let known = worker.look_up(&self.child, self.shared.scoring);
         if known.interval.lower > -score {
             return -known.interval.lower;
         }
-        walk.go_on(self.square, -64);
-        walk.begin(&self.child);
-        let found = walk.narrow(&known, NullWindow::at(1 - score));
-        walk.put(&found);
-        walk.raise_by(&self.root, self.square, &found);
-        walk.end(&self.child);
+        worker.begin(&self.child);
+        let found = worker.narrow(self, -64, &known, NullWindow::at(1 - score));
+        worker.put(&found);
+        worker.raise_by(self, &found);
+        worker.end(&self.child);
         -lower_of(&found)
     }
 
     // What is found of the board after the move, until it is settled by this worker or another. The others learn it by
     // the cells.
-    fn pursue<C: Cells>(&self, walk: &mut Walk<C>) -> Solved {
-        let mut found = walk.look_up(&self.child);
+    fn pursue<C: Cells>(&self, worker: &mut Worker<C>) -> Solved {
+        let mut found = worker.look_up(&self.child, self.shared.scoring);
         let mut pace = Pace::new();
         let mut vain = 0u8;
         for _ in 0..MOST_WINDOWS {
-            let least = walk.floor();
-            if vain == MOST_IN_VAIN || walk.is_settled(self.square) || is_settled(&found, least) {
+            let least = worker.floor();
+            if vain == MOST_IN_VAIN || worker.is_settled(self.square) || is_settled(&found, least) {
                 return found;
             }
-            walk.go_on(self.square, least);
             let before = found.interval;
-            let window = self.window(before, least, pace, walk);
-            found = walk.narrow(&found, window);
-            walk.put(&found);
-            walk.raise_by(&self.root, self.square, &found);
+            let window = self.window(before, least, pace, worker);
+            found = worker.narrow(self, least, &found, window);
+            worker.put(&found);
+            worker.raise_by(self, &found);
             pace = pace.after(before, found.interval);
-            if found.interval == before && walk.floor() == least {
+            if found.interval == before && worker.floor() == least {
                 vain = vain.saturating_add(1);
             }
         }
@@ -89,7 +90,7 @@ impl RootMove {
         found: Interval,
         least: i8,
         pace: Pace,
-        walk: &mut Walk<C>,
+        worker: &mut Worker<C>,
     ) -> NullWindow
         requires low { negsuc 63 ≤ℤ least }
         requires high { least ≤ℤ pos 64 }
@@ -97,8 +98,8 @@ impl RootMove {
         if least > -64 && found.upper > -least {
             return NullWindow::at(1 - least);
         }
-        let guess = walk.guess(&self.root);
-        if walk.plan.guesses() {
+        let guess = worker.guess(self.shared);
+        if self.shared.guesses() {
             return shared_window(found, -guess.score);
         }
         if found == Interval::all() {
@@ -108,34 +109,37 @@ impl RootMove {
     }
 
     /// Searches a reply to the move as far as it tells something of the root, and tells the others what it alone tells.
-    pub(crate) fn search_reply<C: Cells>(&self, board: Board, walk: &mut Walk<C>) -> Solved {
-        let known = walk.look_up(&self.child);
-        let least = walk.floor();
+    pub(crate) fn search_reply<C: Cells>(&self, board: Board, worker: &mut Worker<C>) -> Solved
+        ensures board { result.board ≡ board }
+        ensures scoring { result.scoring ≡ self.now.shared.now.scoring }
+    {
+        let known = worker.look_up(&self.child, self.shared.scoring);
+        let least = worker.floor();
         if is_settled(&known, least) {
-            return walk.look_up(&board);
+            return worker.look_up(&board, self.shared.scoring);
         }
-        walk.go_on(self.square, least);
-        let aim = walk.aim(&self.root);
+        let aim = worker.aim(self.shared);
         if known.interval.lower > -aim {
-            return walk.look_up(&board);
+            return worker.look_up(&board, self.shared.scoring);
         }
-        walk.begin(&board);
-        let found = walk.narrow(&walk.unknown(board), NullWindow::at(aim));
-        walk.end(&board);
-        self.share(&found, walk);
+        worker.begin(&board);
+        let unknown = Solved::unknown(board, self.shared.scoring);
+        let found = worker.narrow(self, least, &unknown, NullWindow::at(aim));
+        worker.end(&board);
+        self.share(&found, worker);
         found
     }
 
     // Tells the others what the solved board, one ply below the child, alone tells: of the child by the cells, and of
     // the root by the floor.
-    fn share<C: Cells>(&self, solved: &Solved, walk: &mut Walk<C>) {
+    fn share<C: Cells>(&self, solved: &Solved, worker: &mut Worker<C>) {
         if solved.interval == Interval::all() {
             return;
         }
         let known = known_below(self.child, 1, &[*solved], solved.scoring);
-        walk.put(&known);
-        walk.raise_by(&self.root, self.square, &known);
-        walk.keep(self.square, known);
+        worker.put(&known);
+        worker.raise_by(self, &known);
+        worker.keep(self.square, known);
     }
 }
 

@@ -6,10 +6,10 @@ ghost use Rattle.std.specs.Prelude.{◌≡◌, pos, negsuc, ◌≤ℤ◌};
 use crate::hints::HintSeat;
 use crate::move_order::MoveOrder;
 use crate::root_bound::RootBound;
-use crate::scene::Plan;
+use crate::shared::Search;
 use crate::tuning::{CHILDREN_TOGETHER, FEW_TOGETHER, FEWEST_EMPTIES_PREFERRED, SMALL};
 use arrayvec::ArrayVec;
-use oth_rules::{Board, Square};
+use oth_rules::{Board, Scoring, Square};
 use oth_search::{Cells, Company, NullWindow, Solved, order};
 use std::alloc::Global;
 
@@ -23,14 +23,10 @@ struct Goal {
 /// The floor and the hints as one worker has them, and its searches that are under way.
 #[derive(Drop)]
 pub(crate) struct Way<'w> {
-    alloc: Global,
-    plan: Plan,
+    pub alloc: Global,
     root_bound: RootBound<'w>,
     pub hints: HintSeat<'w>,
-    // The root's move below which it searches, and the floor at which it does.
-    square: Square,
-    least: i8,
-    // The boards from there on whose searches are under way.
+    // The boards whose searches are under way.
     goals: Vec<Goal>,
     // The root's moves that it has settled itself.
     settled: u64,
@@ -38,19 +34,11 @@ pub(crate) struct Way<'w> {
 
 impl<'w> Way<'w> {
     /// Nothing is under way.
-    pub fn of(
-        alloc: Global,
-        plan: Plan,
-        root_bound: RootBound<'w>,
-        hints: HintSeat<'w>,
-    ) -> Way<'w> {
+    pub fn of(alloc: Global, root_bound: RootBound<'w>, hints: HintSeat<'w>) -> Way<'w> {
         Way {
             alloc,
-            plan,
             root_bound,
             hints,
-            square: Square::numbered(0),
-            least: 64,
             goals: Vec::new(alloc),
             settled: 0,
         }
@@ -72,12 +60,6 @@ impl<'w> Way<'w> {
     /// Tells bounds of the root.
     pub fn raise(&mut self, bound: &Solved) {
         self.root_bound.raise(bound);
-    }
-
-    /// It goes on below this move of the root, at this floor.
-    pub fn go_on(&mut self, square: Square, least: i8) {
-        self.square = square;
-        self.least = least;
     }
 
     /// Whether the root's move needs no further search.
@@ -109,11 +91,22 @@ impl<'w> Way<'w> {
             .keep_order(board, MoveOrder::of(squares.as_slice()));
         squares
     }
+}
 
+/// A worker's walk below a move of the root, at a floor.
+#[derive(Drop)]
+pub(crate) struct Walk<'a, 'w> {
+    pub shared: &'a Search<'a>,
+    pub square: Square,
+    pub least: i8,
+    pub way: &'a mut Way<'w>,
+}
+
+impl<'a, 'w> Walk<'a, 'w> {
     // So many of the last searches under way are looked up after a board with so many empty squares was searched: all
     // only where that takes little beside the search.
     fn goals_after(&self, empties: u8) -> usize {
-        let fewest = self.plan.fewest;
+        let fewest = self.shared.shape.fewest;
         if empties < fewest {
             1
         } else if empties < fewest.saturating_add(SMALL) {
@@ -127,10 +120,10 @@ impl<'w> Way<'w> {
     fn is_any_decided<C: Cells>(&self, most: usize, cells: &mut C) -> bool
         ensures fixed { C.fixed cells.new ≡ C.fixed cells.old }
     {
-        let goals = self.goals.as_slice();
+        let goals = self.way.goals.as_slice();
         let first = goals.len().saturating_sub(most);
         for place in first..goals.len() {
-            if is_decided(&goals[place], cells, self.plan) {
+            if is_decided(&goals[place], cells, self.shared.scoring) {
                 return true;
             }
         }
@@ -139,24 +132,24 @@ impl<'w> Way<'w> {
 }
 
 // Whether the cells tell what the search is to decide.
-fn is_decided<C: Cells>(goal: &Goal, cells: &mut C, plan: Plan) -> bool
+fn is_decided<C: Cells>(goal: &Goal, cells: &mut C, scoring: Scoring) -> bool
     ensures fixed { C.fixed cells.new ≡ C.fixed cells.old }
 {
-    let known = Solved::looked_up(&goal.image, cells, plan.scoring);
+    let known = Solved::looked_up(&goal.image, cells, scoring);
     goal.window.is_decided(known.interval)
 }
 
-impl<'w, C: Cells> Company<C> for Way<'w> {
+impl<'a, 'w, C: Cells> Company<C> for Walk<'a, 'w> {
     fn alloc(&self) -> Global {
-        self.alloc
+        self.way.alloc
     }
 
     fn fewest(&self) -> u8 {
-        self.plan.fewest
+        self.shared.shape.fewest
     }
 
     fn together(&self, empties: u8) -> usize {
-        if empties <= self.plan.dealt {
+        if empties <= self.shared.shape.dealt {
             FEW_TOGETHER
         } else {
             CHILDREN_TOGETHER
@@ -165,49 +158,49 @@ impl<'w, C: Cells> Company<C> for Way<'w> {
 
     // Another worker seems to search the board, of which this one could learn what it finds.
     fn is_left(&mut self, board: &Board) -> bool {
-        self.plan.shares() && self.hints.is_searched(board)
+        self.shared.shares() && self.way.hints.is_searched(board)
     }
 
     fn begin(&mut self, board: &Board) {
-        self.hints.begin(board);
+        self.way.hints.begin(board);
     }
 
     fn end(&mut self, board: &Board) {
-        self.hints.end(board);
+        self.way.hints.end(board);
     }
 
     fn enter(&mut self, board: &Board, window: NullWindow) -> usize {
-        let depth = self.goals.len();
-        if self.plan.shares() {
+        let depth = self.way.goals.len();
+        if self.shared.shares() {
             let (image, _) = board.canonical();
-            let _ = self.goals.push(Goal { image, window });
+            let _ = self.way.goals.push(Goal { image, window });
         }
         depth
     }
 
     fn leave(&mut self, depth: usize) {
-        self.goals.truncate(depth);
+        self.way.goals.truncate(depth);
     }
 
     // The floor has risen, the root's move is settled, or the cells tell what one of the searches under way is to
     // decide.
     fn gives_up(&mut self, searched: &Board, cells: &mut C) -> bool {
         let most = self.goals_after(searched.empties());
-        self.floor() > self.least
-            || self.is_settled(self.square)
+        self.way.floor() > self.least
+            || self.way.is_settled(self.square)
             || self.is_any_decided(most, cells)
     }
 
     fn order(&mut self, board: &Board) -> ArrayVec<Square, 64> {
-        self.order_of(board)
+        self.way.order_of(board)
     }
 
     fn prefer(&mut self, board: &Board, square: Square) {
         if board.empties() < FEWEST_EMPTIES_PREFERRED {
             return;
         }
-        if let Some(kept) = self.hints.order_of(board) {
-            self.hints.keep_order(board, kept.with_first(square));
+        if let Some(kept) = self.way.hints.order_of(board) {
+            self.way.hints.keep_order(board, kept.with_first(square));
         }
     }
 }

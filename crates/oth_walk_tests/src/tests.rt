@@ -4,7 +4,9 @@ use oth_pieces::{Floor, Frontier};
 use oth_rules::samples::board;
 use oth_rules::{Board, Scoring, Square};
 use oth_search::{Answer, NoCells, order, solve_alone};
-use oth_walk::{HintSeat, Hints, MoveOrder, Open, Plan, RootBound, Scene, Walk, settle_all};
+use oth_walk::{
+    HintSeat, Hints, MoveOrder, Open, RootBound, Search, Shape, Sharing, Worker, settle_all,
+};
 use std::process::Abort;
 use std::test::Fail;
 use std::thread::join;
@@ -42,28 +44,30 @@ fn check_settled<R: AllocGlobal + Abort>(rt: &R, words: [u64; 2]) {
     };
     let frontier = Frontier::of(&root, 1);
     let squares = order(&root);
-    let plan = Plan {
-        fewest: 12,
-        dealt: 64,
-        ..Plan::of(Scoring::Winner, root.empties(), false)
+    let shared = Search {
+        shape: Shape {
+            fewest: 12,
+            dealt: 64,
+            sharing: Sharing::Apart,
+        },
+        ..Search::of(
+            root,
+            Scoring::Winner,
+            squares.as_slice(),
+            &frontier,
+            Sharing::Apart,
+        )
     };
-    let scene = Scene {
-        frontier: &frontier,
-        root,
-        squares: squares.as_slice(),
-        plan,
-    };
-    let mut walk = Walk::of(
+    let mut worker = Worker::of(
         rt.alloc(),
-        plan,
         NoCells,
         RootBound::of(&floor, seat),
         HintSeat::none(),
     );
-    settle_all(&scene, &Open, &mut walk);
-    assert!(rt; walk.settled() == squares.len() as u64);
-    assert!(rt; walk.floor() == answer.score);
-    assert!(rt; walk.root().interval.lower == answer.score);
+    settle_all(&shared, &Open, &mut worker);
+    assert!(rt; worker.settled() == squares.len() as u64);
+    assert!(rt; worker.floor() == answer.score);
+    assert!(rt; worker.root().interval.lower == answer.score);
 }
 
 #[test]

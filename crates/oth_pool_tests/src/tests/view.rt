@@ -2,8 +2,8 @@
 
 use super::has_entry;
 use oth_pool::{TableAccess, WorkerCells};
-use oth_rules::{Board, Scoring, Square};
-use oth_walk::Plan;
+use oth_rules::{Board, Square};
+use oth_walk::Sharing;
 use std::alloc::Global;
 use std::sync::Mutex;
 use std::thread;
@@ -21,9 +21,8 @@ impl<'t> TableView<'t> {
         access: &mut Option<TableAccess<'t>>,
         root: Board,
     ) -> TableView<'t> {
-        let plan = Plan::of(Scoring::Winner, 0, false);
         TableView {
-            cells: Mutex::new(WorkerCells::of(alloc, plan, access)),
+            cells: Mutex::new(WorkerCells::of(alloc, 0, Sharing::Apart, access)),
             root,
         }
     }

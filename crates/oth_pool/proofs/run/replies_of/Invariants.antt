@@ -1,10 +1,12 @@
-use Rattle.std.proofs.Common.{◌≤◌, ℕ, map, take}
+use Rattle.std.proofs.Common.{◌≤◌, ℕ, List, map, take}
 use Rattle.std.specs.List.{All}
+use Rattle.oth_rules.specs.declared.scoring.Scoring.{Scoring}
+use Rattle.oth_pieces.specs.declared.frontier.item.Item.{Item}
 use Rattle.oth_pieces.specs.Dealing.{times}
-use Rattle.oth_pool.specs.Working.{IsReplyOf, numbers_of, times_by}
+use Rattle.oth_pool.specs.Working.{IsReplyOf, Holds, numbers_of, times_by}
 use Rattle.oth_pool.proofs.run.replies_of.Given as goal
 
 abbrev pub invariant-loop-job : goal.invariant-loop-job
-invariant-loop-job g l =
-    All (IsReplyOf l.scene.frontier.now l.scene.plan.scoring) l.replies.items
+invariant-loop-job g l = (items : List Item) (scoring : Scoring) → All (λ j. Holds items scoring j.work) l.jobs
+    → All (IsReplyOf items scoring) l.replies.items
     × ((x : ℕ) → times x (numbers_of l.replies.items) ≤ times_by x (map (λ j. j.work) (take l.job-index l.jobs)))

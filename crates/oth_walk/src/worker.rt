@@ -1,22 +1,21 @@
-//! One worker's way through the tree: what it searches over, what it knows, and which searches it has under way.
+//! One worker of a search: what it searches over, what it knows of the root, and what it has found.
 ghost use Rattle.std.specs.Prelude.{◌≡◌, pos, negsuc, ◌≤ℤ◌};
 
 use crate::glance::{Guess, glance};
 use crate::hints::HintSeat;
 use crate::root_bound::RootBound;
-use crate::scene::Plan;
-use crate::way::Way;
+use crate::root_move::RootMove;
+use crate::shared::Search;
+use crate::way::{Walk, Way};
 use crate::window::is_settled;
 use arrayvec::ArrayVec;
-use oth_rules::{Board, Square};
+use oth_rules::{Board, Scoring, Square};
 use oth_search::{Cells, NullWindow, Solved, guessed_score, known_below, known_of, put};
 use std::alloc::Global;
 
 /// What a worker searches over and with, and what it found.
 #[derive(Drop)]
-pub struct Walk<'w, C> {
-    pub alloc: Global,
-    pub(crate) plan: Plan,
+pub struct Worker<'w, C> {
     pub(crate) cells: C,
     pub(crate) way: Way<'w>,
     // A score that the root seems to have, and its move.
@@ -25,20 +24,17 @@ pub struct Walk<'w, C> {
     pub found: Vec<Solved>,
 }
 
-impl<'w, C: Cells> Walk<'w, C> {
+impl<'w, C: Cells> Worker<'w, C> {
     /// A worker that has searched nothing yet. Its lists take memory as they grow; where there is none they keep less.
     pub fn of(
         alloc: Global,
-        plan: Plan,
         cells: C,
         root_bound: RootBound<'w>,
         hints: HintSeat<'w>,
-    ) -> Walk<'w, C> {
-        Walk {
-            alloc,
-            plan,
+    ) -> Worker<'w, C> {
+        Worker {
             cells,
-            way: Way::of(alloc, plan, root_bound, hints),
+            way: Way::of(alloc, root_bound, hints),
             guess: None,
             found: Vec::new(alloc),
         }
@@ -53,35 +49,42 @@ impl<'w, C: Cells> Walk<'w, C> {
     }
 
     /// Raises the floor by what a move of the root alone tells of it.
-    pub fn raise_by(&mut self, root: &Board, square: Square, child: &Solved) {
-        if let Ok(bound) = Solved::lift(root, square, child) {
+    pub fn raise_by(&mut self, root_move: &RootMove, child: &Solved) {
+        if let Ok(bound) = Solved::lift(&root_move.shared.root, root_move.square, child) {
             self.way.raise(&bound);
         }
     }
 
-    // A board of which nothing is known.
-    pub(crate) fn unknown(&self, board: Board) -> Solved
-        ensures board { result.board ≡ board }
-    {
-        Solved::unknown(board, self.plan.scoring)
-    }
-
-    /// The board with closer bounds, by a search that the workers share. They decide the window unless it is given up.
-    pub(crate) fn narrow(&mut self, known: &Solved, window: NullWindow) -> Solved
+    /// The board, which comes after this move of the root, with closer bounds, by a search that the workers share. They
+    /// decide the window unless it is given up, as where the floor rises above `least`.
+    pub(crate) fn narrow(
+        &mut self,
+        root_move: &RootMove,
+        least: i8,
+        known: &Solved,
+        window: NullWindow,
+    ) -> Solved
         ensures board { result.board ≡ known.now.board }
+        ensures scoring { result.scoring ≡ known.now.scoring }
     {
-        known.narrowed_in(window, &mut self.cells, &mut self.way)
+        let mut walk = Walk {
+            shared: root_move.shared,
+            square: root_move.square,
+            least,
+            way: &mut self.way,
+        };
+        known.narrowed_in(window, &mut self.cells, &mut walk)
     }
 
     /// What is known of the root: the floor, and what the cells and this worker's own searches tell of the boards after
-    /// these moves.
-    pub(crate) fn known_of_root(&mut self, squares: &[Square]) -> Solved {
+    /// its moves.
+    pub(crate) fn known_of_root(&mut self, shared: &Search) -> Solved {
         let root = self.way.root();
-        let mut children = Vec::new(self.alloc);
-        for square in squares {
+        let mut children = Vec::new(self.way.alloc);
+        for square in shared.squares {
             if let Some(child) = root.board.play(*square) {
                 let known = known_of(child, self.found.as_slice(), root.scoring);
-                let _ = children.push(self.look_up(&child).joined(&known));
+                let _ = children.push(self.look_up(&child, root.scoring).joined(&known));
             }
         }
         root.joined(&known_below(root.board, 1, children.as_slice(), root.scoring))
@@ -93,9 +96,9 @@ impl<'w, C: Cells> Walk<'w, C> {
     }
 
     /// A score that the root seems to have, and its move.
-    pub(crate) fn guess(&mut self, root: &Board) -> Guess {
+    pub(crate) fn guess(&mut self, shared: &Search) -> Guess {
         if self.guess.is_none() {
-            self.make_guess(root);
+            self.make_guess(shared);
         }
         match self.guess {
             Some(guess) => guess,
@@ -104,12 +107,12 @@ impl<'w, C: Cells> Walk<'w, C> {
     }
 
     // Makes a guess, together with the others where that pays.
-    fn make_guess(&mut self, root: &Board) {
-        if !self.plan.guesses() {
-            self.guess = Some(self.guess_alone(root));
+    fn make_guess(&mut self, shared: &Search) {
+        if !shared.guesses() {
+            self.guess = Some(self.guess_alone(shared));
             return;
         }
-        self.guess = Some(glance(root, self));
+        self.guess = Some(glance(shared, self));
         self.tell_guess();
     }
 
@@ -121,13 +124,13 @@ impl<'w, C: Cells> Walk<'w, C> {
     }
 
     // A guess by this worker alone, where others can't learn from it, or without a search where the board is small.
-    fn guess_alone(&mut self, root: &Board) -> Guess {
-        let score = if self.plan.shares() {
+    fn guess_alone(&mut self, shared: &Search) -> Guess {
+        let score = if shared.shares() {
             0
         } else {
-            guessed_score(root, &mut self.cells, self.plan.scoring)
+            guessed_score(&shared.root, &mut self.cells, shared.scoring)
         };
-        let squares = self.order(root);
+        let squares = self.order(&shared.root);
         match squares.first() {
             Some(square) => Guess::of(score, *square),
             None => Guess::of(score, Square::numbered(0)),
@@ -135,8 +138,8 @@ impl<'w, C: Cells> Walk<'w, C> {
     }
 
     /// From now on the root seems to have at most so much.
-    pub(crate) fn lower_guess(&mut self, root: &Board, most: i8) {
-        let Guess { score, square } = self.guess(root);
+    pub(crate) fn lower_guess(&mut self, shared: &Search, most: i8) {
+        let Guess { score, square } = self.guess(shared);
         self.guess = Some(Guess::of(most.min(score - 1), square));
     }
 
@@ -165,7 +168,7 @@ impl<'w, C: Cells> Walk<'w, C> {
     }
 
     /// The score that the root's moves are asked for: the floor, or a guess where there is none.
-    pub(crate) fn aim(&mut self, root: &Board) -> i8
+    pub(crate) fn aim(&mut self, shared: &Search) -> i8
         ensures low { negsuc 62 ≤ℤ result }
         ensures high { result ≤ℤ pos 64 }
     {
@@ -173,17 +176,12 @@ impl<'w, C: Cells> Walk<'w, C> {
         if least > -64 {
             return least;
         }
-        self.guess(root).score
+        self.guess(shared).score
     }
 
     /// The cells, when nothing more is to be searched.
     pub fn into_cells(self) -> C {
         self.cells
-    }
-
-    /// It goes on below this move of the root, at this floor.
-    pub(crate) fn go_on(&mut self, square: Square, least: i8) {
-        self.way.go_on(square, least);
     }
 
     /// Whether the root's move needs no further search.
@@ -205,11 +203,11 @@ impl<'w, C: Cells> Walk<'w, C> {
     }
 
     /// What the cells tell of the board.
-    pub(crate) fn look_up(&mut self, board: &Board) -> Solved
+    pub(crate) fn look_up(&mut self, board: &Board, scoring: Scoring) -> Solved
         ensures board { result.board ≡ board.now }
-        ensures scoring { result.scoring ≡ self.old.plan.scoring }
+        ensures scoring { result.scoring ≡ scoring }
     {
-        Solved::looked_up(board, &mut self.cells, self.plan.scoring)
+        Solved::looked_up(board, &mut self.cells, scoring)
     }
 
     /// Puts what was found into the cells, if that is anything.
@@ -223,8 +221,8 @@ impl<'w, C: Cells> Walk<'w, C> {
     }
 
     /// Whether another worker seems to search the board, of which this one could learn what it finds.
-    pub(crate) fn is_left(&mut self, board: &Board) -> bool {
-        self.plan.shares() && self.is_taken(board)
+    pub(crate) fn is_left(&mut self, board: &Board, shared: &Search) -> bool {
+        shared.shares() && self.is_taken(board)
     }
 
     /// Marks the board as one that is being searched.

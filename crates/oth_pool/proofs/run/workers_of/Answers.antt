@@ -1,9 +1,9 @@
 use Rattle.std.proofs.Common.{arith, ◌∙◌}
 use Rattle.oth_walk.proofs.Lendings.{LendsFloor-made, LendsTable-then}
-use Rattle.oth_pool.proofs.run.walks_of.Goals as goal
+use Rattle.oth_pool.proofs.run.workers_of.Goals as goal
 
 pub loop-preserved : goal.loop-preserved
-loop-preserved c =
+loop-preserved g c =
     let inv = c.loop.invariant in
     let pushed = c.push_reserved.ensures in
     let made = c.in-Ok-seat.ensures.made in

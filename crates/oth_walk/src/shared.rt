@@ -1,0 +1,100 @@
+//! What all workers of a search have in common.
+ghost use Rattle.std.specs.Prelude.{◌≡◌};
+
+use crate::tuning::{FEWEST_EMPTIES_GUESSED_TOGETHER, shared_empties};
+use oth_pieces::Frontier;
+use oth_rules::{Board, Scoring, Square};
+
+/// The search of one board: by which scoring it is solved, its moves in the order in which they are searched, its
+/// frontier, and how the search is shared out.
+#[derive(Clone, Copy)]
+pub struct Search<'s> {
+    pub root: Board,
+    pub scoring: Scoring,
+    pub squares: &'s [Square],
+    pub frontier: &'s Frontier,
+    pub shape: Shape,
+}
+
+impl<'s> Search<'s> {
+    /// The search of the board with these moves and this frontier, by workers that share it so.
+    pub fn of(
+        root: Board,
+        scoring: Scoring,
+        squares: &'s [Square],
+        frontier: &'s Frontier,
+        sharing: Sharing,
+    ) -> Search<'s>
+        ensures root { result.root ≡ root }
+        ensures scoring { result.scoring ≡ scoring }
+        ensures frontier { result.frontier.now ≡ frontier.now }
+    {
+        Search {
+            root,
+            scoring,
+            squares,
+            frontier,
+            shape: Shape::of(root.empties(), sharing),
+        }
+    }
+
+    /// Whether workers make a guess together of where the search for the root's value starts.
+    pub fn guesses(&self) -> bool {
+        self.shares() && self.root.empties() >= FEWEST_EMPTIES_GUESSED_TOGETHER
+    }
+
+    /// Whether several workers learn from a table what the others found.
+    pub fn shares(&self) -> bool {
+        matches!(self.shape.sharing, Sharing::OverTable)
+    }
+}
+
+/// Who searches, and how one learns what another found.
+#[derive(Clone, Copy)]
+pub enum Sharing {
+    /// One worker, from whom nobody learns.
+    Alone,
+    /// Several without a table: each searches whole moves of the root, and learns no more than its floor.
+    Apart,
+    /// Several over one table.
+    OverTable,
+}
+
+impl Sharing {
+    /// Of several workers, with a table or without one.
+    pub fn of_several(has_table: bool) -> Sharing {
+        if has_table {
+            Sharing::OverTable
+        } else {
+            Sharing::Apart
+        }
+    }
+
+    /// Whether nobody learns what a worker finds.
+    pub fn is_alone(self) -> bool {
+        matches!(self, Sharing::Alone)
+    }
+}
+
+/// How a search is shared out.
+#[derive(Clone, Copy)]
+pub struct Shape {
+    /// Boards with fewer empty squares are searched to the end by whoever is there.
+    pub fewest: u8,
+    /// The moves of boards with more empty squares are searched by several workers together for longer, since what is
+    /// searched in vain costs most there.
+    pub dealt: u8,
+    pub sharing: Sharing,
+}
+
+impl Shape {
+    /// The shape of a search below a root with so many empty squares.
+    pub fn of(empties: u8, sharing: Sharing) -> Shape {
+        let (fewest, dealt) = shared_empties(empties);
+        Shape {
+            fewest,
+            dealt,
+            sharing,
+        }
+    }
+}
