@@ -8,7 +8,7 @@ use oth_pool::{Floor, Frontier, Gate, Open, TableAccess, WorkerCells, run_worker
 use oth_rules::{Board, Scoring};
 use oth_search::{Answer, Kind, solve_with};
 use oth_table::SharedTable;
-use oth_walk::Plan;
+use oth_walk::Sharing;
 use std::alloc::Global;
 use std::process::Abort;
 use std::sync::atomic::{AtomicU64, Ordering};
@@ -147,7 +147,7 @@ fn by_sixteen<R: Threads + Sync>(rt: &R, alloc: Global, words: [u64; 2]) -> Opti
     if !found.drawn.left.is_empty() || found.drawn.lists.len() != 16 {
         return None;
     }
-    let mut cells = WorkerCells::of(alloc, Plan::of(Scoring::Winner, 0, false), &mut access);
+    let mut cells = WorkerCells::of(alloc, 0, Sharing::Apart, &mut access);
     let answer = solve_with(root, &mut cells, Scoring::Winner);
     Some((floor.read(&mut seat), answer))
 }
