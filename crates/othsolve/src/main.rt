@@ -107,9 +107,14 @@ fn obey_watched<
 ) -> u8
     requires reader { ⟦<FromRead<R> as Source>⟧.failed reader.old ≡ false }
     requires writer { ⟦<Report<'w, T, ToWrite<W>, S> as Sink>⟧.failed report.old ≡ false }
+    ensures done { result ≡ 0 → HasObeyed words.now
+        (⟦<FromRead<R> as Source>⟧.remaining reader.old) (⟦<FromRead<R> as Source>⟧.remaining reader.new)
+        (⟦<Report<'w, T, ToWrite<W>, S> as Sink>⟧.contents report.old)
+        (⟦<Report<'w, T, ToWrite<W>, S> as Sink>⟧.contents report.new) }
     ensures works { result ≡ 0 → (⟦<Report<'w, T, ToWrite<W>, S> as Sink>⟧.failed report.new ≡ false)
         × (⟦<Report<'w, T, ToWrite<W>, S> as Sink>⟧.flushed report.new ≡ true) }
     ensures refused { result ≡ 2 ↔ AreRefused words.now }
+    ensures untouched { result ≡ 2 → (reader.new ≡ reader.old) × (report.new ≡ report.old) }
     ensures statuses { result ≤ 3 }
 {
     let rt = report.runtime();
@@ -135,8 +140,11 @@ fn obey_beside<
 ) -> u8
     requires reader { R.failed reader.old ≡ false }
     requires writer { W.failed writer.old ≡ false }
+    ensures done { result ≡ 0 → HasObeyed words.now (R.remaining reader.old) (R.remaining reader.new)
+        (W.contents writer.old) (W.contents writer.new) }
     ensures works { result ≡ 0 → (W.failed writer.new ≡ false) × (W.flushed writer.new ≡ true) }
     ensures refused { result ≡ 2 ↔ AreRefused words.now }
+    ensures untouched { result ≡ 2 → (reader.new ≡ reader.old) × (writer.new ≡ writer.old) }
     ensures statuses { result ≤ 3 }
 {
     let rt = watched.rt;
@@ -147,6 +155,13 @@ fn obey_beside<
     };
     let mut obeying = || -> u8
         requires { (R.failed reader.now ≡ false) × (W.failed writer.now ≡ false) }
+        ensures done { result ≡ 0 → HasObeyed words.entry.now
+            (R.remaining reader.entry.now) (R.remaining reader.exit.now)
+            (W.contents writer.entry.now) (W.contents writer.exit.now) }
+        ensures works { result ≡ 0 → (W.failed writer.exit.now ≡ false) × (W.flushed writer.exit.now ≡ true) }
+        ensures refused { result ≡ 2 ↔ AreRefused words.entry.now }
+        ensures untouched { result ≡ 2 → (reader.exit.now ≡ reader.entry.now) × (writer.exit.now ≡ writer.entry.now) }
+        ensures statuses { result ≤ 3 }
     { obey(&means, words, reader, writer, errors) };
     watch.beside(rt, rt.alloc(), &mut obeying)
 }
