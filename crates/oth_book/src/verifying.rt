@@ -122,7 +122,7 @@ fn check_exact(alloc: Global, claim: &Claim, scoring: Scoring) -> Result<(), Cau
     ensures ok { OnOk result (IsTrueClaim scoring claim.now) }
     ensures cause { IfErr result (λ why. IsCause scoring claim.now why) }
 {
-    let mut cells = MemoCells::of(alloc, claim.board.empties());
+    let mut cells = MemoCells::alone(alloc, claim.board.empties());
     let answer = solve_with(claim.board, &mut cells, scoring);
     check_by(claim, &answer)
 }

@@ -4,7 +4,6 @@
 
 mod answer;
 mod board;
-mod cells;
 mod loose;
 mod position;
 mod refusal;

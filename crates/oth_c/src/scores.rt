@@ -15,7 +15,6 @@ ghost use Rattle.oth_c.specs.declared.refusal.Refusal.{Refusal as RefusedBy};
 
 use crate::answer::OthAnswer;
 use crate::board::OthBoard;
-use crate::cells::CallCells;
 use crate::refusal::{DONE, Refusal};
 use crate::seat::OthSeat;
 use crate::sharing::lifted;
@@ -112,7 +111,10 @@ fn scored(alloc: Global, board: OthBoard, scoring: u8, cells: u32) -> Result<Sco
     let (board, scoring) = accepted(board, scoring, cells)?;
     Ok(match own_table(alloc, cells, scoring) {
         Some((table, seat)) => over(alloc, board, &table, seat, scoring),
-        None => scores_with(board, &mut MemoCells::of(alloc, board.empties()), scoring),
+        None => {
+            let mut alone = MemoCells::alone(alloc, board.empties());
+            scores_with(board, &mut alone, scoring)
+        }
     })
 }
 
@@ -129,7 +131,7 @@ fn over(
     ensures scoring { result.answer.scoring ≡ scoring }
 {
     let memories = Memories::of(alloc, board.empties(), true);
-    let mut cells = CallCells::of(TableCells::of(table, seat), memories);
+    let mut cells = MemoCells::of(TableCells::of(table, seat), memories);
     scores_with(board, &mut cells, scoring)
 }
 

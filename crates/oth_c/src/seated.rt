@@ -8,11 +8,10 @@ ghost use Rattle.oth_table.specs.Parts.{fixed_of};
 ghost use Rattle.oth_c.specs.Seats.{IsOpened, RefusesCells};
 ghost use Rattle.oth_c.specs.declared.refusal.Refusal.TheVariants as refusal;
 
-use crate::cells::CallCells;
 use crate::refusal::Refusal;
 use oth_rules::{Board, Scoring};
 use oth_search::{
-    Answer, Limited, Memories, Scores, Stopped, scores_with, solve_until, solve_with,
+    Answer, Limited, MemoCells, Memories, Scores, Stopped, scores_with, solve_until, solve_with,
 };
 use oth_table::{SharedTable, TableCells, TableError, TableSeat};
 use std::alloc::Global;
@@ -86,9 +85,9 @@ impl Seated {
         let Seated { table, seat } = self;
         let scoring = table.scoring();
         let memories = Memories::of(alloc, board.empties(), false);
-        let mut cells = CallCells::of(TableCells::of(&table, seat), memories);
+        let mut cells = MemoCells::of(TableCells::of(&table, seat), memories);
         let answer = solve_with(board, &mut cells, scoring);
-        let seat = cells.into_seat();
+        let seat = cells.into_cells().into_seat();
         (Seated { table, seat }, answer)
     }
 
@@ -101,9 +100,9 @@ impl Seated {
         let Seated { table, seat } = self;
         let scoring = table.scoring();
         let memories = Memories::of(alloc, board.empties(), false);
-        let mut cells = CallCells::of(TableCells::of(&table, seat), memories);
+        let mut cells = MemoCells::of(TableCells::of(&table, seat), memories);
         let scores = scores_with(board, &mut cells, scoring);
-        let seat = cells.into_seat();
+        let seat = cells.into_cells().into_seat();
         (Seated { table, seat }, scores)
     }
 
@@ -123,10 +122,10 @@ impl Seated {
         let Seated { table, seat } = self;
         let scoring = table.scoring();
         let memories = Memories::of(alloc, board.empties(), false);
-        let cells = CallCells::of(TableCells::of(&table, seat), memories);
+        let cells = MemoCells::of(TableCells::of(&table, seat), memories);
         let mut limited = Limited::of(cells, most);
         let found = solve_until(alloc, &board, &mut limited, scoring);
-        let seat = limited.into_cells().into_seat();
+        let seat = limited.into_cells().into_cells().into_seat();
         (Seated { table, seat }, found)
     }
 }

@@ -12,10 +12,9 @@ ghost use Rattle.oth_c.specs.declared.refusal.Refusal.{Refusal as RefusedBy};
 
 use crate::answer::{OthAnswer, scoring_of};
 use crate::board::OthBoard;
-use crate::cells::CallCells;
 use crate::refusal::{DONE, Refusal};
 use oth_rules::{Board, Scoring};
-use oth_search::{Answer, MOST_EMPTIES, Memories, solve_alone, solve_with};
+use oth_search::{Answer, MOST_EMPTIES, MemoCells, Memories, solve_alone, solve_with};
 use oth_table::{SharedTable, TableCells, TableSeat, is_size};
 use std::alloc::Global;
 
@@ -106,6 +105,6 @@ fn over(
     ensures { IsFullMinimax board scoring result }
 {
     let memories = Memories::of(alloc, board.empties(), true);
-    let mut cells = CallCells::of(TableCells::of(table, seat), memories);
+    let mut cells = MemoCells::of(TableCells::of(table, seat), memories);
     solve_with(board, &mut cells, scoring)
 }

@@ -1,6 +1,6 @@
 -- Lemmas on bounds that enclose a value.
 use Rattle.std.proofs.Common.{true, false, ◌≡◌, ℕ, refl, subst, sym, arith, ◌⊎◌, inl, inr}
-use Rattle.std.specs.Prelude.{◌+ℤ◌, ◌<◌, ℤ, pos, negsuc, neg_ℤ, ◌≤ℤ◌, ◌<ℤ◌}
+use Rattle.std.specs.Prelude.{◌+ℤ◌, ℤ, pos, negsuc, neg_ℤ, ◌≤ℤ◌, ◌<ℤ◌}
 use Rattle.std.proofs.lemmas.Int.{ints, by_lt_z}
 use Rattle.oth_rules.specs.declared.scoring.Scoring.{Scoring}
 use Rattle.oth_rules.specs.Position.{Position, pass}

@@ -3,7 +3,7 @@ use Rattle.std.proofs.Common.{◌≡◌, ◌⊎◌, inl, inr, ◌<◌, arith}
 use Rattle.std.specs.Prelude.{unsigned_abs, ℤ, pos, neg_ℤ, ◌+ℤ◌, ◌-ℤ◌, ◌≤ℤ◌, ◌<ℤ◌}
 use Rattle.std.proofs.lemmas.Int.{ints}
 use Rattle.oth_rules.specs.Laws.{IsScore}
-use Rattle.oth_search.specs.Interval.{IsInterval, IsThreshold, Decides}
+use Rattle.oth_search.specs.Interval.{IsInterval, Decides}
 
 -- closer bounds decide what wider ones decide
 pub Decides-closer : (a b lower upper alpha beta alpha' beta' : ℤ) → IsInterval lower upper → a ≤ℤ lower → upper ≤ℤ b → alpha' ≡ alpha → beta' ≡ beta → Decides a b alpha' beta'
@@ -21,10 +21,6 @@ fewer a b lower upper alpha w x i from to low high k e d = elim d [
   | inr out ↦ elim out [ inl h ↦ omega (arith, ints, h, i.ordered) | inr h ↦ omega (arith, ints, h, i.ordered) ]
 ]
 
--- the greater of a lower bound and of what lies below an upper one lies between them
-pub between : (a b a' x y : ℤ) → a' ≡ a → a <ℤ b → y <ℤ b → (x ≡ a') ⊎ (x ≡ y) → x <ℤ b
-between a b a' x y same wide below one = elim one [ inl e ↦ omega (arith, ints, e, same) | inr e ↦ omega (arith, ints, e) ]
-
 -- a score under another name
 pub IsScore-same : (r s : ℤ) → s ≡ r → IsScore r → IsScore s
 IsScore-same r s e h = record { low = omega (arith, ints, h.low); high = omega (arith, ints, h.high) }
@@ -38,6 +34,3 @@ IsScore-one r s r' s' t t' h k er es et one = elim one [
   | inl e ↦ IsScore-same r t' (omega (arith, ints, e, er, et)) h
   | inr e ↦ IsScore-same s t' (omega (arith, ints, e, es, et)) k
 ]
-
-pub IsThreshold-same : (r s : ℤ) → s ≡ r → IsThreshold r → IsThreshold s
-IsThreshold-same r s e h = record { low = omega (arith, ints, h.low); high = omega (arith, ints, h.high) }

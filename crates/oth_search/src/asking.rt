@@ -6,10 +6,10 @@ ghost use Rattle.oth_rules.specs.Value.{value};
 ghost use Rattle.oth_search.specs.Interval.{Encloses, Decides};
 
 use crate::cells::Cells;
-use crate::interval::{Interval, greater};
+use crate::interval::Interval;
+use crate::pace::Pace;
 use crate::searching::search;
 use crate::solved::Solved;
-use crate::tuning::WIDEST_STEP;
 use oth_rules::{Board, Scoring};
 
 impl Solved {
@@ -55,15 +55,11 @@ impl Solved {
         ensures fixed { C.fixed cells.new ≡ C.fixed cells.old }
     {
         let mut reply = *self;
-        let mut step = 1;
+        let mut pace = Pace::new();
         while reply.interval.lower < reply.interval.upper {
-            let alpha = greater(reply.interval.lower, reply.interval.upper - step);
+            let alpha = pace.below(reply.interval);
             reply = reply.decided_at(alpha, cells);
-            step = if reply.interval.upper <= alpha {
-                wider(step)
-            } else {
-                1
-            };
+            pace = pace.after(reply.interval.upper <= alpha);
         }
         reply
     }
@@ -107,14 +103,4 @@ fn exact_below<C: Cells>(board: &Board, most: i8, cells: &mut C, scoring: Scorin
         return Interval::exactly(most);
     }
     rest
-}
-
-/// The next step of a search for a value after one by which a bound moved: 1, 3, 7 and so on, in discs.
-pub fn wider(step: i8) -> i8
-    requires low { pos 1 ≤ℤ step }
-    requires high { step ≤ℤ pos 63 }
-    ensures low { pos 1 ≤ℤ result }
-    ensures high { result ≤ℤ pos 63 }
-{
-    if step < 31 { 2 * step + 1 } else { WIDEST_STEP }
 }

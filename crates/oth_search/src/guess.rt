@@ -5,6 +5,7 @@ ghost use Rattle.oth_rules.specs.Laws.{IsScore};
 ghost use Rattle.oth_search.specs.Interval.{IsThreshold};
 ghost use Rattle.oth_search.specs.Children.{IsChild};
 
+use crate::bracket::Bracket;
 use crate::cells::Cells;
 use crate::child::Child;
 use crate::children::{children, looked_at, next_child};
@@ -14,8 +15,8 @@ use crate::node::Node;
 use crate::solved::Solved;
 use crate::squares::without;
 use crate::tuning::{
-    FEWEST_EMPTIES_GUESS_LOOKED, FIRST_GUESS_STEP, GUESS_ROUNDS, MANY_PLIES,
-    MOST_EMPTIES_GUESS_LOOKED, MOST_EMPTIES_IN_FULL, MOST_RANKED, WIDTH, WIDTH_AT_FIRST,
+    FEWEST_EMPTIES_GUESS_LOOKED, GUESS_ROUNDS, MANY_PLIES, MOST_EMPTIES_GUESS_LOOKED,
+    MOST_EMPTIES_IN_FULL, MOST_RANKED, WIDTH, WIDTH_AT_FIRST,
 };
 use arrayvec::ArrayVec;
 use oth_rules::{Board, Scoring};
@@ -87,53 +88,20 @@ pub fn guess<C: Cells>(replies: &mut [Solved], likely: i8, cells: &mut C) -> i8
     ensures score { IsScore result }
     ensures fixed { C.fixed cells.new ≡ C.fixed cells.old }
 {
-    let mut low = -64;
-    let mut high = 64;
+    let mut bracket = Bracket::from(likely);
     let mut seen = [Interval::all(); 64];
-    let mut at = likely;
-    let mut step = FIRST_GUESS_STEP;
     for _ in 0..GUESS_ROUNDS {
-        let found = least_seen(replies, &mut seen, at, cells);
-        if found <= at {
-            high = found;
+        let found = least_seen(replies, &mut seen, bracket.at, cells);
+        bracket = if found <= bracket.at {
+            bracket.at_most(found)
         } else {
-            low = found;
-        }
-        if high <= lesser(low, 62) + 2 {
+            bracket.at_least(found)
+        };
+        if bracket.is_close() {
             break;
         }
-        at = between(low, high, step);
-        step = wider(step);
     }
-    high
-}
-
-// The next step beyond a bound.
-fn wider(step: i8) -> i8
-    requires low { pos 0 ≤ℤ step }
-    requires high { step ≤ℤ pos 64 }
-    ensures low { pos 0 ≤ℤ result }
-    ensures high { result ≤ℤ pos 64 }
-{
-    if step < 32 { 2 * step } else { 64 }
-}
-
-// Where to ask next: in the middle, or so far beyond the bound that is known.
-fn between(low: i8, high: i8, step: i8) -> i8
-    requires low { IsScore low }
-    requires high { IsScore high }
-    requires shortest { pos 0 ≤ℤ step }
-    requires longest { step ≤ℤ pos 64 }
-    ensures { IsThreshold result }
-{
-    let at = if low > -64 && high < 64 {
-        low / 2 + high / 2
-    } else if high < 64 {
-        high - step
-    } else {
-        low - 2 + step
-    };
-    lesser(63, greater(-64, at))
+    bracket.most()
 }
 
 // A value of at most `at` that a reply seems to have, which comes to the front, or else the least of them. `seen` keeps

@@ -3,6 +3,7 @@
 
 mod answer;
 mod asking;
+mod bracket;
 mod candidate;
 mod cells;
 mod child;
@@ -28,6 +29,7 @@ mod null_window;
 mod nws;
 mod observer;
 mod ordering;
+mod pace;
 mod quadrant;
 mod root;
 mod scores;
@@ -40,7 +42,7 @@ mod valuing;
 mod window;
 
 pub use answer::Answer;
-pub use asking::wider;
+pub use bracket::Bracket;
 pub use cells::{Cells, NoCells};
 pub use combining::{known_below, known_of};
 pub use company::Company;
@@ -56,6 +58,7 @@ pub use narrowing::put;
 pub use null_window::NullWindow;
 pub use observer::{Observer, Unobserved};
 pub use ordering::order;
+pub use pace::Pace;
 pub use root::{guessed_score, settle_moves};
 pub use scores::{ScoredMove, Scores, answer_by, scores_with};
 pub use searching::search;
@@ -63,4 +66,5 @@ pub use solved::{NotChild, Solved};
 pub use solving::{
     MOST_EMPTIES, TooManyEmpties, before_pass, ended, solve_alone, solve_moves, solve_with,
 };
+pub use tuning::GUESS_ROUNDS;
 pub use valuing::value_of;

@@ -1,7 +1,7 @@
 //! Memories of boards that were searched lately, and cells that have one.
 ghost use Rattle.std.specs.Prelude.{◌≡◌, ◌<◌, ◌≤◌, IfSome, IsNone, vec_len};
 
-use crate::cells::Cells;
+use crate::cells::{Cells, NoCells};
 use crate::entry::Entry;
 use crate::hash::board_hash;
 use crate::memories::Memories;
@@ -22,8 +22,8 @@ pub struct Memo {
 }
 
 impl Memo {
-    /// Nothing is remembered. For the search of a board with so many empty squares: up to 13 it has 4,096 places, and
-    /// else 16,384. Refused where there is no memory for it.
+    /// Nothing is remembered. For the search of a board with so many empty squares: up to 15 it has 4,096 places, and
+    /// else 8,192. Refused where there is no memory for it.
     pub fn below(alloc: Global, empties: u8) -> Result<Memo, AllocError> {
         Memo::with_last(alloc, last_below(empties))
     }
@@ -80,33 +80,51 @@ fn place(board: &Board, last: usize) -> usize
     ((hash ^ (hash >> FOLD)) >> SHIFT) as usize & last
 }
 
-/// Cells of one search without a table: they keep no entry, but remember boards, where that pays and there is memory.
+/// Cells with memories beside them, where boards are remembered for which those are meant. All others are looked up in
+/// the cells.
 #[derive(Drop)]
-pub struct MemoCells {
+pub struct MemoCells<C> {
+    cells: C,
     memories: Memories,
 }
 
-impl MemoCells {
-    /// Nothing is remembered. The root has so many empty squares.
-    pub fn of(alloc: Global, empties: u8) -> MemoCells {
-        MemoCells {
-            memories: Memories::of(alloc, empties, true),
-        }
+impl<C: Cells> MemoCells<C> {
+    /// These cells, and these memories.
+    pub fn of(cells: C, memories: Memories) -> MemoCells<C>
+        ensures { result.cells ≡ cells }
+    {
+        MemoCells { cells, memories }
+    }
+
+    /// The cells alone.
+    pub fn into_cells(self) -> C
+        ensures { result ≡ self.cells }
+    {
+        let MemoCells { cells, memories: _ } = self;
+        cells
     }
 }
 
-impl Cells for MemoCells {
-    ghost Fixed = { Unit {0} };
+impl MemoCells<NoCells> {
+    /// Memories alone, for a search without a table by one thread. Nothing is remembered. The root has so many empty
+    /// squares.
+    pub fn alone(alloc: Global, empties: u8) -> MemoCells<NoCells> {
+        MemoCells::of(NoCells, Memories::of(alloc, empties, true))
+    }
+}
 
-    ghost fixed = { λ c. tt };
+impl<C: Cells> Cells for MemoCells<C> {
+    ghost Fixed = { C.Fixed };
 
-    fn look(&mut self, _board: &Board, _scoring: Scoring) -> Option<Entry>
-        ensures none { IsNone result }
-    {
-        None
+    ghost fixed = { λ m. C.fixed m.cells };
+
+    fn look(&mut self, board: &Board, scoring: Scoring) -> Option<Entry> {
+        self.cells.look(board, scoring)
     }
 
-    fn put(&mut self, _entry: &Entry) {}
+    fn put(&mut self, entry: &Entry) {
+        self.cells.put(entry);
+    }
 
     fn remembers(&self, empties: u8) -> bool {
         self.memories.remembers(empties)
@@ -121,7 +139,7 @@ impl Cells for MemoCells {
     }
 }
 
-/// The same with a memory of its own, which takes 96 KB of the stack.
+/// Cells that keep no entry, with a memory that takes 96 KB of the stack.
 #[derive(Drop)]
 pub struct StackCells {
     places: [Solved; PLACES],

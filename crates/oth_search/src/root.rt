@@ -2,13 +2,13 @@
 ghost use Rattle.std.specs.Prelude.{◌≡◌, ◌<◌, ◌≤◌, ◌≤ℤ◌, pos, length, IfSome};
 ghost use Rattle.oth_rules.specs.Laws.{IsScore};
 
-use crate::asking::wider;
 use crate::cells::Cells;
 use crate::combining::known_of;
 use crate::guess::guess;
-use crate::interval::{Interval, greater, lesser};
+use crate::interval::{Interval, lesser};
 use crate::observer::Observer;
 use crate::ordering::order;
+use crate::pace::Pace;
 use crate::solved::Solved;
 use crate::tuning::{FEWEST_EMPTIES_GUESSED, START_ROUNDS};
 use arrayvec::ArrayVec;
@@ -156,14 +156,14 @@ fn leader<C: Cells, O: Observer<C>>(
     ensures fixed { C.fixed cells.new ≡ C.fixed cells.old }
 {
     let mut most = quest.start;
-    let mut step = 1;
+    let mut pace = Pace::new();
     for _ in 0..START_ROUNDS {
         let found = reaching(replies, most, cells, observer);
         if found.is_some() || observer.is_over(cells) {
             return found;
         }
-        most = lowered(least_lower(replies), step - 1, quest.limit);
-        step = wider(step);
+        most = lowered(least_lower(replies), pace.step - 1, quest.limit);
+        pace = pace.after(true);
     }
     reaching(replies, quest.limit, cells, observer)
 }
@@ -290,19 +290,14 @@ fn exact<C: Cells, O: Observer<C>>(known: &Solved, cells: &mut C, observer: &mut
     ensures fixed { C.fixed cells.new ≡ C.fixed cells.old }
 {
     let mut reply = *known;
-    let mut step = 1;
+    let mut pace = Pace::new();
     for _ in 0..MOST_QUESTIONS {
-        let Interval { lower, upper } = reply.interval;
-        if lower == upper || observer.is_over(cells) {
+        if reply.interval.lower == reply.interval.upper || observer.is_over(cells) {
             return reply;
         }
-        let alpha = greater(lower, upper - step);
+        let alpha = pace.below(reply.interval);
         reply = observer.decide(&reply, alpha, cells);
-        step = if reply.interval.upper <= alpha {
-            wider(step)
-        } else {
-            1
-        };
+        pace = pace.after(reply.interval.upper <= alpha);
     }
     reply
 }

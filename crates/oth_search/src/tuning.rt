@@ -125,14 +125,14 @@ pub(crate) const FEWEST_ROOT_EMPTIES_REMEMBERED: u8 = 10;
 /// the shared table tells all of them what it would have.
 pub(crate) const FEWEST_EMPTIES_ALONE: u8 = 18;
 
-/// The last place of the first local table, by the empty squares of the root: 4,096 or 16,384 entries, as many as the
-/// search of such a root fills.
+/// The last place of the first local table, by the empty squares of the root: 4,096 or 8,192 entries. More save nodes,
+/// and take longer to reach.
 pub(crate) fn last_below(empties: u8) -> usize
-    ensures { result < 16384 }
+    ensures { result < 8192 }
 {
     match empties {
-        0..=13 => 4_095,
-        _ => 16_383,
+        0..=15 => 4_095,
+        _ => 8_191,
     }
 }
 
@@ -175,7 +175,10 @@ pub(crate) const FEWEST_EMPTIES_GUESS_LOOKED: u8 = 13;
 pub(crate) const MOST_EMPTIES_GUESS_LOOKED: u8 = 14;
 
 /// Null windows of one guess, at the most.
-pub(crate) const GUESS_ROUNDS: u8 = 12;
+pub const GUESS_ROUNDS: u8 = 12;
+
+/// Discs that a guess leaves open: to close them takes longer than it saves.
+pub(crate) const GUESS_CLOSE: i8 = 3;
 
 /// Discs: the first step of a guess away from where it starts, which doubles each time.
 pub(crate) const FIRST_GUESS_STEP: i8 = 8;

@@ -20,7 +20,7 @@ fn bounds_within<R: AllocGlobal + Abort>(rt: &R, board: &Board, limit: u64) -> I
     let Ok(answer) = solve_alone(board, Scoring::Winner) else {
         panic!(rt; "not solved")
     };
-    let mut cells = Limited::of(MemoCells::of(rt.alloc(), board.empties()), limit);
+    let mut cells = Limited::of(MemoCells::alone(rt.alloc(), board.empties()), limit);
     let bounds = match solve_until(rt.alloc(), board, &mut cells, Scoring::Winner) {
         Ok(found) => {
             assert!(rt; found == answer);

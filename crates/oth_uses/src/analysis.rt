@@ -36,7 +36,7 @@ pub fn scores_after(alloc: Global, moves: &[u8], scoring: Scoring) -> Result<Sco
     if board.empties() > MOST_EMPTIES {
         return Err(Unscored::Empties);
     }
-    let mut cells = MemoCells::of(alloc, board.empties());
+    let mut cells = MemoCells::alone(alloc, board.empties());
     Ok(scores_with(board, &mut cells, scoring))
 }
 

@@ -4,10 +4,10 @@ ghost use Rattle.std.specs.Prelude.{pos, negsuc, ◌≤ℤ◌};
 
 use crate::move_order::beginning_with;
 use crate::shared::Search;
-use crate::tuning::{CLOSE, FIRST_STEP, GLANCE_ROUNDS, TURNS};
+use crate::tuning::TURNS;
 use crate::worker::Worker;
 use oth_rules::{Board, Square};
-use oth_search::{Cells, NullWindow, seeming_value};
+use oth_search::{Bracket, Cells, GUESS_ROUNDS, NullWindow, seeming_value};
 
 /// A score that the root seems to reach, from -63 on, and the move by which it seems to.
 #[derive(Clone, Copy)]
@@ -34,90 +34,23 @@ pub(crate) fn glance<C: Cells>(shared: &Search, worker: &mut Worker<C>) -> Guess
         Some(square) => *square,
         None => Square::numbered(0),
     };
-    let mut range = Range::new();
-    for _ in 0..GLANCE_ROUNDS {
-        let score = range.next();
+    let mut bracket = Bracket::from(0);
+    for _ in 0..GUESS_ROUNDS {
         let ordered = beginning_with(Some(best), squares.as_slice());
-        let found = reaching(shared, ordered.as_slice(), score, worker);
+        let found = reaching(shared, ordered.as_slice(), -bracket.at, worker);
         if let Some(told) = worker.told_guess() {
             return told;
         }
-        range = range.after(score, found.is_some());
+        bracket = match found {
+            Some(_) => bracket.at_most(bracket.at),
+            None => bracket.at_least(bracket.at + 1),
+        };
         best = later(best, found);
-        if range.is_close() {
+        if bracket.is_close() {
             break;
         }
     }
-    Guess::of(range.guess(), best)
-}
-
-// Where the score seems to lie: what is reached, and what isn't.
-#[derive(Clone, Copy)]
-struct Range {
-    low: i8,
-    high: i8,
-    step: i8,
-}
-
-impl Range {
-    // Nothing is known yet.
-    fn new() -> Range {
-        Range {
-            low: -64,
-            high: 65,
-            step: FIRST_STEP,
-        }
-    }
-
-    // The score that is asked for next.
-    fn next(self) -> i8
-        ensures low { negsuc 62 ≤ℤ result }
-        ensures high { result ≤ℤ pos 64 }
-    {
-        let score = self.beyond();
-        score.max(-63).min(64)
-    }
-
-    // The middle, or a step beyond what is known.
-    fn beyond(self) -> i8 {
-        if self.low > -64 && self.high < 65 {
-            self.low / 2 + self.high / 2
-        } else if self.low > -64 {
-            self.low.saturating_add(self.step)
-        } else if self.high < 65 {
-            self.high.saturating_sub(self.step)
-        } else {
-            0
-        }
-    }
-
-    // The same, when it is known whether the score seems to be reached.
-    fn after(self, score: i8, is_reached: bool) -> Range {
-        let step = self.step.saturating_add(self.step);
-        if is_reached {
-            Range {
-                low: score,
-                high: self.high,
-                step,
-            }
-        } else {
-            Range {
-                low: self.low,
-                high: score,
-                step,
-            }
-        }
-    }
-
-    // Whether the guess is close enough.
-    fn is_close(self) -> bool {
-        self.high.saturating_sub(self.low) <= CLOSE
-    }
-
-    // What seems reached.
-    fn guess(self) -> i8 {
-        self.low
-    }
+    Guess::of(-bracket.most(), best)
 }
 
 // What was found, or what was there before.

@@ -3,10 +3,10 @@ ghost use Rattle.std.specs.Prelude.{◌≡◌, pos, negsuc, ◌≤ℤ◌, IfSome
 
 use crate::shared::Search;
 use crate::tuning::{MOST_IN_VAIN, MOST_WINDOWS};
-use crate::window::{Pace, is_settled, shared_window};
+use crate::window::{is_settled, paced_window, shared_window};
 use crate::worker::Worker;
 use oth_rules::{Board, Square};
-use oth_search::{Cells, Interval, NullWindow, Solved, known_below};
+use oth_search::{Cells, Interval, NullWindow, Pace, Solved, known_below};
 
 /// A move of the root of a search, and the board after it.
 #[derive(Clone, Copy)]
@@ -75,7 +75,8 @@ impl<'s> RootMove<'s> {
             found = worker.narrow(self, least, &found, window);
             worker.put(&found);
             worker.raise_by(self, &found);
-            pace = pace.after(before, found.interval);
+            let upper = found.interval.upper;
+            pace = pace.after(upper < before.upper || upper == 64);
             if found.interval == before && worker.floor() == least {
                 vain = vain.saturating_add(1);
             }
@@ -105,7 +106,7 @@ impl<'s> RootMove<'s> {
         if found == Interval::all() {
             return NullWindow::at(1 - guess.score);
         }
-        pace.window(found)
+        paced_window(found, pace)
     }
 
     /// Searches a reply to the move as far as it tells something of the root, and tells the others what it alone tells.

@@ -53,15 +53,6 @@ pub(crate) const TOLD: u32 = 10;
 /// Empty squares of the root: from here on workers make the first guess together. Below it each one searches at once.
 pub(crate) const FEWEST_EMPTIES_GUESSED_TOGETHER: u8 = 14;
 
-/// Scores that a guess asks for, at the most.
-pub(crate) const GLANCE_ROUNDS: u8 = 12;
-
-/// Scores that a guess leaves open: to close them takes longer than it saves.
-pub(crate) const CLOSE: i8 = 4;
-
-/// Discs: the first step of a guess away from 0, which doubles each time.
-pub(crate) const FIRST_STEP: i8 = 8;
-
 /// Rounds through the moves of a node of the guess: a move that another worker is at is left to it in the first.
 pub(crate) const TURNS: u8 = 2;
 

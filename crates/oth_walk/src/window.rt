@@ -2,7 +2,7 @@
 ghost use Rattle.std.specs.Prelude.{pos, negsuc, ◌≤ℤ◌};
 
 use crate::tuning::OFF;
-use oth_search::{Interval, NullWindow, Solved, wider};
+use oth_search::{Interval, NullWindow, Pace, Solved};
 
 /// Whether the value of the board after a root's move is known, or that the root gets less than so much by it.
 pub fn is_settled(child: &Solved, least: i8) -> bool
@@ -12,39 +12,15 @@ pub fn is_settled(child: &Solved, least: i8) -> bool
     child.interval.lower == child.interval.upper || child.interval.lower > -least
 }
 
-/// How far beyond a bound a search for a value asks next.
-#[derive(Clone, Copy)]
-pub(crate) struct Pace {
-    step: i8,
-    ghost range: { (pos 1 ≤ℤ step) × (step ≤ℤ pos 63) },
-}
-
-impl Pace {
-    /// Nothing has been asked.
-    pub fn new() -> Pace {
-        Pace { step: 1 }
-    }
-
-    /// After a search by which these bounds became those. Steps widen as long as they lead on.
-    pub fn after(self, before: Interval, now: Interval) -> Pace {
-        if now.upper < before.upper || now.upper == 64 {
-            return Pace {
-                step: wider(self.step),
-            };
-        }
-        Pace { step: 1 }
-    }
-
-    /// The null window that is asked next of a value between these bounds: a step below the upper one, or above the
-    /// lower one where that is all that is known.
-    pub fn window(self, bounds: Interval) -> NullWindow {
-        let alpha = if bounds.upper == 64 {
-            bounds.lower + self.step
-        } else {
-            bounds.lower.max(bounds.upper - self.step)
-        };
-        NullWindow::at(threshold(alpha) + 1)
-    }
+/// The null window that is asked next of a value between these bounds: a step below the upper one, or above the lower
+/// one where that is all that is known.
+pub(crate) fn paced_window(bounds: Interval, pace: Pace) -> NullWindow {
+    let alpha = if bounds.upper == 64 {
+        bounds.lower + pace.step
+    } else {
+        pace.below(bounds)
+    };
+    NullWindow::at(threshold(alpha) + 1)
 }
 
 /// The null window that is asked next of a value between these bounds, which seems to be the guess, where workers share

@@ -1,7 +1,6 @@
 use Rattle.std.proofs.Common.{◌≡◌}
-use Rattle.std.specs.Prelude.{◌≤ℤ◌, pos}
 use Rattle.oth_rules.specs.Laws.{IsScore}
 use Rattle.oth_search.proofs.root.leader.Given as goal
 
 abbrev pub invariant-loop : goal.invariant-loop
-invariant-loop g l = IsScore l.most × (pos 1 ≤ℤ l.step) × (l.step ≤ℤ pos 63) × (g.C.Cells.fixed l.cells ≡ g.C.Cells.fixed l.fn.cells)
+invariant-loop g l = IsScore l.most × (g.C.Cells.fixed l.cells ≡ g.C.Cells.fixed l.fn.cells)

@@ -1,15 +1,15 @@
 use Rattle.std.proofs.Common.{arith}
 use Rattle.std.proofs.lemmas.Int.{ints}
-use Rattle.oth_search.proofs.RootSearch.{fewer, between}
+use Rattle.oth_search.proofs.RootSearch.{fewer}
 use Rattle.oth_search.proofs.solved.Solved.exact.Goals as goal
 
-pub loop-reply-smaller-then-reply-alpha : goal.loop-reply-smaller-then-reply-alpha
-loop-reply-smaller-then-reply-alpha g c =
+pub loop-reply-smaller : goal.loop-reply-smaller
+loop-reply-smaller g c =
     let old = c.loop-reply.reply.interval in
     let new = c.decided_at-reply.result.interval in
-    fewer old.lower old.upper new.lower new.upper c.greater-alpha.result _ _ new.is_interval
-    (omega (arith, ints, c.greater-alpha.ensures.left))
-    (between old.lower old.upper _ _ _ (omega (arith, ints)) (omega (arith, ints, c.loop-reply-test.true)) (omega (arith, ints)) c.greater-alpha.ensures.one)
+    fewer old.lower old.upper new.lower new.upper c.below-alpha.result _ _ new.is_interval
+    (omega (arith, ints, c.below-alpha.ensures.low))
+    (omega (arith, ints, c.below-alpha.ensures.high (omega (arith, ints, c.loop-reply-test.true))))
     (omega (arith, ints, c.decided_at-reply.ensures.lower)) (omega (arith, ints, c.decided_at-reply.ensures.upper)) (omega (arith, ints)) (omega (arith, ints)) c.decided_at-reply.ensures.decides
 
 pub returns-clause-exact : goal.returns-clause-exact

@@ -1,0 +1,39 @@
+//! How far beyond what is known of a value a search for it asks next.
+ghost use Rattle.std.specs.Prelude.{pos, ◌≤ℤ◌, ◌<ℤ◌};
+
+use crate::interval::{Interval, greater};
+use crate::tuning::WIDEST_STEP;
+
+/// The step from a bound of a value to the threshold that is asked next: 1, 3, 7 and so on, up to 63 discs.
+#[derive(Clone, Copy)]
+pub struct Pace {
+    pub step: i8,
+    ghost range: { (pos 1 ≤ℤ step) × (step ≤ℤ pos 63) },
+}
+
+impl Pace {
+    /// Nothing has been asked.
+    pub fn new() -> Pace {
+        Pace { step: 1 }
+    }
+
+    /// After a question. Steps widen as long as they lead on.
+    pub fn after(self, leads_on: bool) -> Pace {
+        let step = self.step;
+        if !leads_on {
+            return Pace { step: 1 };
+        }
+        if step > 30 {
+            return Pace { step: WIDEST_STEP };
+        }
+        Pace { step: 2 * step + 1 }
+    }
+
+    /// The threshold that is a step below the upper bound, or the lower bound where that is nearer.
+    pub fn below(self, bounds: Interval) -> i8
+        ensures low { bounds.lower ≤ℤ result }
+        ensures high { bounds.lower <ℤ bounds.upper → result <ℤ bounds.upper }
+    {
+        greater(bounds.lower, bounds.upper - self.step)
+    }
+}
