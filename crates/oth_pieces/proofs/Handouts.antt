@@ -6,6 +6,7 @@ use mathlib.Core.Logic.{dite}
 use native.Mathlib.Decide.{ℕ_discrete}
 use Rattle.std.specs.declared.alloc.Global.{Global}
 use Rattle.std.specs.declared.alloc.AllocError.{AllocError}
+use Rattle.oth_pieces.specs.declared.frontier.TheConstants.{MOST_ITEMS}
 use Rattle.oth_pieces.specs.Hands.{Owner, StaysOwner, StayOwners, IsTokenOf, AreTokensOf, HasOnly, OwnerFits, OwnersFit, PileFits, HasRoom}
 use Rattle.oth_pieces.specs.Hands.{IsHandOf, IsNewHand, AreHandsOf, AreAllHands, AreFresh, HaveRoom, number_of, taken_with}
 use Rattle.std.specs.List.{sum_by, All}
@@ -111,7 +112,7 @@ none_taken x (t ∷ ts) none =
     let rest = none_taken x ts (λ d p below. none (suc d) p (omega arith)) in omega (arith, sum_by-cons (taken_with x) t ts)
 
 pub new_hand : (tasks : Tasks) (number : ℕ) (owner : Owner) (pile : Vec Token Global) (list : Vec ℕ Global) (room : Parts) → number < vec_len tasks.thieves
-    → OwnerFits tasks number owner → PileFits tasks pile → list.items ≡ [] → 870 ≤ vec_capacity list → HasRoom (vec_len tasks.thieves) room
+    → OwnerFits tasks number owner → PileFits tasks pile → list.items ≡ [] → MOST_ITEMS ≤ vec_capacity list → HasRoom (vec_len tasks.thieves) room
     → IsNewHand tasks number (record { number = number; owner = owner; passes = pile; list = list; ended = false; room = room })
 new_hand tasks number owner pile list room below fits passes empty long has_room = (
   record {

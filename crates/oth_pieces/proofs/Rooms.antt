@@ -1,4 +1,4 @@
--- A frontier of a board with at most 30 empty squares has at most 870 items.
+-- A frontier of a board with at most 30 empty squares has at most so many items as there is room for.
 use Rattle.std.proofs.Common.{◌≡◌, ℕ, zero, suc, ◌+◌, ◌*◌, ◌<◌, ◌≤◌, Bool, true, false, cond, ◌&&◌, List, [], ◌∷◌, map, length, get_or, refl, sym, ◌∙◌, arith}
 use Rattle.std.specs.List.{filter, flat_map, range_with_len, All}
 use Rattle.std.proofs.lemmas.Bool.{false≢true}
@@ -13,6 +13,7 @@ use Rattle.oth_rules.specs.Laws.{IsLegal}
 use Rattle.std.specs.List.{list_any}
 use Rattle.oth_rules.proofs.Legal.{legal-is}
 use Rattle.oth_rules.proofs.SearchLaws.{empty_count-after, empty_count-pass, IsLegal-from_contains}
+use Rattle.oth_pieces.specs.declared.frontier.TheConstants.{MOST_ITEMS}
 use Rattle.oth_pieces.specs.declared.frontier.item.Item.{Item}
 use Rattle.oth_pieces.specs.Frontier.{awake, only_passes, item_after, children, move_of, one_ply, below, two_plies}
 
@@ -68,7 +69,7 @@ all_legal r k d within = IsLegal-from_contains r (get_or (legal_squares r) k d) 
 pub one_room : (p : Position) → empty_count p ≤ 30 → length (one_ply p) ≤ 64
 one_room p few = omega (arith, length-map (legal_squares (awake p)) (move_of (awake p)), most_moves (awake p), awake_count p)
 
-pub two_room : (p : Position) → empty_count p ≤ 30 → length (two_plies p) ≤ 870
+pub two_room : (p : Position) → empty_count p ≤ 30 → length (two_plies p) ≤ MOST_ITEMS
 two_room p few =
     let r : Position = awake p in
     let same = awake_count p in

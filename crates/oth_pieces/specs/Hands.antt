@@ -10,6 +10,7 @@ use Rattle.std.specs.declared.alloc.Global.{Global}
 use Rattle.crossbeam_deque.specs.Handles.{Pass, view, IsPassOf, worker_deque, stealer_deque, worker_view}
 use Rattle.crossbeam_deque.specs.declared.handles.Stealer.{Stealer}
 use Rattle.crossbeam_deque.specs.declared.handles.Worker.{Worker}
+use Rattle.oth_pieces.specs.declared.frontier.TheConstants.{MOST_ITEMS}
 use Rattle.oth_pieces.specs.declared.tasks.state.Tasks.{Tasks}
 use Rattle.oth_pieces.specs.declared.tasks.state.Hand.{Hand}
 use Rattle.oth_pieces.specs.declared.tasks.state.Parts.{Parts}
@@ -157,7 +158,7 @@ pub record PileFits (tasks : Tasks) (pile : Vec (Pass ℕ Share Global) Global) 
       → HasOnly (vec_len tasks.thieves) tasks.count d (view (slice_index_or pile.items d p))
 
 abbrev pub IsNewHand : Tasks → ℕ → Hand → Type 0
-IsNewHand tasks number h = IsHandOf tasks h × (number_of h ≡ number) × (list_of h ≡ []) × (has_ended h ≡ false) × (870 ≤ room_of h)
+IsNewHand tasks number h = IsHandOf tasks h × (number_of h ≡ number) × (list_of h ≡ []) × (has_ended h ≡ false) × (MOST_ITEMS ≤ room_of h)
 
 abbrev pub AreHandsOf : Tasks → ℕ → List Hand → Type 0
 AreHandsOf tasks n hands =
@@ -177,4 +178,4 @@ AreFresh hands = All (λ (h : Hand). (list_of h ≡ []) × (has_ended h ≡ fals
 
 -- each hand can draw all numbers of a frontier
 abbrev pub HaveRoom : List Hand → Type 0
-HaveRoom hands = All (λ (h : Hand). 870 ≤ room_of h) hands
+HaveRoom hands = All (λ (h : Hand). MOST_ITEMS ≤ room_of h) hands

@@ -17,10 +17,16 @@ pub fn board(words: [u64; 2]) -> Option<Board>
     Some(board)
 }
 
-/// The start of a game, and from there the least-numbered legal moves, with passes where they are forced, until at most
-/// so many squares are empty or the game is over.
+/// The start of a game, and from there the least-numbered legal moves.
 pub fn after_least_moves(most_empties: u8) -> Option<Board> {
-    let mut board = Board::of(0x0000_0008_1000_0000, 0x0000_0010_0800_0000).ok()?;
+    let start = Board::of(0x0000_0008_1000_0000, 0x0000_0010_0800_0000).ok()?;
+    least_moves_from(start, most_empties)
+}
+
+/// From this board on the least-numbered legal moves, with passes where they are forced, until at most so many squares
+/// are empty or the game is over.
+pub fn least_moves_from(board: Board, most_empties: u8) -> Option<Board> {
+    let mut board = board;
     for _ in 0..120 {
         if board.empties() <= most_empties || board.is_over() {
             break;

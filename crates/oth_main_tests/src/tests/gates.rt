@@ -4,7 +4,7 @@ use super::{NO_FAILURE, settings};
 use oth_book::{Added, Book};
 use oth_main::{Command, Settings, run};
 use oth_pool::{Frontier, Gate};
-use oth_rules::samples::after_least_moves;
+use oth_rules::samples::{after_least_moves, least_moves_from};
 use oth_rules::{Board, Scoring, Square};
 use oth_search::{MOST_EMPTIES, Solved, solve_alone};
 use oth_text::fakes::{BrokenSource, ByteSink};
@@ -20,30 +20,13 @@ use std::thread::Threads;
 // So many boards have a line.
 const BOARDS: usize = 8;
 
-// The least-numbered legal moves, with passes where they are forced, until ten squares are empty or the game is over.
-fn to_ten_empties(board: Board) -> Option<Board> {
-    let mut board = board;
-    for _ in 0..20 {
-        if board.empties() <= 10 || board.is_over() {
-            break;
-        }
-        let moves = board.moves();
-        board = if moves == 0 {
-            board.pass()
-        } else {
-            board.play(Square::first_of(moves))?
-        };
-    }
-    Some(board)
-}
-
 // Boards of ten empty squares, one below each move of a board of 14.
 fn boards(alloc: Global) -> Result<Vec<Board>, Fail> {
     let mut boards = Vec::new(alloc);
     let root = after_least_moves(14).unwrap_or(Position::start().board);
     for number in 0..64 {
         if let Some(child) = root.play(Square::numbered(number)) {
-            if let Some(board) = to_ten_empties(child) {
+            if let Some(board) = least_moves_from(child, 10) {
                 boards.push(board)?;
             }
         }

@@ -89,12 +89,11 @@ fn piles_of(
 }
 
 // A pass of each deque, for one hand.
-fn pile_of(alloc: Global, tasks: &Tasks, owners: &mut [Owner]) -> Result<Vec<Token>, AllocError>
-    requires { OwnersFit tasks.now owners.old }
-    ensures owners { OwnersFit tasks.now owners.new }
-    ensures pile { IfOk result (λ pile. PileFits tasks.now pile) }
+fn pile_of(alloc: Global, _tasks: &Tasks, owners: &mut [Owner]) -> Result<Vec<Token>, AllocError>
+    requires { OwnersFit _tasks.now owners.old }
+    ensures owners { OwnersFit _tasks.now owners.new }
+    ensures pile { IfOk result (λ pile. PileFits _tasks.now pile) }
 {
-    let _count = tasks.count;
     passes_of(alloc, owners)
 }
 

@@ -1,5 +1,6 @@
 use Rattle.std.proofs.Common.{◌≡◌, ◌++◌, ℕ, arith, ap, ◌∙◌, length}
 use Rattle.oth_rules.specs.Move.{is_legal, after}
+use Rattle.oth_pieces.specs.declared.frontier.TheConstants.{MOST_ITEMS}
 use Rattle.oth_pieces.specs.declared.frontier.item.Item.{Item}
 use Rattle.oth_pieces.specs.Frontier.{item_after, children}
 use Rattle.oth_pieces.proofs.Belows.{items_below, grows, room, whole}
@@ -13,7 +14,7 @@ push_child-requires c =
     let parent : Item = c.args.parent.now in
     let e : length (items_below (is_legal parent.board) (after_move parent) 64) ≡ length (children parent) = ap length (whole parent.board (after_move parent)) in
     rw c.numbered.ensures
-    (room (is_legal parent.board) (after_move parent) 870 c.args.items.now.items c.loop-number.items.items c.loop-number.number c.loop-number.invariant c.loop-number-test.true
+    (room (is_legal parent.board) (after_move parent) MOST_ITEMS c.args.items.now.items c.loop-number.items.items c.loop-number.number c.loop-number.invariant c.loop-number-test.true
     (omega arith))
 
 pub loop-number-preserved : goal.loop-number-preserved
