@@ -1,5 +1,6 @@
 //! A move of the root, searched until it needs no further search.
-ghost use Rattle.std.specs.Prelude.{◌≡◌, pos, negsuc, ◌≤ℤ◌, IfSome};
+ghost use Rattle.std.specs.Prelude.{◌≡◌, ◌↔◌, pos, negsuc, ◌≤ℤ◌, IfSome, IsSome, IsTrue};
+ghost use Rattle.oth_rules.specs.Move.{is_legal, after};
 
 use crate::shared::Search;
 use crate::tuning::{MOST_IN_VAIN, MOST_WINDOWS};
@@ -19,7 +20,9 @@ pub struct RootMove<'s> {
 impl<'s> RootMove<'s> {
     /// The root's move to this square, where it is legal.
     pub fn of(shared: &'s Search<'s>, square: Square) -> Option<RootMove<'s>>
-        ensures { IfSome result (λ m. m.shared.now ≡ shared.now) }
+        ensures legal { IsSome result ↔ IsTrue (is_legal shared.now.root square) }
+        ensures search { IfSome result (λ m. m.shared.now ≡ shared.now) }
+        ensures played { IfSome result (λ m. (m.square ≡ square) × (m.child ≡ after shared.now.root square)) }
     {
         let child = shared.root.play(square)?;
         Some(RootMove {

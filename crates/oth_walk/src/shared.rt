@@ -27,7 +27,9 @@ impl<'s> Search<'s> {
     ) -> Search<'s>
         ensures root { result.root ≡ root }
         ensures scoring { result.scoring ≡ scoring }
+        ensures moves { result.squares.now ≡ squares.now }
         ensures frontier { result.frontier.now ≡ frontier.now }
+        ensures sharing { result.shape.sharing ≡ sharing }
     {
         Search {
             root,
@@ -89,7 +91,9 @@ pub struct Shape {
 
 impl Shape {
     /// The shape of a search below a root with so many empty squares.
-    pub fn of(empties: u8, sharing: Sharing) -> Shape {
+    pub fn of(empties: u8, sharing: Sharing) -> Shape
+        ensures { result.sharing ≡ sharing }
+    {
         let (fewest, dealt) = shared_empties(empties);
         Shape {
             fewest,
