@@ -1,7 +1,7 @@
 -- Seats that are lent one after the other.
 use Rattle.std.proofs.Common.{◌≡◌, List, [], ◌∷◌, ◌++◌, refl, sym, ap, ◌∙◌, subst, append_assoc, Option, Some, None}
 use Rattle.std.proofs.lemmas.List.Elements.{All-nil, All-cons, All-append}
-use Rattle.oth_history.specs.History.{Name, Begins, events_of, EndsBy}
+use Rattle.oth_history.specs.History.{Name, events_of, EndsBy}
 use Rattle.oth_history.proofs.Histories.{begins_then, ends_begins, events_of-own, events_of-since}
 use Rattle.oth_table.specs.Parts.{Use, Shape, Sitting}
 use Rattle.oth_table.specs.SharedTable.{Makes}
