@@ -5,8 +5,8 @@
 
 OURS and OTHER are commands that read board lines and write a report line for each, as
 `'crates/othsolve/out/othsolve solve --cells 0'` and `'/path/to/another/solver solve'`, which may be a copy of this program from before.
-They are run in turn, RUNS times each (3 if not given); the times are the least of the runs, since a shared machine is noisy: seconds by
-the clock, and in brackets seconds of all processors. The exit status is 1 where an answer differs, with the first few lines that do.
+They are run in turn, RUNS times each (3 if not given); the times are the least of the runs, since a shared machine is noisy: wall-clock
+seconds, and in brackets CPU seconds. The exit status is 1 where an answer differs, with the first few lines that do.
 """
 import resource
 import shlex
@@ -16,7 +16,7 @@ import time
 
 
 def run(command, boards):
-    """What the command writes for the boards, and the seconds that it took: by the clock, and of all processors."""
+    """What the command writes for the boards, and the wall-clock and the CPU seconds that it took."""
     before = resource.getrusage(resource.RUSAGE_CHILDREN)
     began = time.monotonic()
     with open(boards, "rb") as lines:

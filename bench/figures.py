@@ -7,7 +7,7 @@ OURS is this program's file. V2 and V3 are commands of another solver, built for
 write report lines, as `'/path/to/another/solver solve'`. The boards are those of `bench/game-NN.txt`. By 1, 2 and 4 workers OURS solves
 each board in a run of its own; by 4 workers it is given all boards of the file at once too, and so are the two others. All that goes in
 turn, RUNS times at the fewest empty squares (48 if not given), half as often with every two more, but at least twice. What counts is the
-least seconds by the clock: of each board, added up, or of the whole file. The exit status is 1 where two answers differ. Leave the
+least wall-clock seconds: of each board, added up, or of the whole file. The exit status is 1 where two answers differ. Leave the
 machine alone meanwhile, and run `bench/plot.py` after it.
 """
 import pathlib
@@ -19,15 +19,15 @@ import time
 BENCH = pathlib.Path(__file__).resolve().parent
 FIGURES = BENCH / "figures.txt"
 WORKERS = (1, 2, 4)
-HEAD = """# What was measured, a line for each number of empty squares: seconds by the clock for the ten boards of bench/game-NN.txt, `-` where
+HEAD = """# What was measured, a line for each number of empty squares: wall-clock seconds for the ten boards of bench/game-NN.txt, `-` where
 # nothing was measured. The columns stand in the first line that is no comment. `bench/figures.py` measures and writes this file, and
 # `bench/plot.py` makes the tables and the plot of it.
-empty squares; 1 worker; 2 workers; 4 workers; 4, side by side; the other, v2; the other, v3
+empty squares; 1 worker; 2 workers; 4 workers; 4, side by side; reference, v2; reference, v3
 """
 
 
 def timed(command, lines):
-    """The seconds by the clock that the command takes with these lines, and what it writes."""
+    """The wall-clock seconds that the command takes with these lines, and what it writes."""
     began = time.monotonic()
     written = subprocess.run(command, input=lines, stdout=subprocess.PIPE, check=True).stdout
     return time.monotonic() - began, written

@@ -83,7 +83,7 @@ def plot(columns, rows):
         f'<svg xmlns="http://www.w3.org/2000/svg" viewBox="0 0 {WIDTH} {HEIGHT}" font-family="sans-serif" font-size="13">',
         "<title>Seconds for ten boards against empty squares</title>",
         f'<rect width="{WIDTH}" height="{HEIGHT}" fill="#ffffff"/>',
-        text(LEFT, 26, "Seconds for ten boards, by the clock", ' font-size="15"'),
+        text(LEFT, 26, "Wall-clock seconds for ten boards", ' font-size="15"'),
         text((LEFT + RIGHT) / 2, BOTTOM + 44, "empty squares", ' text-anchor="middle"'),
     ]
     for power in range(low, high + 1):
