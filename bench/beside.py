@@ -7,7 +7,7 @@ Each PLAIN is a program that bench/plain.py made, as of this tree and of an earl
 each program in turn, by one worker with 65,536 cells, in a process of its own, which tells the seconds of the search. What counts is the
 least of the rounds, board by board. For each program a line has the sum over the boards, the sum as a part of the first program's, and
 the geometric mean of the boards' times; the sums so far go to standard error after each round. The exit status is 1 where two answers
-differ. Leave the machine alone meanwhile; at the end stands how much of the processors' time the host gave to others.
+differ. Leave the machine alone meanwhile; at the end stands how much CPU time the host gave to others.
 """
 import math
 import subprocess
@@ -24,7 +24,7 @@ def solved(program, board):
 
 
 def processor_times():
-    """The processors' time so far, all of it and what the host gave to others."""
+    """The CPU time so far, all of it and what the host gave to others."""
     with open("/proc/stat", encoding="utf-8") as stat:
         times = [int(word) for word in stat.readline().split()[1:9]]
     return sum(times), times[7]

@@ -48,7 +48,7 @@ def main():
 
 
 def least(runs):
-    """The least seconds by the clock, and the least of all processors."""
+    """The least wall-clock and the least CPU seconds."""
     return min(clock for clock, _ in runs), min(processors for _, processors in runs)
 
 

@@ -5,7 +5,7 @@
 
 PROGRAM is `crates/oth_forms/out/oth_forms` if not given, which `(cd crates/oth_forms && rt run -- moves)` leaves. Each form is run in turn,
 RUNS times (5 if not given), and what the making of the boards takes is taken off. Printed are nanoseconds a call and calls a second, of
-the least processor time. The exit status is 1 where two forms of one call differ.
+the least CPU time. The exit status is 1 where two forms of one call differ.
 """
 import resource
 import subprocess
@@ -17,7 +17,7 @@ FORMS = {"moves": ("moves", "moves_by_lines", "moves_by_shifts"), "flips": ("fli
 
 
 def run(program, form):
-    """What the program prints of the form, and the seconds of processor time that it takes."""
+    """What the program prints of the form, and the seconds of CPU time that it takes."""
     before = resource.getrusage(resource.RUSAGE_CHILDREN).ru_utime
     wrote = subprocess.run([program, form], stdout=subprocess.PIPE, check=True).stdout
     return wrote, resource.getrusage(resource.RUSAGE_CHILDREN).ru_utime - before

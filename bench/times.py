@@ -4,9 +4,9 @@
     bench/times.py [COMMAND ..]
 
 The command, `./check` if none is given, is run at the top of this repository, and what it prints goes through, each line behind the
-minutes since the start. Meanwhile the prover's processes are looked at each second. The table at the end tells the seconds of processor
-time that they took, by crate: its own proof, the proof of its tests, and its must-fail edits. Then come the edits that took most, and the
-minutes of the whole by the clock. What a process takes after it was last looked at is not seen, so a row is short by up to a second a
+minutes since the start. Meanwhile the prover's processes are looked at each second. The table at the end tells the CPU seconds that
+they took, by crate: its own proof, the proof of its tests, and its must-fail edits. Then come the edits that took most, and the wall-clock
+minutes of the whole. What a process takes after it was last looked at is not seen, so a row is short by up to a second a
 process. Leave the machine alone meanwhile. The exit status is the command's.
 """
 import collections
