@@ -160,7 +160,7 @@ uint32_t oth_scores(oth_board board, uint8_t scoring, uint32_t cells, oth_move_s
  *     oth_seat_free(&first);                               each seat once; the last one frees the table too
  *     oth_seat_free(&second);
  *
- * oth_table_new makes a table of `cells` cells of 32 bytes, 1, 2, 4 .. 262144, for boards by this scoring, and its first seat.
+ * oth_table_new makes a table of `cells` cells of 32 bytes, 1, 2, 4 .. 262144, for boards under this scoring, and its first seat.
  * Refusals, the first that holds: OTH_SEATED, OTH_SCORING, OTH_CELLS, OTH_MEMORY. */
 uint32_t oth_table_new(uint32_t cells, uint8_t scoring, oth_seat *seat);
 
@@ -168,7 +168,7 @@ uint32_t oth_table_new(uint32_t cells, uint8_t scoring, oth_seat *seat);
  * Refusals, the first that holds: OTH_NO_SEAT, OTH_SEATED, OTH_MEMORY. */
 uint32_t oth_seat_new(oth_seat *seat, oth_seat *more);
 
-/* The score, all best moves and the kind of a board of at most 30 empty squares, by the table's scoring and the caller's
+/* The score, all best moves and the kind of a board of at most 30 empty squares, under the table's scoring and the caller's
  * thread. The answer is exact, whatever other threads do over the table meanwhile, and want of memory doesn't change it.
  * Refusals, the first that holds: OTH_OVERLAP, OTH_EMPTIES, OTH_NO_SEAT. */
 uint32_t oth_solve_over(oth_seat *seat, oth_board board, oth_answer *answer);

@@ -357,7 +357,7 @@ class Table:
         _done(_LIB.oth_table_new(_cells(cells), Scoring(scoring), ctypes.byref(self._first)))
 
     def solve(self, board: Board) -> Answer:
-        """The score, all best moves and the kind of a board of at most MOST_EMPTIES empty squares, by the table's scoring."""
+        """The score, all best moves and the kind of a board of at most MOST_EMPTIES empty squares, under the table's scoring."""
         seat, answer = self._seat(), _Answer()
         try:
             _done(_LIB.oth_solve_over(ctypes.byref(seat), board._words, ctypes.byref(answer)))
@@ -366,7 +366,7 @@ class Table:
         return Answer(answer.score, _names(answer.best), Kind(answer.kind))
 
     def scores(self, board: Board) -> dict[str, int]:
-        """The score of each legal move, rising, by the table's scoring, as `Board.scores`."""
+        """The score of each legal move, rising, under the table's scoring, as `Board.scores`."""
         seat, found = self._seat(), _Scores()
         try:
             _done(_LIB.oth_scores_over(ctypes.byref(seat), board._words, ctypes.byref(found)))

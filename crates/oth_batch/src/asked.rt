@@ -22,7 +22,7 @@ pub(crate) enum Found {
 }
 
 impl Found {
-    /// The answer, if it is one of this board by this scoring.
+    /// The answer, if it is one of this board under this scoring.
     pub(crate) fn answer(&self, board: &Board, scoring: Scoring) -> Option<Answer>
         ensures board { IfSome result (λ a. a.board ≡ board.now) }
         ensures scoring { IfSome result (λ a. a.scoring ≡ scoring) }
@@ -37,7 +37,7 @@ impl Found {
         }
     }
 
-    /// The scores, if they are those of this board by this scoring.
+    /// The scores, if they are those of this board under this scoring.
     pub(crate) fn scores(&self, board: &Board, scoring: Scoring) -> Option<&Scores>
         ensures board { IfSome result (λ s. s.now.answer.board ≡ board.now) }
         ensures scoring { IfSome result (λ s. s.now.answer.scoring ≡ scoring) }

@@ -5,7 +5,7 @@ ghost use Rattle.std.specs.Prelude.{◌≡◌, ◌≢◌, All, IfSome, IfNone};
 use oth_rules::{Board, Scoring};
 use oth_search::Answer;
 
-/// The answer of the board by the scoring, if it is one of these.
+/// The answer of the board under the scoring, if it is one of these.
 pub fn answer_among(answers: &[Answer], board: &Board, scoring: Scoring) -> Option<Answer>
     ensures board { IfSome result (λ a. a.board ≡ board.now) }
     ensures scoring { IfSome result (λ a. a.scoring ≡ scoring) }

@@ -20,8 +20,8 @@ use std::alloc::Global;
 use std::cmp::Ordering;
 use std::marker::Model;
 
-/// Solved boards by one scoring, each canonical and of at most 30 empty squares, in the order of their cells. Each has
-/// true bounds of its value, and all best moves where the bounds are one number. There is no untrue book: whatever
+/// Solved boards under one scoring, each canonical and of at most 30 empty squares, in the order of their cells. Each
+/// has true bounds of its value, and all best moves where the bounds are one number. There is no untrue book: whatever
 /// makes one is proved to keep this.
 #[derive(Drop)]
 pub struct Book {

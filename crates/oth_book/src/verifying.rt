@@ -28,8 +28,8 @@ pub fn verify(alloc: Global, claims: Claims) -> Result<Book, Wrong>
 }
 
 /// The same, where answers may be known. Before each claim is tested, `known` is asked with the claims that are left,
-/// and may tell an answer. One of the first claim's board by the claims' scoring decides that claim; another is passed
-/// over, and the board is solved anew. An answer can't be untrue, so which are told changes nothing but the time.
+/// and may tell an answer. One of the first claim's board under the claims' scoring decides that claim; another is
+/// passed over, and the board is solved anew. An answer can't be untrue, so which are told changes the time alone.
 pub fn verify_knowing<F: FnMut(&[Claim]) -> Option<Answer>>(
     alloc: Global,
     claims: Claims,

@@ -1,5 +1,5 @@
-//! The worked books: A has value -50 by `Winner` and -49 by `Discs`, its best move is h1. C has value 64, its best
-//! moves are a1 and h1. The first two images have A as canonical board.
+//! The worked books: A has value -50 under `Winner` and -49 under `Discs`, its best move is h1. C has value 64, its
+//! best moves are a1 and h1. The first two images have A as canonical board.
 
 mod full;
 mod knowing;

@@ -1,7 +1,7 @@
 -- Answers as C has them.
 --     scoring_of n      the scoring of a number: 0 winner, 1 discs
 --     kind_number k      what the mover does: 0 moves, 1 passes, 2 the game is over
---     IsAnswer p g a      the value, all best moves and the kind of the position p by the scoring g
+--     IsAnswer p g a      the value, all best moves and the kind of the position p under the scoring g
 use Rattle.std.specs.Prelude.{◌≡◌, ℕ, ◌==◌, if◌then◌else◌}
 use Rattle.oth_rules.specs.declared.scoring.Scoring.{Scoring}
 use Rattle.oth_rules.specs.declared.scoring.Scoring.TheVariants.{Winner, Discs}

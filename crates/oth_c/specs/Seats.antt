@@ -1,10 +1,10 @@
 -- What the calls of seats promise. A seat is the use of a table, or None.
 --     is_held x                  there is a seat
---     IsOpened cells g u         u is the first use of a table of so many cells by this scoring, and has seen nothing
+--     IsOpened cells g u         u is the first use of a table of so many cells under this scoring, and has seen nothing
 --     Opens g cells x y          where there was no seat there is the first one of a new table
 --     Joins x y more more'       where there was no seat there is a further one of the same table
---     Solves, SolvesFully x b a      a is the answer of the board by the table's scoring, as C has it and as the search
---     EnclosesIn, EnclosesFully x b      bounds enclose the board's value by the table's scoring, as C has them and as the search
+--     Solves, SolvesFully x b a      a is the answer of the board under the table's scoring, as C has it and as the search
+--     EnclosesIn, EnclosesFully x b      bounds enclose the board's value under the table's scoring, as C has them and as the search
 --     IsKept x y                 it is the same seat of the same table, whatever it has seen
 --     RefusesCells, RefusesTable, RefusesSeat, RefusesBoard      why a call refuses: the first cause that holds
 use Rattle.std.specs.Prelude.{◌≡◌, ℕ, ℤ, ◌<◌, ◌≤◌, [], Bool, true, false, Option, Some, None}
@@ -74,7 +74,7 @@ RefusesCells cells refusal.Cells = ¬ IsSize cells
 RefusesCells cells refusal.Memory = IsSize cells
 RefusesCells cells _ = ⊥
 
--- a new table at this place, by the scoring of this number
+-- a new table at this place, under the scoring of this number
 abbrev pub RefusesTable : Option Use → ℕ → ℕ → Refusal → Type 0
 RefusesTable x g cells refusal.Taken = is_held x ≡ true
 RefusesTable x g cells refusal.Scoring = (is_held x ≡ false) × (2 ≤ g)

@@ -135,8 +135,8 @@ fn over(
     scores_with(board, &mut cells, scoring)
 }
 
-/// Writes the same by the table's scoring: exact, whatever other threads do over the table meanwhile. Refusals 1, 5 and
-/// 31, tested in this order; they leave the seat as it was.
+/// Writes the same under the table's scoring: exact, whatever other threads do over the table meanwhile. Refusals 1, 5
+/// and 31, tested in this order; they leave the seat as it was.
 #[unsafe(no_mangle)]
 pub extern "C" fn oth_scores_over(
     alloc: Global,

@@ -77,7 +77,7 @@ impl Seated {
         }
     }
 
-    /// The answer of a board by the table's scoring, and the seat, as it then is.
+    /// The answer of a board under the table's scoring, and the seat, as it then is.
     pub fn solve(self, alloc: Global, board: Board) -> (Seated, Answer)
         ensures kept { fixed_of result.0 ≡ fixed_of self }
         ensures full { IsFullMinimax board self.table.terms.scoring result.1 }
@@ -91,7 +91,7 @@ impl Seated {
         (Seated { table, seat }, answer)
     }
 
-    /// The scores of a board's moves by the table's scoring, and the seat, as it then is.
+    /// The scores of a board's moves under the table's scoring, and the seat, as it then is.
     pub fn scores(self, alloc: Global, board: Board) -> (Seated, Scores)
         ensures kept { fixed_of result.0 ≡ fixed_of self }
         ensures board { result.1.answer.board ≡ board }
@@ -106,8 +106,8 @@ impl Seated {
         (Seated { table, seat }, scores)
     }
 
-    /// The answer of a board by the table's scoring, or what is known of it when so many boards were looked up; and the
-    /// seat, as it then is.
+    /// The answer of a board under the table's scoring, or what is known of it when so many boards were looked up; and
+    /// the seat, as it then is.
     pub fn solve_within(
         self,
         alloc: Global,

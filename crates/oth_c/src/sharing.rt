@@ -18,8 +18,8 @@ use oth_rules::{Board, Scoring};
 use oth_search::{Answer, MOST_EMPTIES};
 use std::alloc::Global;
 
-/// Makes a table of `cells` cells, 1, 2, 4 .. 262,144, for boards by the scoring of this number, 0 or 1, and its first
-/// seat where there was none. Refusals 32, 4, 6 and 33, tested in this order; they leave the seat as it was.
+/// Makes a table of `cells` cells, 1, 2, 4 .. 262,144, for boards under the scoring of this number, 0 or 1, and its
+/// first seat where there was none. Refusals 32, 4, 6 and 33, tested in this order; they leave the seat as it was.
 #[unsafe(no_mangle)]
 pub extern "C" fn oth_table_new(alloc: Global, cells: u32, scoring: u8, seat: &mut OthSeat) -> u32
     ensures opened { result ≡ DONE → Opens scoring cells seat.old.held seat.new.held }

@@ -22,7 +22,7 @@ use Rattle.oth_run.specs.declared.fault.RunFault.TheVariants.{Read, Write, Worke
 use Rattle.oth_main.specs.BookFile.{IsBookOf}
 use Rattle.oth_run.specs.Report.{cut, lines_of}
 
--- a true book by the same scoring, with every board of the one before, whose bounds are at least as close
+-- a true book under the same scoring, with every board of the one before, whose bounds are at least as close
 pub record Extends (before after : Contents) : Type 0 where
   pub kept : Keeps before after
   pub holds : IsTrueBook after

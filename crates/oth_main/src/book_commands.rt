@@ -80,10 +80,10 @@ pub fn book_verify<T: Threads + Sync, W: Sink, E: Sink>(
     }
 }
 
-/// Solves each board line by the book's scoring, adds the answers to the book of the file, and writes the new book at
-/// the end of input. Where a line can't be read, its number and its fault are printed, and it is left out. The status
-/// of the program: 0, or 1 where a device fails, or 2 where the settings aren't lawful, or 3 where the file or an
-/// answer is refused; then no book is written, save for what a writer took before it failed.
+/// Solves each board line under the book's scoring, adds the answers to the book of the file, and writes the new book
+/// at the end of input. Where a line can't be read, its number and its fault are printed, and it is left out. The
+/// status of the program: 0, or 1 where a device fails, or 2 where the settings aren't lawful, or 3 where the file or
+/// an answer is refused; then no book is written, save for what a writer took before it failed.
 #[inline(never)]
 pub fn book_add<T: Wait + Threads + Sync, R: Source, W: Sink, E: Sink>(
     rt: &T,
@@ -301,7 +301,7 @@ impl Addition {
         Ok(())
     }
 
-    // The settings, by the book's scoring.
+    // The settings, under the book's scoring.
     fn asked(&self) -> Lawful
         ensures scoring { result.scoring ≡ self.now.book.scoring }
     {
@@ -376,7 +376,7 @@ impl Addition {
         }
     }
 
-    // The answer of the line that has begun, by the book's scoring.
+    // The answer of the line that has begun, under the book's scoring.
     fn answer<T: Threads + Sync>(&self, rt: &T) -> Result<Answer, LineFault>
         ensures answers { (line : List ℕ) → KeepsLine self.now.line line → AnswersLine (solvable_reading line) result }
         ensures scoring { IfOk result (λ a. a.scoring ≡ self.now.book.scoring) }

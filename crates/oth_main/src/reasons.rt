@@ -87,7 +87,7 @@ impl<E: Sink> Errors<E> {
     }
 }
 
-/// Tells that the book of FILE isn't asked, where it is by another scoring than the one that is asked for.
+/// Tells that the book of FILE isn't asked, where it is under another scoring than the one that is asked for.
 pub fn tell_scoring<E: Sink>(
     alloc: Global,
     file: &str,

@@ -25,7 +25,7 @@ abbrev pub makes : Event → Option Name
 makes (Raise by number) = None
 makes (Made by new) = Some new
 
--- the root's value by its scoring
+-- the root's value under its scoring
 abbrev pub root_value : Root → ℤ
 root_value root = value (score_of root.scoring) root.board
 

@@ -9,7 +9,7 @@ use oth_rules::Scoring;
 use oth_search::Solved;
 use std::marker::Model;
 
-/// The replies for the items of a frontier, each once, by one scoring. It takes no memory.
+/// The replies for the items of a frontier, each once, under one scoring. It takes no memory.
 #[derive(Drop)]
 pub struct Collector<'f> {
     frontier: &'f Frontier,

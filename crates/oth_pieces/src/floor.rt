@@ -106,13 +106,13 @@ fn height_of(number: i8) -> u64
 #[error("there is no memory for the floor or the seat")]
 pub struct FloorError;
 
-/// The solved board isn't the floor's root, or it was solved by the other scoring.
+/// The solved board isn't the floor's root, or it was solved under the other scoring.
 #[derive(Debug, Drop, Error)]
 #[error("the solved board is not the floor's root, or it was solved by the other scoring")]
 pub struct Stranger;
 
 impl Floor {
-    /// A floor of the board by this scoring, not yet raised, and its first seat. Refused where there is no memory.
+    /// A floor of the board under this scoring, not yet raised, and its first seat. Refused where there is no memory.
     pub fn new(
         alloc: Global,
         board: &Board,
@@ -177,7 +177,7 @@ impl Floor {
     }
 
     /// Raises the floor to the solved lower bound, by one atomic step. Refused, with the floor unchanged, where the
-    /// solved board isn't the root or was solved by the other scoring.
+    /// solved board isn't the root or was solved under the other scoring.
     pub fn raise(&self, seat: &mut FloorSeat, solved: &Solved) -> Result<(), Stranger>
         requires { IsSeatOf self.now seat.old }
         ensures variant { IsOk result ↔ ((solved.now.board ≡ self.now.root.board)

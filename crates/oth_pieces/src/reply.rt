@@ -21,7 +21,7 @@ pub enum Refusal {
     /// The board isn't the item's.
     #[error("the solved board is not the item's")]
     OtherBoard,
-    /// The board was solved by the other scoring.
+    /// The board was solved under the other scoring.
     #[error("the board was solved by the other scoring")]
     OtherScoring,
 }

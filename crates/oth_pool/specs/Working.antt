@@ -1,5 +1,5 @@
 -- What workers found.
---     IsReplyOf items scoring reply      the reply is of the board of its number's item, by the scoring
+--     IsReplyOf items scoring reply      the reply is of the board of its number's item, under the scoring
 --     CanWork items scoring tasks work      the hand is one of these tasks, and each reply is of a number that the hand drew, once
 --     HasLists workers drawn      a list of drawn numbers for each of so many workers, or none at all
 --     AreGathered items scoring gathered      each number was drawn once or is left; each reply is of a drawn number, once, and of
@@ -25,7 +25,7 @@ pub record IsReplyOf (items : List Item) (scoring : Scoring) (r : Reply) : Type 
 abbrev pub numbers_of : List Reply → List ℕ
 numbers_of replies = map (λ (r : Reply). r.number) replies
 
--- each reply is of a number that the hand drew, once, and of its item's board by the scoring
+-- each reply is of a number that the hand drew, once, and of its item's board under the scoring
 pub record Holds (items : List Item) (scoring : Scoring) (w : Work) : Type 0 where
   pub replies : All (IsReplyOf items scoring) w.replies.items
   pub once : (x : ℕ) → times x (numbers_of w.replies.items) ≤ times x (list_of w.hand)

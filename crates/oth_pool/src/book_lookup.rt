@@ -7,7 +7,7 @@ use oth_book::Book;
 use oth_rules::{Board, Scoring};
 use oth_search::{Answer, Solved};
 
-/// The answer of a book by this scoring, where it has the board with exact bounds.
+/// The answer of a book under this scoring, where it has the board with exact bounds.
 pub(crate) fn answer_in(book: Option<&Book>, board: &Board, scoring: Scoring) -> Option<Answer>
     ensures board { IfSome result (λ a. a.board ≡ board.now) }
     ensures scoring { IfSome result (λ a. a.scoring ≡ scoring) }
@@ -19,7 +19,7 @@ pub(crate) fn answer_in(book: Option<&Book>, board: &Board, scoring: Scoring) ->
     book.find(board)
 }
 
-/// The bounds of a book by this scoring, or those of every value.
+/// The bounds of a book under this scoring, or those of every value.
 pub(crate) fn bounds_in(book: Option<&Book>, board: &Board, scoring: Scoring) -> Solved
     ensures board { result.board ≡ board.now }
     ensures scoring { result.scoring ≡ scoring }

@@ -16,7 +16,7 @@ use crate::square::Square;
 const ROUNDS: u32 = 10;
 
 impl Board {
-    /// The most that the mover can still win, -64 to 64 by either scoring: what the opponent's stable discs leave. A
+    /// The most that the mover can still win, -64 to 64 under either scoring: what the opponent's stable discs leave. A
     /// disc is stable where no move ever flips it, whatever is played; those are counted that are found by the lines
     /// through them, and there may be more.
     pub fn most_by_stable_discs(&self) -> i8

@@ -1,6 +1,6 @@
 -- What is written of a line.
 --     board_reply told reading      what is told of the board that was read, or the line's first fault
---     reply settings line      of a board of at most 30 empty squares for `Solve` the value by the scoring and all best moves, and for
+--     reply settings line      of a board of at most 30 empty squares for `Solve` the value under the scoring and all best moves, and for
 --         `Scores` the score of every move; for `Moves` all legal moves of a board; for `Transcript` and `Play` the board line of the
 --         position that is reached; or the first fault of the line
 use Rattle.std.specs.Prelude.{ℕ, List, Result, Ok, Err}

@@ -52,7 +52,7 @@ impl Lawful {
         self.asked
     }
 
-    /// The same numbers, to solve lines by this scoring.
+    /// The same numbers, to solve lines under this scoring.
     pub fn to_solve_by(&self, scoring: Scoring) -> Lawful
         ensures command { result.command ≡ Solve }
         ensures workers { result.workers ≡ self.now.workers }

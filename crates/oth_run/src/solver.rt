@@ -146,7 +146,7 @@ impl<'s, T: Wait + Threads + Sync, G: Gate> Solver<'s, T, G> {
     }
 }
 
-// The scores by this scoring of a board that is one of the jobs.
+// The scores under this scoring of a board that is one of the jobs.
 fn scores_by_jobs<'j, T: Wait + Threads + Sync, G: Gate>(
     rt: &T,
     jobs: &'j Jobs<'_, T, G>,
@@ -164,7 +164,7 @@ fn scores_by_jobs<'j, T: Wait + Threads + Sync, G: Gate>(
     }
 }
 
-// The answer by this scoring of a board that is one of the jobs.
+// The answer under this scoring of a board that is one of the jobs.
 fn answer_by_jobs<T: Wait + Threads + Sync, G: Gate>(
     rt: &T,
     jobs: &Jobs<'_, T, G>,

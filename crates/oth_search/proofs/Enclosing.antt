@@ -149,7 +149,7 @@ same_scoring g f p lower upper e h = rw e at h
 
 -- ---- what two tell of one board
 
--- the same board by the same scoring
+-- the same board under the same scoring
 -- after a forced pass the bounds have the other sign
 pub Encloses-passed : (g : Scoring) (p q : Position) (lower upper low high : ℤ) → q ≡ pass p → can_move p ≡ false → can_move (pass p) ≡ true
     → Encloses lower upper (value (score_of g) p) → low ≡ neg_ℤ upper → high ≡ neg_ℤ lower → Encloses low high (value (score_of g) q)

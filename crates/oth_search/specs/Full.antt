@@ -1,5 +1,5 @@
 -- What a solved board is answered with.
---     IsFullMinimax p g a      the answer is of the position p by the scoring g: its value, all its best moves, and the kind
+--     IsFullMinimax p g a      the answer is of the position p under the scoring g: its value, all its best moves, and the kind
 use Rattle.std.specs.Prelude.{◌≡◌}
 use Rattle.oth_rules.specs.declared.scoring.Scoring.{Scoring}
 use Rattle.oth_rules.specs.Square.{word_of}

@@ -14,7 +14,7 @@ pub trait Cells {
 
     ghost fixed: { Self → Fixed };
 
-    /// An entry of a canonical board by the asked scoring, if one is kept.
+    /// An entry of a canonical board under the asked scoring, if one is kept.
     fn look(&mut self, board: &Board, scoring: Scoring) -> Option<Entry>
         requires { IsCanonical board.now }
         ensures asked { IfSome result (λ e. (e.board ≡ board.now) × (e.scoring ≡ scoring)) }
@@ -30,7 +30,7 @@ pub trait Cells {
         false
     }
 
-    /// What is remembered of a board by the asked scoring, if anything is: by default nothing. It is asked of boards
+    /// What is remembered of a board under the asked scoring, if anything is: by default nothing. It is asked of boards
     /// with few empty squares, 5 to 8, and of those that it remembers besides.
     fn recall(&mut self, _board: &Board, _scoring: Scoring) -> Option<Solved>
         ensures asked { IfSome result (λ s. (s.board ≡ _board.now) × (s.scoring ≡ _scoring)) }

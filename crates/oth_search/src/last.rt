@@ -88,7 +88,7 @@ fn last_one(board: Board, alpha: i8, a: Square, scoring: Scoring) -> i8
     rest
 }
 
-// What a move to the only empty square comes to, which is the same by each scoring; none where it is illegal.
+// What a move to the only empty square comes to, which is the same under each scoring; none where it is illegal.
 #[inline(always)]
 fn last_reply(board: &Board, a: Square) -> Option<i8>
     requires { Leaves board.now (a ∷ []) }

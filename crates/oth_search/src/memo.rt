@@ -42,7 +42,7 @@ impl Memo {
         Ok(Memo { places, last })
     }
 
-    /// What is remembered of the board by this scoring.
+    /// What is remembered of the board under this scoring.
     pub fn recall(&self, board: &Board, scoring: Scoring) -> Option<Solved>
         ensures asked { IfSome result (λ s. (s.board ≡ board.now) × (s.scoring ≡ scoring)) }
     {
@@ -61,7 +61,7 @@ fn blank() -> Solved {
     Solved::unknown(Board::default(), Scoring::Winner)
 }
 
-// What is kept, if it is of the board and by this scoring.
+// What is kept, if it is of the board and under this scoring.
 fn told_by(kept: &Solved, board: &Board, scoring: Scoring) -> Option<Solved>
     ensures asked { IfSome result (λ s. (s.board ≡ board.now) × (s.scoring ≡ scoring)) }
 {

@@ -45,7 +45,7 @@ impl Memories {
         self.has_more && empties < FEWEST_EMPTIES_IN_TABLE
     }
 
-    /// What is remembered of the board by this scoring.
+    /// What is remembered of the board under this scoring.
     pub fn recall(&self, board: &Board, scoring: Scoring) -> Option<Solved>
         ensures asked { IfSome result (λ s. (s.board ≡ board.now) × (s.scoring ≡ scoring)) }
     {

@@ -13,8 +13,8 @@ use crate::interval::{Interval, greater, lesser};
 use oth_rules::{Board, Scoring, Square};
 use thiserror::Error;
 
-/// A board with bounds that enclose its value for the mover, by its scoring. No untrue value of this type can be made:
-/// whoever makes one proves its ghost field.
+/// A board with bounds that enclose its value for the mover, under its scoring. No untrue value of this type can be
+/// made: whoever makes one proves its ghost field.
 #[derive(Clone, Copy, PartialEq, Eq, Debug)]
 pub struct Solved {
     pub board: Board,

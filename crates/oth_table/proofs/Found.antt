@@ -1,4 +1,4 @@
--- What a look found is true, by the scoring of the table.
+-- What a look found is true, under the scoring of the table.
 use Rattle.std.proofs.Common.{◌≡◌, ℕ, ◌&&◌, List, subst}
 use Rattle.std.specs.Prelude.{Option, Some, None, IfSome, if◌then◌else◌, ◌==◌}
 use Rattle.std.specs.Option.{option_or}
@@ -31,7 +31,7 @@ pub puts_at : (u v : Use) (c d : ℕ) (earlier later : List Event) (given : Boun
     → PutsAt u d earlier later given did
 puts_at u v c d earlier later given did fixed same p = subst (λ (z : Fixed × ℕ). Puts z.0.terms z.0.name earlier later z.1 given did) (λ i. (fixed i, same i)) p
 
--- the answer of a look for p by the scoring g
+-- the answer of a look for p under the scoring g
 abbrev pub IsAsked : Scoring → Position → Option Bounded → Type 0
 IsAsked g p answer = IfSome answer (λ e. (e.board ≡ p) × (e.scoring ≡ g))
 

@@ -15,7 +15,7 @@ use Rattle.oth_table.specs.declared.history.Why.TheVariants.{Worn}
 use Rattle.oth_table.specs.declared.history.Event.{Event}
 use Rattle.oth_table.specs.declared.history.Event.TheVariants.{Claim, Publish, Look, Away, Made}
 
--- the entry is true, by this scoring
+-- the entry is true, under this scoring
 pub record IsTrueBy (g : Scoring) (x : Bounded) : Type 0 where
   pub truth : IsTrueEntry x
   pub scoring : x.scoring ≡ g

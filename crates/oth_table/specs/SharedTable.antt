@@ -5,7 +5,7 @@
 --     IsSeatOf t s         the seat s is one of the table t
 --     IsSame s t           it is the same seat of the same table, whatever it has seen
 --     Looks, Puts          the place of a look and of a put in the one history
---     IsFoundBy g found    a found entry is by the scoring g
+--     IsFoundBy g found    a found entry is under the scoring g
 --     Makes s t new        the seat s, now t, made the seat new
 --     Meet s s' t t'       two seats have met
 use Rattle.std.specs.Prelude.{◌≡◌, ℕ, ◌^◌, ◌<◌, List, [], Some, None}
@@ -63,7 +63,7 @@ module _ (terms : Terms) (s : Name) (earlier later : List Event) (c : ℕ) where
   Puts given Skipped = GoesAway terms s c why.TheVariants.Skipped earlier later
   Puts given Worn = Ends terms s earlier later (Away s c why.TheVariants.Worn)
 
--- an entry that was found is by this scoring
+-- an entry that was found is under this scoring
 abbrev pub IsFoundBy : Scoring → Look → Type 0
 IsFoundBy g (Whole x) = x.scoring ≡ g
 IsFoundBy g _ = Unit {0}

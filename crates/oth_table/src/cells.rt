@@ -13,7 +13,7 @@ use oth_search::{Cells, Entry, Solved};
 use std::marker::Model;
 
 /// A table and a seat at it, as the cells in which a search keeps what it found.
-/// It works by the table's scoring only: for the other one it finds nothing and keeps nothing.
+/// It works under the table's scoring only: for the other one it finds nothing and keeps nothing.
 #[derive(Drop)]
 pub struct TableCells<'a> {
     table: &'a SharedTable,
@@ -84,7 +84,7 @@ impl<'a> TableCells<'a> {
         (first, other)
     }
 
-    // The looks and the put of an entry by the table's scoring.
+    // The looks and the put of an entry under the table's scoring.
     fn put_own(&mut self, entry: &Entry)
         requires { entry.now.scoring ≡ self.old.table.terms.scoring }
         ensures fixed { fixed_of self.new ≡ fixed_of self.old }

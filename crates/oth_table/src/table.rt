@@ -140,7 +140,7 @@ fn word_at(cell: u32, word: usize) -> usize
 }
 
 impl SharedTable {
-    /// An empty table of `cells` cells for entries by this scoring, and its first seat, which has seen nothing.
+    /// An empty table of `cells` cells for entries under this scoring, and its first seat, which has seen nothing.
     /// `cells` is 1, 2, 4 .. 262,144; else refusal 1. Refusal 2 comes for want of memory. A cell may be published
     /// 2^63 - 1 times.
     pub fn new(
@@ -370,7 +370,7 @@ impl SharedTable {
     }
 
     /// Stores an entry in a cell. If the cell holds the same board, the greater lower and the lesser upper bound
-    /// are kept, else the given entry. `cell` is below `cells`, and the entry is by the table's scoring. `Skipped`
+    /// are kept, else the given entry. `cell` is below `cells`, and the entry is under the table's scoring. `Skipped`
     /// and `Worn` change no entry. At most nine atomic steps: it loads the version, claims the cell, loads the
     /// three old words, stores the three new ones and publishes. It doesn't try twice.
     pub fn put(&self, seat: &mut TableSeat, cell: u32, entry: &Entry) -> Put

@@ -1,5 +1,5 @@
-//! The worked boards at a table, alone and in threads. By `Winner` A's value is -50, C's and D's are 64.
-//! By `Discs` A's value is -49.
+//! The worked boards at a table, alone and in threads. Under `Winner` A's value is -50, C's and D's are 64.
+//! Under `Discs` A's value is -49.
 
 mod refused;
 
@@ -34,7 +34,7 @@ fn entry(words: [u64; 2], lower: i8, upper: i8, scoring: Scoring) -> Option<Entr
     Some(Entry::of(&solved.widen(lower, upper)?))
 }
 
-/// Entries by `Winner`.
+/// Entries under `Winner`.
 #[derive(Clone, Copy)]
 struct Three {
     /// A with -64..-50.

@@ -2,7 +2,7 @@
 --     square_name s      the column's letter and the row's digit
 --     names squares      the names of squares, with a space between each two
 --     moves_line_of b      all legal moves in rising number, or `pass`, or `end`
---     report_line_of g b      the value by the scoring g with its sign, a space, and all best moves, or `pass`, or `end`
+--     report_line_of g b      the value under the scoring g with its sign, a space, and all best moves, or `pass`, or `end`
 use Rattle.std.specs.Prelude.{ℕ, ℤ, pos, negsuc, ◌+◌, ◌%◌, ◌/◌, List, [], ◌∷◌, ◌++◌, map, filter, codes, decimal, unsigned_abs}
 use Rattle.std.specs.List.{join_with_byte}
 use Rattle.oth_rules.specs.Square.{squares, has}

@@ -25,7 +25,7 @@ pub enum NoAnswer {
     Board(SolveError),
 }
 
-/// The answer of the board by the scoring of the book of this text. Neither the book nor the workers change it.
+/// The answer of the board under the scoring of the book of this text. Neither the book nor the workers change it.
 pub fn solve_by_book<R: Threads + Sync>(
     rt: &R,
     alloc: Global,

@@ -5,7 +5,7 @@ use crate::tuning::{FEWEST_EMPTIES_GUESSED_TOGETHER, shared_empties};
 use oth_pieces::Frontier;
 use oth_rules::{Board, Scoring, Square};
 
-/// The search of one board: by which scoring it is solved, its moves in the order in which they are searched, its
+/// The search of one board: under which scoring it is solved, its moves in the order in which they are searched, its
 /// frontier, and how the search is shared out.
 #[derive(Clone, Copy)]
 pub struct Search<'s> {

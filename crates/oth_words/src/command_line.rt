@@ -538,7 +538,7 @@ fn read_with<'a>(
 /// - `scores [--workers N] [--cells N] [--scoring winner|discs]`
 /// - `moves`, `transcript`, `play`: by one worker, without a table
 /// - `book-verify FILE`
-/// - `book-add [--workers N] [--cells N] FILE`: it solves by `winner`
+/// - `book-add [--workers N] [--cells N] FILE`: it solves under `winner`
 ///
 /// There are 1 to 16 workers, or 1 by default, and 0 to 262,144 cells, or 65,536. The default scoring is `winner`. The
 /// subcommand and each value are those that clap's exact meaning gives for the words. Where that meaning takes the

@@ -1,4 +1,4 @@
-//! Claims that are tested by known answers: all of them, those of one board alone, and those by the other scoring.
+//! Claims that are tested by known answers: all of them, those of one board alone, and those under the other scoring.
 
 use super::{A, BOOK_1, BOTH, C, EMPTY_2, answer};
 use oth_book::{Book, Cause, Claim, Claims, Wrong, read_claims, verify, verify_knowing};

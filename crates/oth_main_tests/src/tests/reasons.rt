@@ -219,7 +219,7 @@ fn a_refused_file_keeps_its_reason(rt: HostRuntime) {
     );
 }
 
-// What is told of the scoring of a book that is by `winner`.
+// What is told of the scoring of a book that is under `winner`.
 fn told_of_scoring<R: Threads + Sync + AllocGlobal>(
     rt: &R,
     asked: Scoring,

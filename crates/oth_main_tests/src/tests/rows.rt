@@ -390,7 +390,7 @@ fn scores_the_moves_of_each_row(rt: HostRuntime) {
     }
 }
 
-// By either scoring, which changes nothing.
+// Under either scoring, which changes nothing.
 #[test]
 fn lists_the_moves_of_each_row(rt: HostRuntime) {
     for scoring in [Scoring::Winner, Scoring::Discs] {

@@ -11,7 +11,7 @@ use std::thread::Threads;
 // A board by its own and opposing discs, with its score, best moves and kind.
 type Row = ([u64; 2], i8, u64, Kind);
 
-// By the scoring that gives the empty squares to the winner.
+// Under the scoring that gives the empty squares to the winner.
 pub(super) const ROWS: [Row; 10] = [
     ([0xffff_ffff_ffff_fffc, 0x2], 64, 0x1, Kind::Move),
     ([0x2, 0xffff_ffff_ffff_fffc], -64, 0, Kind::Pass),

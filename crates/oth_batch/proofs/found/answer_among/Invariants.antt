@@ -1,4 +1,4 @@
--- no answer so far is of the board by the scoring
+-- no answer so far is of the board under the scoring
 use Rattle.std.proofs.Common.{◌≡◌, ◌≢◌, take}
 use Rattle.std.specs.Prelude.{All}
 use Rattle.oth_batch.proofs.found.answer_among.Given as goal
