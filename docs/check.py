@@ -17,7 +17,7 @@ It tests, in each document and, where it says so, in the code:
 - that in each row `| `CONSTANT` | `PATH` | `VALUE` |` of a table the file gives the constant that value, and that in each row
   `| `EXPRESSION` | `PATH` |` the file has this text, and that each constant of a `tuning.rt` has a row in
   docs/TUNING.md;
-- that no page (but those of bench, hostile and examples) says one of the phrases that docs/GLOSSARY.md replaces;
+- that no page, nor the C header, says one of the phrases that docs/GLOSSARY.md replaces;
 - of docs/GLOSSARY.md: that each identifier of the column `In the code` is a word of the code or of `specs/`;
 - of docs/ARCHITECTURE.md: that the lemmas which it lists for a crate are those that proofs of other crates import;
 - that each lemma and each definition is named somewhere else than at its own statement, but those of `Examples`;
@@ -500,8 +500,7 @@ def test_dead():
 
 
 def test_phrases():
-    pages = [path for pattern in ("*.md", "docs/*.md", "crates/*/*.md") for path in sorted(ROOT.glob(pattern))]
-    for page in pages:
+    for page in [*documents(), *sorted(ROOT.glob("include/*.h"))]:
         text = [re.sub(r"`[^`]*`|\]\([^)]*\)", "``", line) for line in lines_of(page)]
         for old, new in OLD.items():
             found = [str(number) for number, line in enumerate(text, 1) if re.search(old, line)]

@@ -3,7 +3,7 @@
 
     hostile/flow.py PROGRAM
 
-prints by the clock how they come: the first answer, the longest silence and the whole, by 1 and by 4 workers. By 4 on an idle machine of 4
+prints in wall-clock seconds how they come: the first answer, the longest silence and the whole, by 1 and by 4 workers. By 4 on an idle machine of 4
 processors 0.1 and 0.5 seconds are the goals, and to be 3 times as fast as one. As a part of hostile/run.py it knows no seconds: a busy
 machine is slow throughout, so the first answer and each silence are measured by the whole of the same run.
 """

@@ -139,7 +139,7 @@ uint32_t oth_play(oth_board board, uint8_t square, oth_board *next);
 
 /* The score, all best moves and the kind of a board of at most 30 empty squares, by the caller's thread alone. The call
  * makes a table of `cells` cells of 32 bytes, and frees it: 0 for none, or 1, 2, 4 .. 262144. Where there is no memory it
- * does without: neither the table nor want of memory changes the answer. A table pays from some 16 empty squares on. The
+ * does without: neither the table nor its absence changes the answer. A table pays from some 16 empty squares on. The
  * time grows with the empty squares: on boards of games a millisecond at 12, some hundredths of a second at 16, some
  * tenths at 18.
  * Refusals, the first that holds: OTH_OVERLAP, OTH_SCORING, OTH_EMPTIES, OTH_CELLS. */
@@ -169,7 +169,7 @@ uint32_t oth_table_new(uint32_t cells, uint8_t scoring, oth_seat *seat);
 uint32_t oth_seat_new(oth_seat *seat, oth_seat *more);
 
 /* The score, all best moves and the kind of a board of at most 30 empty squares, under the table's scoring and the caller's
- * thread. The answer is exact, whatever other threads do over the table meanwhile, and want of memory doesn't change it.
+ * thread. The answer is exact, whatever other threads do over the table meanwhile, and running out of memory doesn't change it.
  * Refusals, the first that holds: OTH_OVERLAP, OTH_EMPTIES, OTH_NO_SEAT. */
 uint32_t oth_solve_over(oth_seat *seat, oth_board board, oth_answer *answer);
 

@@ -34,7 +34,7 @@ pub struct Batch<'b, R, G> {
 impl<'b, R: Threads + Sync, G: Gate> Batch<'b, R, G> {
     /// Answers of boards that wait, solved side by side, each by one worker. It waits for its workers. Not each board
     /// has an answer: left out are boards that are worth all workers, all boards where two workers don't pay, and those
-    /// for which memory is wanting.
+    /// for which there is no memory.
     pub fn answers(&self, boards: &Boards) -> Vec<Answer>
         ensures boards { All (λ a. Contains boards.now a.board) result.items }
         ensures scoring { All (λ a. a.scoring ≡ self.now.scoring) result.items }

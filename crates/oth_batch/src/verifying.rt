@@ -19,7 +19,7 @@ use std::thread::Threads;
 /// The book of claims that are all true, or the first that isn't, as [`oth_book::verify`] gives it. Boards that one
 /// worker is enough for are solved side by side, larger ones one after the other by all workers, over tables of at most
 /// so many cells each. It waits for its workers. Neither their number nor the tables' size changes the verdict, nor
-/// want of threads, nor want of memory once there is room for the book.
+/// refused threads, nor refused memory once there is room for the book.
 pub fn verify_by<R: Threads + Sync>(
     rt: &R,
     alloc: Global,

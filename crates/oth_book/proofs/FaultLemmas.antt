@@ -30,7 +30,7 @@ stand_entry v n rest c room at =
     let fits : fit_of (shapes.Entry v) rest ≡ Whole = ap (fit_of (shapes.Entry v)) at.line.1 ∙ entry_fits v c at.line.0 in
     rw (no_end rest (entry_begins v rest c at), not_full n (begins is_cell rest) room) (ap (λ f. fitted f EntryLine) fits)
 
--- an entry that comes next is no fault but want of memory
+-- an entry that comes next is no fault but out of memory
 pub next_no_fault : (v : Version) (before : List Claim) (rest : List ℕ) (c : Claim) (f : BookFault) → IsNext v (length before) (last_of before) rest c
     → IsLineFault v (length before) (last_of before) rest f → f ≢ Memory → ⊥
 next_no_fault v before rest c Header next fault other = fault

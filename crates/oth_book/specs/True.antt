@@ -1,7 +1,7 @@
 -- When an entry is true, and which of a book's entries is the first that isn't.
 --     IsTrueClaim g c      the entry is true under the scoring g, and of at most 30 empty squares
 --     IsCause g c why      the first cause for which it isn't
---     IsWrong said wrong      the first entry that isn't true, counted from 1, with its cause; or want of memory for some entries
+--     IsWrong said wrong      the first entry that isn't true, counted from 1, with its cause; or out of memory, where there are entries
 use Rattle.std.specs.Prelude.{◌≡◌, ◌≢◌, ℕ, ◌+◌, ◌<◌, ◌≤◌, [], take, slice_get, Some, All}
 use Rattle.oth_rules.specs.Square.{word_of}
 use Rattle.oth_rules.specs.Position.{Position, empty_count}

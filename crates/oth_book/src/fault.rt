@@ -5,7 +5,7 @@ ghost use Rattle.oth_book.specs.Numbers.{fault_number, fault_line};
 
 use thiserror::Error;
 
-/// The first fault of bytes that are no book's text, or want of memory for the entries of one that may be. Lines are
+/// The first fault of bytes that are no book's text, or out of memory for the entries of one that may be. Lines are
 /// counted from 1 after the header.
 #[derive(Clone, Copy, Debug, PartialEq, Eq, Drop, Error)]
 pub enum BookFault {

@@ -26,13 +26,13 @@ pub fn no_text_begins_another()
         → (v ≡ w) × (a ≡ b) × (more ≡ []) }
 {}
 
-/// The text of a book has no fault: what is read is refused for want of memory alone.
+/// The text of a book has no fault: what is read is refused when out of memory alone.
 pub fn no_fault()
     ensures { (v : AnyVersion) (claims : List AnyClaim) (bytes : List ℕ) (f : AnyFault) → IsBookText v claims bytes
         → IsBookFault bytes f → f ≢ faults.Memory → ⊥ }
 {}
 
-/// Bytes have one fault at most, besides want of memory.
+/// Bytes have one fault at most, out of memory aside.
 pub fn one_fault()
     ensures { (bytes : List ℕ) (f g : AnyFault) → IsBookFault bytes f → IsBookFault bytes g → f ≢ faults.Memory
         → g ≢ faults.Memory → f ≡ g }

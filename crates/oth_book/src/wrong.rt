@@ -15,7 +15,7 @@ pub enum Cause {
     Empties,
 }
 
-/// The first wrong entry, counted from 1, and why; or want of memory.
+/// The first wrong entry, counted from 1, and why; or out of memory.
 #[derive(Clone, Copy, Debug, PartialEq, Eq, Drop, Error)]
 pub enum Wrong {
     #[error("entry {0} is wrong")]

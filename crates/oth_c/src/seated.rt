@@ -60,7 +60,7 @@ impl Seated {
         }
     }
 
-    /// A further seat of the same table. The only refusal is for want of memory, and leaves this one as it was.
+    /// A further seat of the same table. The only refusal is out of memory, which leaves this one as it was.
     pub fn another(&mut self, alloc: Global) -> Result<Seated, Refusal>
         ensures table { self.new.table ≡ self.old.table }
         ensures same { IsSame self.old.seat self.new.seat }

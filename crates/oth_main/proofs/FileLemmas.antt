@@ -1,4 +1,4 @@
--- The text of a true book is refused for want of memory alone.
+-- The text of a true book is refused when out of memory alone.
 use Rattle.std.proofs.Common.{◌≡◌, ℕ, List, arith, ap, sym, refl, ◌∙◌}
 use Rattle.std.proofs.lemmas.Option.{slice_get_within, get_or_from_slice_get}
 use Rattle.oth_rules.specs.declared.scoring.Scoring.{Scoring}

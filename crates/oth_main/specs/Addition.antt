@@ -41,7 +41,7 @@ pub record AddsLines (before : Contents) (reader reader' writer writer' : Option
   pub text : IsText after (written after)
   pub wrote : Appends writer writer' (written after)
 
--- the line shows a board that is solved and isn't in the book, which is full, or takes no more for want of memory
+-- the line shows a board that is solved and isn't in the book, which is full, or takes no more since there is no memory
 pub record HasNoPlace (book : Contents) (line : List ℕ) : Type 0 where
   pub position : Position
   pub shown : solvable_reading line ≡ Ok position

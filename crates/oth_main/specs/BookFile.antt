@@ -1,8 +1,8 @@
 -- The book of a file, and what the commands of the book tell by their status.
---     IsRefusal file why      the bytes are no book's text, with their one fault; or they are one, and an entry is wrong, or memory for
---         its entries is wanting
+--     IsRefusal file why      the bytes are no book's text, with their one fault; or they are one, and an entry is wrong, or there is
+--         no memory for its entries
 --     IsBookOf file book      the bytes are the text of this true book
---     IsRefused file      the bytes are refused, those of a true book for want of memory alone
+--     IsRefused file      the bytes are refused, those of a true book when out of memory alone
 --     KeepsRefusal file reason      the reason that is kept for words is why the bytes are refused
 --     IsVerdict file status failed      the status of `book_verify`, whose writer has failed or not
 use Rattle.std.specs.Prelude.{◌≡◌, ◌⊎◌, ℕ, Bool, true, List, Option, Some}
@@ -32,7 +32,7 @@ abbrev pub IsForMemory : BookRefusal → Type 0
 IsForMemory (Text fault) = fault ≡ faults.Memory
 IsForMemory (Claim wrong) = wrong ≡ wrongs.Memory
 
--- for a reason, which for the text of a true book is want of memory
+-- for a reason, which for the text of a true book is out of memory
 abbrev pub IsRefused : List ℕ → Type 0
 IsRefused file = (why : BookRefusal) × IsRefusal file why × (IsBook file → IsForMemory why)
 

@@ -25,12 +25,12 @@ pub const REFUSED: u8 = 3;
 pub enum BookRefusal {
     /// Its bytes are no book's text.
     Text(BookFault),
-    /// Its bytes are a book's text, and what it says is wrong, or memory is wanting to test it.
+    /// Its bytes are a book's text, and what it says is wrong, or there is no memory to test it.
     Claim(Wrong),
 }
 
 /// The book of a file's bytes, each entry solved anew by so many workers over tables of at most so many cells. The text
-/// of a true book is refused for want of memory alone.
+/// of a true book is refused when out of memory alone.
 pub fn open_book<T: Threads + Sync>(
     rt: &T,
     alloc: Global,

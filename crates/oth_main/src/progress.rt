@@ -85,7 +85,7 @@ impl State {
     }
 }
 
-/// Hears what a run is at: a gate of it, for the line that shows it. Its calls wait for nobody.
+/// Hears what a run is at: a gate of it, for the line that shows it. Its calls never wait.
 #[derive(Drop)]
 pub struct Progress {
     state: Mutex<State>,

@@ -61,7 +61,7 @@ impl<E: Sink> Errors<E> {
     }
 
     /// Tells the reason in words, a line of its own. Nothing is written where there is no reason, where the output is
-    /// no terminal, and where it has failed. An output that fails now is passed over, and so is want of memory.
+    /// no terminal, and where it has failed. An output that fails now is passed over, and so is a lack of memory.
     pub fn explain(&mut self, alloc: Global, scene: &Scene<'_>)
         ensures silent { self.old.is_terminal ≡ false → self.new ≡ self.old }
         ensures failed { E.failed self.old.sink ≡ true → self.new ≡ self.old }

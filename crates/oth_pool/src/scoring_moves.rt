@@ -22,7 +22,7 @@ use std::thread::Threads;
 
 /// The score of every move of a board by full minimax, and its answer, with so many workers over a table of at most so
 /// many cells (0: none), which is kept from one move to the next. It waits for its workers. Neither their number nor
-/// the table's size nor the schedule changes the scores, nor want of memory or threads. A book of the same scoring is
+/// the table's size nor the schedule changes the scores, nor refused memory or threads. A book of the same scoring is
 /// asked of each board after a move: an exact entry is its value, and the gate hears nothing of it; the bounds of
 /// another one narrow the search. Where there are as many moves as workers or more, each worker values the boards after
 /// them by itself, so that the gate hears of several boards at once: of each in one thread, its items as [`solve`] by

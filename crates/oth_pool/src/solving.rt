@@ -44,7 +44,7 @@ pub enum SolveError {
 
 /// The score and all best moves of a board by full minimax, with so many workers over a table of at most so many cells
 /// (0: none). It waits for its workers. Neither their number nor the table's size nor the schedule changes the answer,
-/// nor want of memory or threads. A book of the same scoring is asked first: an exact entry is the answer, and the gate
+/// nor refused memory or threads. A book of the same scoring is asked first: an exact entry is the answer, and the gate
 /// hears nothing; the bounds of another entry raise the floor before the workers start.
 pub fn solve<R: Threads + Sync, G: Gate>(
     rt: &R,

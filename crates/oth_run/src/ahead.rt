@@ -97,7 +97,7 @@ pub(crate) fn asked_by(command: Command) -> Option<Asked> {
 }
 
 /// The boards of the whole lines in these bytes as jobs of a batch; none where one worker is asked for or enough, or
-/// memory is wanting.
+/// there is no memory.
 pub(crate) fn jobs_of<'b, T: Threads + Sync, G: Gate>(
     batch: &'b Batch<'b, T, G>,
     command: Command,

@@ -29,7 +29,7 @@ use std::thread::Threads;
 /// A board is solved by so many workers over a table of so many cells, and a book that is given is asked first. Boards
 /// of lines that wait together may be solved side by side, each by one worker over a table of at most so many cells;
 /// the answer of a line is written as soon as it and those before it are known.
-/// None of this changes the report, nor does the gate, nor want of memory or threads. A line takes no memory, however
+/// None of this changes the report, nor does the gate, nor refused memory or threads. A line takes no memory, however
 /// long it is.
 pub fn run<T: Wait + Threads + Sync, R: Source, W: Sink, G: Gate>(
     rt: &T,

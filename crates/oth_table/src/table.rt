@@ -141,7 +141,7 @@ fn word_at(cell: u32, word: usize) -> usize
 
 impl SharedTable {
     /// An empty table of `cells` cells for entries under this scoring, and its first seat, which has seen nothing.
-    /// `cells` is 1, 2, 4 .. 262,144; else refusal 1. Refusal 2 comes for want of memory. A cell may be published
+    /// `cells` is 1, 2, 4 .. 262,144; else refusal 1. Refusal 2 comes when out of memory. A cell may be published
     /// 2^63 - 1 times.
     pub fn new(
         alloc: Global,
@@ -224,7 +224,7 @@ impl SharedTable {
     }
 
     /// A further seat at this table. Its making stands in the history that both have then seen.
-    /// The only refusal is 2, for want of memory, and the given seat is then unchanged. It takes two atomic
+    /// The only refusal is 2, out of memory, and the given seat is then unchanged. It takes two atomic
     /// steps.
     pub fn seat(&self, alloc: Global, seat: &mut TableSeat) -> Result<TableSeat, TableError>
         requires { IsSeatOf self.now seat.old }

@@ -105,12 +105,12 @@ pub no_fault : (scorings : ScoringWords) (app : App) (words : List Text) → app
     → (is_simple_and_free app ≡ true → fault_of app words ≡ []) → fault_of (othsolve scorings) words ≡ []
 no_fault scorings app words is none = ap (λ (a : App). fault_of a words) (sym is) ∙ none (ap is_simple_and_free is ∙ othsolve_is_free scorings)
 
--- a parse that fails does so for want of memory, or by an error of a fault's kind
+-- a parse that fails does so when out of memory, or by an error of a fault's kind
 pub fault_kind : (scorings : ScoringWords) (app : App) (words : List Text) (e : Error) → app ≡ othsolve scorings
     → (is_simple_and_free app ≡ true → HasKind (fault_of app words) e) → HasKind (fault_of (othsolve scorings) words) e
 fault_kind scorings app words e is fails =
     subst (λ (a : App). HasKind (fault_of a words) e) is (fails (ap is_simple_and_free is ∙ othsolve_is_free scorings))
 
--- memory was wanting
+-- out of memory
 pub unread : (app : App) (words : List Text) (e : Error) → kind_of e ≡ OutOfMemory → IsUnread app words e
 unread app words e wants = record { taken = λ taken. wants; faulty = λ any. inl wants }

@@ -155,7 +155,7 @@ Means (Some sub) (verify file) = (sub.0 ≡ codes "book-verify") × (first_of (c
 Means (Some sub) (add s file) = (sub.0 ≡ codes "book-add") × HasNumbers sub.1 s × (s.command ≡ Solve) × (s.scoring ≡ Winner)
     × (first_of (codes "file") sub.1 ≡ Some file)
 
--- why the words are not read: where the command takes them, for want of memory alone; where it finds a fault in them, for that too, or
+-- why the words are not read: where the command takes them, when out of memory alone; where it finds a fault in them, for that too, or
 -- by an error of that fault's kind
 pub record IsUnread (app : App) (words : List Text) (e : Error) : Type 0 where
   pub taken : takes app words ≡ true → kind_of e ≡ OutOfMemory

@@ -6,7 +6,7 @@ use oth_book::{AddError, Added, Book, BookFault, Claims, Wrong, read_claims, ver
 use oth_rules::Scoring;
 use std::process::Abort;
 
-// The claims of a book's text; none where memory was wanting, which is the only fault.
+// The claims of a book's text; none when out of memory, which is the only fault.
 fn read(rt: &(impl AllocGlobal + Abort), text: &[u8]) -> Option<Claims> {
     match read_claims(rt.alloc(), text) {
         Ok(claims) => Some(claims),
@@ -17,7 +17,7 @@ fn read(rt: &(impl AllocGlobal + Abort), text: &[u8]) -> Option<Claims> {
     }
 }
 
-// The book of a text; none where memory was wanting, of which it is told.
+// The book of a text; none when out of memory, of which it is told.
 fn opened(rt: &(impl AllocGlobal + Abort), text: &[u8]) -> Option<Book> {
     match verify(rt.alloc(), read(rt, text)?) {
         Ok(book) => Some(book),
