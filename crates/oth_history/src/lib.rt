@@ -1,4 +1,4 @@
-//! The language of histories, in which the calls of a shared table and of a shared floor say what they did.
+//! The words of sequential histories, in which the calls of a shared table and of a floor say what they did.
 #![tactic(auto)]
 
 mod laws;

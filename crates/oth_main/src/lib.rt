@@ -1,4 +1,4 @@
-//! The commands of the book. What a program calls of the engine of `oth_run` is handed on from there.
+//! The commands of the book, and what a terminal shows. What a program calls of `oth_run` is handed on from there.
 #![tactic(auto)]
 
 mod book_commands;

@@ -1,4 +1,4 @@
-//! The search of one board by several workers: what they take from the tasks, what they tell each other, and the
+//! The search of one board by several workers: how they are started, in which order they draw its items, and the
 //! answer.
 #![tactic(auto)]
 

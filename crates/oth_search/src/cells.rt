@@ -1,4 +1,4 @@
-//! Cells: where a search keeps what it found, and their law; and cells that keep nothing.
+//! Cells: a transposition table as a search sees it, and its law; and cells that keep nothing.
 ghost use Rattle.std.specs.Prelude.{◌≡◌, IfSome, IsNone};
 ghost use Rattle.oth_rules.specs.Symmetry.{IsCanonical};
 

@@ -1,4 +1,4 @@
-//! Null-window searches by rank and with cells, of boards with more than a few empty squares.
+//! Null-window search with move ordering and a transposition table, of boards with more than a few empty squares.
 ghost use Rattle.std.specs.Prelude.{◌≡◌, ℕ, ◌<◌, neg_ℤ, pos, true, IfSome, IfOk, IfErr};
 ghost use Rattle.std.specs.List.{All};
 ghost use Rattle.oth_rules.specs.Move.{can_move};

@@ -1,4 +1,4 @@
-//! How well a board seems to stand, as it is or after some plies, for the order of moves. No answer depends on it.
+//! The static evaluation of a board, as it is or after some plies, for move ordering. No answer depends on it.
 ghost use Rattle.std.specs.Prelude.{◌<◌, ◌≤◌, pos, neg_ℤ, ◌≤ℤ◌};
 
 use crate::looking::{Span, look};

@@ -1,4 +1,4 @@
-//! A search without an order.
+//! Null-window search of a board with few empty squares by parity alone, without a rank.
 ghost use Rattle.std.specs.Prelude.{◌≡◌, true};
 ghost use Rattle.oth_rules.specs.Move.{can_move};
 ghost use Rattle.oth_rules.specs.Score.{score_of};

@@ -1,4 +1,4 @@
-//! The search: windows, the order of moves, and values that are true by construction.
+//! The search by one thread: null windows, principal variation, move ordering, and bounds true by their types.
 #![tactic(auto)]
 
 mod answer;

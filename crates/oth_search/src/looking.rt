@@ -1,5 +1,5 @@
-//! Looks of a few plies at boards of many empty squares, for the order of moves: a search by null windows over the
-//! standing of boards in place of their discs. No answer depends on it.
+//! Looks of a few plies at boards of many empty squares, for move ordering: a search by null windows over the
+//! evaluation of boards in place of their scores. No answer depends on it.
 ghost use Rattle.std.specs.Prelude.{◌≡◌, ◌<◌, false};
 
 use crate::child::Child;

@@ -1,4 +1,4 @@
-//! Memories of boards that were searched lately, and cells that have one.
+//! Local hash tables of boards that were searched lately, and cells that have one.
 ghost use Rattle.std.specs.Prelude.{◌≡◌, ◌<◌, ◌≤◌, IfSome, IsNone, vec_len};
 
 use crate::cells::{Cells, NoCells};

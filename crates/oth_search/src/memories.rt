@@ -1,4 +1,4 @@
-//! The memories of one search: of boards with few empty squares, and of those with more.
+//! The local hash tables of one search: of boards with few empty squares, and of those with more.
 ghost use Rattle.std.specs.Prelude.{◌≡◌, IfSome};
 
 use crate::memo::Memo;

@@ -1,4 +1,4 @@
-//! A search with a window of any width.
+//! Principal variation search: a search with a window of any width.
 ghost use Rattle.std.specs.Prelude.{◌≡◌, ◌<◌, ◌≤ℤ◌, ◌<ℤ◌, neg_ℤ, pos, true};
 ghost use Rattle.oth_rules.specs.Position.{empty_count};
 ghost use Rattle.oth_rules.specs.Move.{can_move};

@@ -1,4 +1,4 @@
-//! The two cells of a board, and which of them takes a store.
+//! The bucket of a board, two cells, and the replacement rule: which of them takes a store.
 ghost use Rattle.std.specs.Prelude.{◌≡◌, ◌<◌};
 ghost use Rattle.oth_rules.specs.Symmetry.{IsCanonical};
 ghost use Rattle.oth_table.specs.Choices.{place_of, second_of, is_whole_of, entry_in, is_better};

@@ -1,4 +1,4 @@
-//! A table of entries without locks, which threads share.
+//! A transposition table that threads share without locks.
 #![tactic(auto)]
 
 mod cells;

@@ -1,4 +1,4 @@
-//! The program: it reports the lines of standard input on standard output.
+//! The program: it does what its command line asks for, with standard input and output and the file of a book.
 #![tactic(auto)]
 
 ghost use Rattle.std.specs.Prelude.{◌≡◌, ◌≤◌, ◌⊎◌, ◌↔◌, IfOk, IfErr, false, true};
