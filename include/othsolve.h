@@ -138,10 +138,10 @@ uint32_t oth_flips(oth_board board, uint8_t square, uint64_t *flips);
 uint32_t oth_play(oth_board board, uint8_t square, oth_board *next);
 
 /* The score, all best moves and the kind of a board of at most 30 empty squares, by the caller's thread alone. The call
- * makes a table of `cells` cells of 32 bytes, and frees it: 0 for none, or 1, 2, 4 .. 262144. Where there is no memory it
- * does without: neither the table nor its absence changes the answer. A table pays from some 16 empty squares on. The
- * time grows with the empty squares: on boards of games a millisecond at 12, some hundredths of a second at 16, some
- * tenths at 18.
+ * makes a transposition table of `cells` cells of 32 bytes, and frees it: 0 for none, or 1, 2, 4 .. 262144. Where there is
+ * no memory it does without: neither the table nor its absence changes the answer. A table pays from some 16 empty squares
+ * on. The time grows with the empty squares: on boards of games a millisecond at 12, some hundredths of a second at 16,
+ * some tenths at 18.
  * Refusals, the first that holds: OTH_OVERLAP, OTH_SCORING, OTH_EMPTIES, OTH_CELLS. */
 uint32_t oth_solve_alone(oth_board board, uint8_t scoring, uint32_t cells, oth_answer *answer);
 
@@ -150,8 +150,8 @@ uint32_t oth_solve_alone(oth_board board, uint8_t scoring, uint32_t cells, oth_a
  * Refusals, the first that holds: OTH_OVERLAP, OTH_SCORING, OTH_EMPTIES, OTH_CELLS. */
 uint32_t oth_scores(oth_board board, uint8_t scoring, uint32_t cells, oth_move_scores *scores);
 
-/* A table for several threads and many boards. Each thread has a seat of it, makes its calls from there, and finds what all
- * threads have stored. Made with one seat, before the threads start:
+/* A transposition table for several threads and many boards. Each thread has a seat of it, makes its calls from there, and
+ * finds what all threads have stored. Made with one seat, before the threads start:
  *
  *     oth_seat first = {NULL}, second = {NULL};
  *     oth_table_new(65536, OTH_SCORING_WINNER, &first);    the table, and its first seat
@@ -160,7 +160,8 @@ uint32_t oth_scores(oth_board board, uint8_t scoring, uint32_t cells, oth_move_s
  *     oth_seat_free(&first);                               each seat once; the last one frees the table too
  *     oth_seat_free(&second);
  *
- * oth_table_new makes a table of `cells` cells of 32 bytes, 1, 2, 4 .. 262144, for boards under this scoring, and its first seat.
+ * oth_table_new makes a table of `cells` cells of 32 bytes, 1, 2, 4 .. 262144, for boards under this scoring, and its first
+ * seat.
  * Refusals, the first that holds: OTH_SEATED, OTH_SCORING, OTH_CELLS, OTH_MEMORY. */
 uint32_t oth_table_new(uint32_t cells, uint8_t scoring, oth_seat *seat);
 
@@ -168,8 +169,9 @@ uint32_t oth_table_new(uint32_t cells, uint8_t scoring, oth_seat *seat);
  * Refusals, the first that holds: OTH_NO_SEAT, OTH_SEATED, OTH_MEMORY. */
 uint32_t oth_seat_new(oth_seat *seat, oth_seat *more);
 
-/* The score, all best moves and the kind of a board of at most 30 empty squares, under the table's scoring and the caller's
- * thread. The answer is exact, whatever other threads do over the table meanwhile, and running out of memory doesn't change it.
+/* The score, all best moves and the kind of a board of at most 30 empty squares, under the table's scoring, by the
+ * caller's thread. The answer is exact, whatever other threads do over the table meanwhile, and refused memory doesn't
+ * change it.
  * Refusals, the first that holds: OTH_OVERLAP, OTH_EMPTIES, OTH_NO_SEAT. */
 uint32_t oth_solve_over(oth_seat *seat, oth_board board, oth_answer *answer);
 
