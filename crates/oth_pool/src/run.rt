@@ -45,7 +45,7 @@ struct Links<'s> {
 
 /// Lets so many workers, 1 to 16, search the items of the frontier, each over cells of the table where there is one and
 /// a seat of it can be had, with a window at the floor. It waits for them. The gate hears of each item that a worker
-/// takes. Want of memory or of threads costs time alone: what no worker takes is left.
+/// takes. Refused memory or threads cost time alone: what no worker takes is left.
 pub fn run_workers<'t, R: Threads + Sync, G: Gate>(
     rt: &R,
     alloc: Global,

@@ -1,4 +1,4 @@
-//! Want of memory. Each of these tests holds whichever one of its requests for memory is refused; `hostile/refusals.py`
+//! Out of memory. Each of these tests holds whichever one of its requests for memory is refused; `hostile/refusals.py`
 //! runs each of them once for each request.
 
 use super::{A, BOOK_1, BOOK_2, BOTH, C, FIRST_IMAGE, add, add_bounds, bounds, found, is_written};

@@ -1,4 +1,4 @@
-//! Want of memory. Each of these tests holds whichever one of its requests for memory is refused; `hostile/refusals.py`
+//! Out of memory. Each of these tests holds whichever one of its requests for memory is refused; `hostile/refusals.py`
 //! runs each of them once for each request, thread starts among them.
 
 use super::books::{BOOK_OF_A, BOOK_OF_TWO, EMPTY_BOOK, TWO_LINES as NEW_LINES, add};

@@ -1,4 +1,4 @@
-//! Want of memory. Each of these tests holds whichever one of its requests for memory is refused; `hostile/refusals.py`
+//! Out of memory. Each of these tests holds whichever one of its requests for memory is refused; `hostile/refusals.py`
 //! runs each of them once for each request.
 
 use super::{A, board, drawn, lifted};
