@@ -2,8 +2,8 @@
 --     no_score      what stands at a square that is no legal move: -128
 --     score_at p g s      the value after a legal move to the square, seen from who moves, or no_score
 --     StandAt p g scores      at each of the 64 squares stands its score
---     AreMoveScores p g x      the answer, the legal squares and the scores of the position p under the scoring g
---     TellsScores, TellsScoresFully x b s      s has the board's scores under the table's scoring, as C has them and as the search
+--     AreMoveScores p g x      the answer, the legal squares and the scores of the position p by the scoring g
+--     TellsScores, TellsScoresFully x b s      s has the board's scores by the scoring of the seat's table, as C has them and as the search
 use Rattle.std.specs.Prelude.{◌≡◌, ℕ, ℤ, negsuc, neg_ℤ, ◌<◌, ◌≤◌, false, if◌then◌else◌, List, slice_index_or, Option, Some, None}
 use Rattle.oth_rules.specs.declared.scoring.Scoring.{Scoring}
 use Rattle.oth_rules.specs.Square.{word_of}
