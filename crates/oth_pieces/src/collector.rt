@@ -64,8 +64,8 @@ impl<'f> Collector<'f> {
         }
     }
 
-    /// Takes the reply of a known item that has none yet, where it is of the item's board and by the collector's
-    /// scoring. The collector is unchanged after each refusal.
+    /// Takes the reply of a known item that has none yet, where it is of the item's board and under the
+    /// collector's scoring. The collector is unchanged after each refusal.
     pub fn take(&mut self, reply: Reply) -> Result<(), Refusal>
         ensures variant { refusal self.old reply ≡ err_of result }
         ensures ok { OnOk result (self.new ≡ with_reply self.old reply) }

@@ -132,8 +132,8 @@ impl Solved {
         }
     }
 
-    /// What both tell of the board: the greater lower bound and the lesser upper one. Of another board or by the other
-    /// scoring the other tells nothing.
+    /// What both tell of the board: the greater lower bound and the lesser upper one. Of another board, or under the
+    /// other scoring, the other tells nothing.
     pub fn joined(&self, other: &Solved) -> Solved
         ensures board { result.board ≡ self.now.board }
         ensures scoring { result.scoring ≡ self.now.scoring }
