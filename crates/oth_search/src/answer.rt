@@ -45,7 +45,7 @@ impl Answer {
         }
     }
 
-    /// By what a finished game is counted in this answer.
+    /// The scoring that the answer is under.
     pub fn scoring(&self) -> Scoring
         ensures { result ≡ self.now.scoring }
     {

@@ -76,7 +76,7 @@ impl Entry {
         let _ = &self.board;
     }
 
-    /// By what a finished game is counted in its bounds.
+    /// The scoring that its bounds are under.
     pub fn scoring(&self) -> Scoring
         ensures { result ≡ self.now.scoring }
     {

@@ -87,7 +87,7 @@ impl Solved {
         }
     }
 
-    /// By what a finished game is counted in these bounds.
+    /// The scoring that these bounds are under.
     pub fn scoring(&self) -> Scoring
         ensures { result ≡ self.now.scoring }
     {
