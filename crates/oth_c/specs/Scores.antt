@@ -3,7 +3,7 @@
 --     score_at p g s      the value after a legal move to the square, seen from who moves, or no_score
 --     StandAt p g scores      at each of the 64 squares stands its score
 --     AreMoveScores p g x      the answer, the legal squares and the scores of the position p by the scoring g
---     TellsScores, TellsScoresFully x b s      s has the board's scores by the scoring of the seat's table, as C has them and as the search
+--     TellsScores x b s      s has the board's scores by the scoring of the seat's table
 use Rattle.std.specs.Prelude.{◌≡◌, ℕ, ℤ, negsuc, neg_ℤ, ◌<◌, ◌≤◌, false, if◌then◌else◌, List, slice_index_or, Option, Some, None}
 use Rattle.oth_rules.specs.declared.scoring.Scoring.{Scoring}
 use Rattle.oth_rules.specs.Square.{word_of}
@@ -11,7 +11,6 @@ use Rattle.oth_rules.specs.Position.{Position, empty_count}
 use Rattle.oth_rules.specs.Move.{is_legal, after}
 use Rattle.oth_rules.specs.Score.{score_of}
 use Rattle.oth_rules.specs.Value.{value}
-use Rattle.oth_search.specs.declared.scores.Scores.{Scores}
 use Rattle.oth_table.specs.Parts.{Use}
 use Rattle.oth_c.specs.declared.board.OthBoard.{OthBoard}
 use Rattle.oth_c.specs.declared.scores.OthScores.{OthScores}
@@ -35,11 +34,3 @@ pub record AreMoveScores (p : Position) (g : Scoring) (x : OthScores) : Type 0 w
 abbrev pub TellsScores : Option Use → OthBoard → OthScores → Type 0
 TellsScores None b s = ⊥
 TellsScores (Some u) b s = (overlaps b ≡ false) × (empty_count (position b) ≤ 30) × AreMoveScores (position b) u.table.terms.scoring s
-
-abbrev pub TellsScoresFully : Option Use → OthBoard → Scores → Type 0
-TellsScoresFully None b s = ⊥
-TellsScoresFully (Some u) b s =
-    (overlaps b ≡ false)
-    × (empty_count (position b) ≤ 30)
-    × (s.answer.board ≡ position b)
-    × (s.answer.scoring ≡ u.table.terms.scoring)

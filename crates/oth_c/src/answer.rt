@@ -1,11 +1,8 @@
 //! Answers as C has them.
 
-ghost use Rattle.std.specs.Prelude.{◌≡◌, ◌<◌, ◌≤◌, IfOk, IfErr};
-ghost use Rattle.oth_c.specs.Answers.{kind_number, scoring_of};
-ghost use Rattle.oth_c.specs.declared.refusal.Refusal.TheVariants as refusal;
+ghost use Rattle.std.specs.Prelude.{◌≡◌};
+ghost use Rattle.oth_c.specs.Answers.{kind_number};
 
-use crate::refusal::Refusal;
-use oth_rules::Scoring;
 use oth_search::{Answer, Kind};
 
 /// The value of a board for its mover, -64 to 64; all its best moves, bit `n` for square `n`; and what the mover does:
@@ -41,17 +38,5 @@ fn kind_number(kind: Kind) -> u8
         Kind::Move => 0,
         Kind::Pass => 1,
         Kind::End => 2,
-    }
-}
-
-/// The scoring of this number: 0 `Winner`, 1 `Discs`; refused from 2 on.
-pub fn scoring_of(number: u8) -> Result<Scoring, Refusal>
-    ensures ok { IfOk result (λ g. (number < 2) × (g ≡ scoring_of number)) }
-    ensures err { IfErr result (λ r. (2 ≤ number) × (r ≡ refusal.Scoring)) }
-{
-    match number {
-        0 => Ok(Scoring::Winner),
-        1 => Ok(Scoring::Discs),
-        _ => Err(Refusal::Scoring),
     }
 }

@@ -1,6 +1,6 @@
 //! The refusals, and the numbers by which C knows them.
 
-ghost use Rattle.std.specs.Prelude.{◌≡◌};
+ghost use Rattle.std.specs.Prelude.{◌≡◌, ◌≢◌, IfErr, IfOk};
 ghost use Rattle.oth_c.specs.Codes.{code_of};
 
 /// What an export answers where it did what it was asked for.
@@ -54,5 +54,19 @@ impl Refusal {
             Refusal::Taken => 32,
             Refusal::Memory => 33,
         }
+    }
+}
+
+/// Writes what a call found, and gives `DONE`; or gives the number of its refusal, and writes nothing.
+pub fn deliver<T: Copy>(found: Result<T, Refusal>, place: &mut T) -> u32
+    ensures ok { IfOk found (λ x. (result ≡ DONE) × (place.new ≡ x)) }
+    ensures err { IfErr found (λ r. (result ≡ code_of r) × (result ≢ DONE) × (place.new ≡ place.old)) }
+{
+    match found {
+        Ok(found) => {
+            *place = found;
+            DONE
+        }
+        Err(refusal) => refusal.code(),
     }
 }

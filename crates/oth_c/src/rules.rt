@@ -8,8 +8,7 @@ ghost use Rattle.oth_c.specs.Codes.{code_of};
 ghost use Rattle.oth_c.specs.Rules.{board_code, play_code, square_code};
 
 use crate::board::{OthBoard, square_of};
-use crate::refusal::{DONE, Refusal};
-use oth_rules::Board;
+use crate::refusal::{DONE, Refusal, deliver};
 
 /// Writes the set of the mover's legal squares. Refusal 1.
 #[unsafe(no_mangle)]
@@ -18,13 +17,16 @@ pub extern "C" fn oth_moves(board: OthBoard, moves: &mut u64) -> u32
     ensures moves { result ≡ DONE → moves.new ≡ word_of (is_legal (position board)) }
     ensures kept { result ≢ DONE → moves.new ≡ moves.old }
 {
-    match board.board() {
-        Ok(board) => {
-            *moves = board.moves();
-            DONE
-        }
-        Err(refusal) => refusal.code(),
-    }
+    deliver(legal(board), moves)
+}
+
+// The legal squares, or the refusal.
+fn legal(board: OthBoard) -> Result<u64, Refusal>
+    ensures ok { IfOk result (λ w. (board_code board ≡ DONE) × (w ≡ word_of (is_legal (position board)))) }
+    ensures err { IfErr result (λ r. board_code board ≡ code_of r) }
+{
+    let board = board.board()?;
+    Ok(board.moves())
 }
 
 /// Writes the discs that a move to the square flips: none exactly where the move is illegal. Refusals 1 and 2, tested
@@ -36,13 +38,7 @@ pub extern "C" fn oth_flips(board: OthBoard, square: u8, flips: &mut u64) -> u32
     ensures none { result ≡ DONE → (flips.new ≡ 0) ↔ (is_legal (position board) square ≡ false) }
     ensures kept { result ≢ DONE → flips.new ≡ flips.old }
 {
-    match flipped(board, square) {
-        Ok(flipped) => {
-            *flips = flipped;
-            DONE
-        }
-        Err(refusal) => refusal.code(),
-    }
+    deliver(flipped(board, square), flips)
 }
 
 // The discs that the move turns over, or the first refusal.
@@ -64,21 +60,16 @@ pub extern "C" fn oth_play(board: OthBoard, square: u8, next: &mut OthBoard) -> 
     ensures played { result ≡ DONE → position next.new ≡ after (position board) square }
     ensures kept { result ≢ DONE → next.new ≡ next.old }
 {
-    match played(board, square) {
-        Ok(board) => {
-            *next = OthBoard::of(&board);
-            DONE
-        }
-        Err(refusal) => refusal.code(),
-    }
+    deliver(played(board, square), next)
 }
 
 // The board after the move, or the first refusal.
-fn played(board: OthBoard, square: u8) -> Result<Board, Refusal>
-    ensures ok { IfOk result (λ b. (play_code board square ≡ DONE) × (b ≡ after (position board) square)) }
+fn played(board: OthBoard, square: u8) -> Result<OthBoard, Refusal>
+    ensures ok { IfOk result (λ b. (play_code board square ≡ DONE) × (position b ≡ after (position board) square)) }
     ensures err { IfErr result (λ r. play_code board square ≡ code_of r) }
 {
     let board = board.board()?;
     let square = square_of(square)?;
-    board.play(square).ok_or(Refusal::Illegal)
+    let next = board.play(square).ok_or(Refusal::Illegal)?;
+    Ok(OthBoard::of(&next))
 }

@@ -2,26 +2,23 @@
 
 ghost use Rattle.std.specs.Prelude.{◌≡◌, ◌≢◌, ◌<◌, ◌≤◌, IfOk, IfErr};
 ghost use Rattle.oth_rules.specs.declared.scoring.Scoring.{Scoring as ScoredBy};
-ghost use Rattle.oth_rules.specs.Position.{Position, empty_count};
+ghost use Rattle.oth_rules.specs.Position.{Position};
 ghost use Rattle.oth_search.specs.Scores.{AreScores};
-ghost use Rattle.oth_table.specs.SharedTable.{IsSeatOf};
 ghost use Rattle.oth_c.specs.Answers.{scoring_of};
 ghost use Rattle.oth_c.specs.Boards.{position};
 ghost use Rattle.oth_c.specs.Codes.{code_of};
-ghost use Rattle.oth_c.specs.Scores.{AreMoveScores, StandAt, TellsScores, TellsScoresFully, score_at};
+ghost use Rattle.oth_c.specs.Scores.{AreMoveScores, StandAt, TellsScores, score_at};
 ghost use Rattle.oth_c.specs.Seats.{IsKept, RefusesBoard};
 ghost use Rattle.oth_c.specs.Solving.{Accepts, Refuses};
 ghost use Rattle.oth_c.specs.declared.refusal.Refusal.{Refusal as RefusedBy};
 
 use crate::answer::OthAnswer;
 use crate::board::OthBoard;
-use crate::refusal::{DONE, Refusal};
+use crate::refusal::{DONE, Refusal, deliver};
 use crate::seat::OthSeat;
 use crate::sharing::lifted;
-use crate::solving::{accepted, own_table};
-use oth_rules::{Board, Scoring};
-use oth_search::{MemoCells, Memories, ScoredMove, Scores, scores_with};
-use oth_table::{SharedTable, TableCells, TableSeat};
+use crate::solving::{accepted, cells_over, own_table};
+use oth_search::{MemoCells, ScoredMove, Scores, scores_with};
 use std::alloc::Global;
 
 /// A board's answer, its legal squares, bit `n` for square `n`, and the score of each move at its square: the value of
@@ -92,47 +89,27 @@ pub extern "C" fn oth_scores(
     ensures refused { result ≢ DONE → (r : RefusedBy) × (result ≡ code_of r) × Refuses board scoring cells r }
     ensures kept { result ≢ DONE → scores.new ≡ scores.old }
 {
-    match scored(alloc, board, scoring, cells) {
-        Ok(found) => {
-            *scores = OthScores::of(&found);
-            DONE
-        }
-        Err(refusal) => refusal.code(),
-    }
+    deliver(scored(alloc, board, scoring, cells), scores)
 }
 
 // The scores, or the first refusal.
-fn scored(alloc: Global, board: OthBoard, scoring: u8, cells: u32) -> Result<Scores, Refusal>
+fn scored(alloc: Global, board: OthBoard, scoring: u8, cells: u32) -> Result<OthScores, Refusal>
     ensures accepted { IfOk result (λ s. Accepts board scoring cells) }
-    ensures board { IfOk result (λ s. s.answer.board ≡ position board) }
-    ensures scoring { IfOk result (λ s. s.answer.scoring ≡ scoring_of scoring) }
+    ensures scored { IfOk result (AreMoveScores (position board) (scoring_of scoring)) }
     ensures err { IfErr result (Refuses board scoring cells) }
 {
     let (board, scoring) = accepted(board, scoring, cells)?;
-    Ok(match own_table(alloc, cells, scoring) {
-        Some((table, seat)) => over(alloc, board, &table, seat, scoring),
+    let scores = match own_table(alloc, cells, scoring) {
+        Some((table, seat)) => {
+            let mut cells = cells_over(alloc, &board, &table, seat, true);
+            scores_with(board, &mut cells, scoring)
+        }
         None => {
             let mut alone = MemoCells::alone(alloc, board.empties());
             scores_with(board, &mut alone, scoring)
         }
-    })
-}
-
-// The scores by a search over the table, from this seat of it.
-fn over(
-    alloc: Global,
-    board: Board,
-    table: &SharedTable,
-    seat: TableSeat,
-    scoring: Scoring,
-) -> Scores
-    requires { IsSeatOf table.now seat }
-    ensures board { result.answer.board ≡ board }
-    ensures scoring { result.answer.scoring ≡ scoring }
-{
-    let memories = Memories::of(alloc, board.empties(), true);
-    let mut cells = MemoCells::of(TableCells::of(table, seat), memories);
-    scores_with(board, &mut cells, scoring)
+    };
+    Ok(OthScores::of(&scores))
 }
 
 /// Writes the same under the table's scoring: exact, whatever other threads do over the table meanwhile. Refusals 1, 5
@@ -149,18 +126,12 @@ pub extern "C" fn oth_scores_over(
     ensures refused { result ≢ DONE → (r : RefusedBy) × (result ≡ code_of r) × RefusesBoard seat.old.held board r }
     ensures kept { result ≢ DONE → (seat.new.held ≡ seat.old.held) × (scores.new ≡ scores.old) }
 {
-    match scored_over(alloc, seat, board) {
-        Ok(found) => {
-            *scores = OthScores::of(&found);
-            DONE
-        }
-        Err(refusal) => refusal.code(),
-    }
+    deliver(scored_over(alloc, seat, board), scores)
 }
 
 // The scores, or the first refusal.
-fn scored_over(alloc: Global, seat: &mut OthSeat, board: OthBoard) -> Result<Scores, Refusal>
-    ensures full { IfOk result (TellsScoresFully seat.old.held board) }
+fn scored_over(alloc: Global, seat: &mut OthSeat, board: OthBoard) -> Result<OthScores, Refusal>
+    ensures scored { IfOk result (TellsScores seat.old.held board) }
     ensures same { IsKept seat.old.held seat.new.held }
     ensures err { IfErr result (λ r. RefusesBoard seat.old.held board r × (seat.new.held ≡ seat.old.held)) }
 {
@@ -168,5 +139,5 @@ fn scored_over(alloc: Global, seat: &mut OthSeat, board: OthBoard) -> Result<Sco
     let (seated, scores) = seated.scores(alloc, board);
     place.seated = Some(seated);
     seat.put(place);
-    Ok(scores)
+    Ok(OthScores::of(&scores))
 }

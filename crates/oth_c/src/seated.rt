@@ -9,11 +9,10 @@ ghost use Rattle.oth_c.specs.Seats.{IsOpened, RefusesCells};
 ghost use Rattle.oth_c.specs.declared.refusal.Refusal.TheVariants as refusal;
 
 use crate::refusal::Refusal;
+use crate::solving::cells_over;
 use oth_rules::{Board, Scoring};
-use oth_search::{
-    Answer, Limited, MemoCells, Memories, Scores, Stopped, scores_with, solve_until, solve_with,
-};
-use oth_table::{SharedTable, TableCells, TableError, TableSeat};
+use oth_search::{Answer, Limited, Scores, Stopped, scores_with, solve_until, solve_with};
+use oth_table::{SharedTable, TableError, TableSeat};
 use std::alloc::Global;
 use std::marker::Model;
 use std::sync::Arc;
@@ -83,10 +82,8 @@ impl Seated {
         ensures full { IsFullMinimax board self.table.terms.scoring result.1 }
     {
         let Seated { table, seat } = self;
-        let scoring = table.scoring();
-        let memories = Memories::of(alloc, board.empties(), false);
-        let mut cells = MemoCells::of(TableCells::of(&table, seat), memories);
-        let answer = solve_with(board, &mut cells, scoring);
+        let mut cells = cells_over(alloc, &board, &table, seat, false);
+        let answer = solve_with(board, &mut cells, table.scoring());
         let seat = cells.into_cells().into_seat();
         (Seated { table, seat }, answer)
     }
@@ -98,10 +95,8 @@ impl Seated {
         ensures scoring { result.1.answer.scoring ≡ self.table.terms.scoring }
     {
         let Seated { table, seat } = self;
-        let scoring = table.scoring();
-        let memories = Memories::of(alloc, board.empties(), false);
-        let mut cells = MemoCells::of(TableCells::of(&table, seat), memories);
-        let scores = scores_with(board, &mut cells, scoring);
+        let mut cells = cells_over(alloc, &board, &table, seat, false);
+        let scores = scores_with(board, &mut cells, table.scoring());
         let seat = cells.into_cells().into_seat();
         (Seated { table, seat }, scores)
     }
@@ -120,11 +115,9 @@ impl Seated {
             × (s.known.scoring ≡ self.table.terms.scoring)) }
     {
         let Seated { table, seat } = self;
-        let scoring = table.scoring();
-        let memories = Memories::of(alloc, board.empties(), false);
-        let cells = MemoCells::of(TableCells::of(&table, seat), memories);
+        let cells = cells_over(alloc, &board, &table, seat, false);
         let mut limited = Limited::of(cells, most);
-        let found = solve_until(alloc, &board, &mut limited, scoring);
+        let found = solve_until(alloc, &board, &mut limited, table.scoring());
         let seat = limited.into_cells().into_cells().into_seat();
         (Seated { table, seat }, found)
     }

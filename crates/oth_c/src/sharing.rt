@@ -5,17 +5,18 @@ ghost use Rattle.oth_rules.specs.Position.{empty_count};
 ghost use Rattle.oth_table.specs.Sizes.{IsSize};
 ghost use Rattle.oth_c.specs.Boards.{overlaps, position};
 ghost use Rattle.oth_c.specs.Codes.{code_of};
-ghost use Rattle.oth_c.specs.Seats.{is_held, IsOpenedAt, Opens, Joins, Solves, SolvesFully, IsKept};
+ghost use Rattle.oth_c.specs.Seats.{is_held, IsOpenedAt, Opens, Joins, Solves, IsKept};
 ghost use Rattle.oth_c.specs.Seats.{RefusesCells, RefusesTable, RefusesSeat, RefusesBoard};
 ghost use Rattle.oth_c.specs.declared.refusal.Refusal.{Refusal as RefusedBy};
 
-use crate::answer::{OthAnswer, scoring_of};
+use crate::answer::OthAnswer;
 use crate::board::OthBoard;
-use crate::refusal::{DONE, Refusal};
+use crate::refusal::{DONE, Refusal, deliver};
 use crate::seat::OthSeat;
 use crate::seated::{Place, Seated};
+use crate::solving::scoring_of;
 use oth_rules::{Board, Scoring};
-use oth_search::{Answer, MOST_EMPTIES};
+use oth_search::MOST_EMPTIES;
 use std::alloc::Global;
 
 /// Makes a table of `cells` cells, 1, 2, 4 .. 262,144, for boards under the scoring of this number, 0 or 1, and its
@@ -164,18 +165,12 @@ pub extern "C" fn oth_solve_over(
     ensures refused { result ≢ DONE → (r : RefusedBy) × (result ≡ code_of r) × RefusesBoard seat.old.held board r }
     ensures kept { result ≢ DONE → (seat.new.held ≡ seat.old.held) × (answer.new ≡ answer.old) }
 {
-    match solved_over(alloc, seat, board) {
-        Ok(found) => {
-            *answer = OthAnswer::of(&found);
-            DONE
-        }
-        Err(refusal) => refusal.code(),
-    }
+    deliver(solved_over(alloc, seat, board), answer)
 }
 
 // The answer, or the first refusal.
-fn solved_over(alloc: Global, seat: &mut OthSeat, board: OthBoard) -> Result<Answer, Refusal>
-    ensures full { IfOk result (SolvesFully seat.old.held board) }
+fn solved_over(alloc: Global, seat: &mut OthSeat, board: OthBoard) -> Result<OthAnswer, Refusal>
+    ensures answered { IfOk result (Solves seat.old.held board) }
     ensures same { IsKept seat.old.held seat.new.held }
     ensures err { IfErr result (λ r. RefusesBoard seat.old.held board r × (seat.new.held ≡ seat.old.held)) }
 {
@@ -183,7 +178,7 @@ fn solved_over(alloc: Global, seat: &mut OthSeat, board: OthBoard) -> Result<Ans
     let (seated, answer) = seated.solve(alloc, board);
     place.seated = Some(seated);
     seat.put(place);
-    Ok(answer)
+    Ok(OthAnswer::of(&answer))
 }
 
 /// Frees a seat, and with the last seat its table. Where there is none nothing is done.

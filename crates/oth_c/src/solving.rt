@@ -1,6 +1,6 @@
 //! The solver, by the caller's thread alone.
 
-ghost use Rattle.std.specs.Prelude.{◌≡◌, ◌≢◌, ◌≤◌, IfOk, IfErr, IfSome};
+ghost use Rattle.std.specs.Prelude.{◌≡◌, ◌≢◌, ◌<◌, ◌≤◌, IfOk, IfErr, IfSome};
 ghost use Rattle.oth_rules.specs.Position.{empty_count};
 ghost use Rattle.oth_search.specs.Full.{IsFullMinimax};
 ghost use Rattle.oth_table.specs.SharedTable.{IsSeatOf};
@@ -9,10 +9,11 @@ ghost use Rattle.oth_c.specs.Boards.{position};
 ghost use Rattle.oth_c.specs.Codes.{code_of};
 ghost use Rattle.oth_c.specs.Solving.{Accepts, Refuses};
 ghost use Rattle.oth_c.specs.declared.refusal.Refusal.{Refusal as RefusedBy};
+ghost use Rattle.oth_c.specs.declared.refusal.Refusal.TheVariants as refusal;
 
-use crate::answer::{OthAnswer, scoring_of};
+use crate::answer::OthAnswer;
 use crate::board::OthBoard;
-use crate::refusal::{DONE, Refusal};
+use crate::refusal::{DONE, Refusal, deliver};
 use oth_rules::{Board, Scoring};
 use oth_search::{Answer, MOST_EMPTIES, MemoCells, Memories, solve_alone, solve_with};
 use oth_table::{SharedTable, TableCells, TableSeat, is_size};
@@ -35,26 +36,24 @@ pub extern "C" fn oth_solve_alone(
     ensures refused { result ≢ DONE → (r : RefusedBy) × (result ≡ code_of r) × Refuses board scoring cells r }
     ensures kept { result ≢ DONE → answer.new ≡ answer.old }
 {
-    match solved(alloc, board, scoring, cells) {
-        Ok(found) => {
-            *answer = OthAnswer::of(&found);
-            DONE
-        }
-        Err(refusal) => refusal.code(),
-    }
+    deliver(solved(alloc, board, scoring, cells), answer)
 }
 
 // The answer, or the first refusal.
-fn solved(alloc: Global, board: OthBoard, scoring: u8, cells: u32) -> Result<Answer, Refusal>
+fn solved(alloc: Global, board: OthBoard, scoring: u8, cells: u32) -> Result<OthAnswer, Refusal>
     ensures accepted { IfOk result (λ a. Accepts board scoring cells) }
-    ensures full { IfOk result (IsFullMinimax (position board) (scoring_of scoring)) }
+    ensures answered { IfOk result (IsAnswer (position board) (scoring_of scoring)) }
     ensures err { IfErr result (Refuses board scoring cells) }
 {
     let (board, scoring) = accepted(board, scoring, cells)?;
-    Ok(match own_table(alloc, cells, scoring) {
-        Some((table, seat)) => over(alloc, board, &table, seat, scoring),
+    let answer = match own_table(alloc, cells, scoring) {
+        Some((table, seat)) => {
+            let mut cells = cells_over(alloc, &board, &table, seat, true);
+            solve_with(board, &mut cells, scoring)
+        }
         None => without_table(&board, scoring),
-    })
+    };
+    Ok(OthAnswer::of(&answer))
 }
 
 /// The board of these words and the scoring of this number, where they are searched with so many cells; else the first
@@ -75,11 +74,40 @@ pub fn accepted(board: OthBoard, scoring: u8, cells: u32) -> Result<(Board, Scor
     Ok((board, scoring))
 }
 
+/// The scoring of this number: 0 `Winner`, 1 `Discs`; refused from 2 on.
+pub fn scoring_of(number: u8) -> Result<Scoring, Refusal>
+    ensures ok { IfOk result (λ g. (number < 2) × (g ≡ scoring_of number)) }
+    ensures err { IfErr result (λ r. (2 ≤ number) × (r ≡ refusal.Scoring)) }
+{
+    match number {
+        0 => Ok(Scoring::Winner),
+        1 => Ok(Scoring::Discs),
+        _ => Err(Refusal::Scoring),
+    }
+}
+
 /// A table of so many cells, and its first seat. There is none of 0 cells, or where there is no memory.
 pub fn own_table(alloc: Global, cells: u32, scoring: Scoring) -> Option<(SharedTable, TableSeat)>
     ensures { IfSome result (λ x. IsSeatOf x.0 x.1) }
 {
     SharedTable::new(alloc, cells, scoring).ok()
+}
+
+/// The cells of the table, used from this seat of it, and memories for a search of the board. It is alone where no
+/// other thread searches over the table.
+pub fn cells_over<'t>(
+    alloc: Global,
+    board: &Board,
+    table: &'t SharedTable,
+    seat: TableSeat,
+    is_alone: bool,
+) -> MemoCells<TableCells<'t>>
+    requires { IsSeatOf table.now seat }
+    ensures table { result.cells.table ≡ table.now }
+    ensures seat { result.cells.seat ≡ seat }
+{
+    let memories = Memories::of(alloc, board.empties(), is_alone);
+    MemoCells::of(TableCells::of(table, seat), memories)
 }
 
 // The answer by a search without a table.
@@ -91,20 +119,4 @@ fn without_table(board: &Board, scoring: Scoring) -> Answer
         Ok(answer) => answer,
         Err(_) => unreachable!(),
     }
-}
-
-// The answer by a search over the table, from this seat of it.
-fn over(
-    alloc: Global,
-    board: Board,
-    table: &SharedTable,
-    seat: TableSeat,
-    scoring: Scoring,
-) -> Answer
-    requires { IsSeatOf table.now seat }
-    ensures { IsFullMinimax board scoring result }
-{
-    let memories = Memories::of(alloc, board.empties(), true);
-    let mut cells = MemoCells::of(TableCells::of(table, seat), memories);
-    solve_with(board, &mut cells, scoring)
 }

@@ -16,7 +16,7 @@ ghost use Rattle.oth_c.specs.Texts.{moves_line_code, print_code, transcript_code
 
 use crate::board::OthBoard;
 use crate::position::OthPosition;
-use crate::refusal::{DONE, Refusal};
+use crate::refusal::{DONE, Refusal, deliver};
 use oth_text::{
     LineFault, Position, TranscriptFault, moves_line, play_transcript, read_board, read_transcript,
     write_board,
@@ -204,13 +204,7 @@ pub extern "C" fn oth_print_moves(board: OthBoard, line: &mut [u8], written: &mu
     ensures written { result ≡ DONE → written.new ≡ length (moves_line_of (position board)) }
     ensures kept { result ≢ DONE → (line.new ≡ line.old) × (written.new ≡ written.old) }
 {
-    match moves_printed(board, line) {
-        Ok(count) => {
-            *written = count;
-            DONE
-        }
-        Err(refusal) => refusal.code(),
-    }
+    deliver(moves_printed(board, line), written)
 }
 
 // Writes the moves line into the buffer and gives its length, or the first refusal.

@@ -1,15 +1,19 @@
-//! The worked boards, and what workers do over a table.
+//! The worked boards, and what workers do over a table. `pieces`, `walk` and `batch` have the tests of the crates of
+//! these names.
 
 mod agreement;
+mod batch;
 mod book;
 mod crews;
 mod drawing;
 mod gate;
+mod pieces;
 mod refused;
 mod rows;
 mod scoring;
 mod together;
 mod view;
+mod walk;
 
 use oth_pool::{Floor, Frontier, Open, SolveError, TableAccess, WorkerCells, run_workers, solve};
 use oth_rules::samples::board;

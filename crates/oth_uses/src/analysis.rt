@@ -1,19 +1,18 @@
 //! An analysis: what each move is worth on the board that a game leads to, and what a move there loses.
 
-ghost use Rattle.std.specs.Prelude.{◌≡◌, ◌≢◌, ◌<◌, ◌↔◌, ◌+ℤ◌, ◌-ℤ◌, neg_ℤ, All, Err, IfOk, IfSome};
-ghost use Rattle.std.specs.Prelude.{IsNone};
+ghost use Rattle.std.specs.Prelude.{◌≡◌, ◌≢◌, ◌<◌, ◌↔◌, ◌+ℤ◌, ◌-ℤ◌, All, Err, IfOk, IfSome, IsNone};
 ghost use Rattle.oth_rules.specs.Laws.{IsLegal};
 ghost use Rattle.oth_rules.specs.Move.{after};
 ghost use Rattle.oth_rules.specs.Position.{empty_count};
 ghost use Rattle.oth_rules.specs.Score.{score_of};
 ghost use Rattle.oth_rules.specs.Value.{value};
-ghost use Rattle.oth_search.specs.Scores.{AreScores};
+ghost use Rattle.oth_search.specs.Scores.{AreScores, IsScored};
 ghost use Rattle.oth_text.specs.declared.fault.TranscriptFault.{TranscriptFault as Fault};
 ghost use Rattle.oth_text.specs.declared.position.Position.{Position as Reached};
 ghost use Rattle.oth_text.specs.Transcript.{IsTranscript, IsTranscriptFault};
 
 use oth_rules::{Scoring, Square};
-use oth_search::{MOST_EMPTIES, MemoCells, Scores, scores_with};
+use oth_search::{MOST_EMPTIES, MemoCells, ScoredMove, Scores, scores_with};
 use oth_text::{TranscriptFault, read_transcript};
 use std::alloc::Global;
 
@@ -48,23 +47,22 @@ pub fn loss_of(scores: &Scores, square: Square) -> Option<i16>
         IfSome result (λ loss. loss ≡ worth scores.now.answer.board +ℤ worth (after scores.now.answer.board square)) }
     ensures none { IsNone result → All (λ m. m.square ≢ square) scores.now.moves.items }
 {
-    match score_at(scores, square) {
-        Some(score) => Some(difference(scores.score(), score)),
+    match scored_at(scores, square) {
+        Some(scored) => Some(difference(scores.score(), scored.score)),
         None => None,
     }
 }
 
-// The score of the listed move to the square.
-fn score_at(scores: &Scores, square: Square) -> Option<i8>
-    ensures legal { IfSome result (λ score. IsLegal scores.now.answer.board square) }
-    ensures score { IfSome result (λ score.
-        score ≡ neg_ℤ (value (score_of scores.now.answer.scoring) (after scores.now.answer.board square))) }
+// The listed move to the square, with its score.
+fn scored_at(scores: &Scores, square: Square) -> Option<ScoredMove>
+    ensures scored { IfSome result (IsScored scores.now.answer.board scores.now.answer.scoring) }
+    ensures square { IfSome result (λ m. m.square ≡ square) }
     ensures none { IsNone result → All (λ m. m.square ≢ square) scores.now.moves.items }
 {
     let moves = scores.moves.as_slice();
     for scored in moves {
         if scored.square == square {
-            return Some(scored.score);
+            return Some(*scored);
         }
     }
     None

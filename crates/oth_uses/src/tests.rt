@@ -1,11 +1,15 @@
 //! Each caller once, on boards whose answers are known.
 
+ghost use Rattle.std.specs.Prelude.{IfSome};
+ghost use Rattle.oth_table.specs.SharedTable.{IsSeatOf};
+
 use crate::{
     Unscored, Unsolved, best_moves, board_after, bounds_about, bounds_in_time, kept_report,
     loss_of, scores_after, solve_both, solve_by_book,
 };
 use oth_rules::{Board, Scoring, Square};
-use oth_table::{SharedTable, TableCells};
+use oth_table::{SharedTable, TableCells, TableSeat};
+use std::alloc::Global;
 use std::test::Fail;
 
 // Row 1 `--OXOOO-`, all other cells O: the mover X has d1.
@@ -47,13 +51,19 @@ fn two_threads_solve_over_one_table(rt: HostRuntime) -> Result<(), Fail> {
     Ok(())
 }
 
+// A, and a table of 64 cells with its first seat.
+fn board_and_table(alloc: Global) -> Option<(Board, SharedTable, TableSeat)>
+    ensures { IfSome result (λ x. IsSeatOf x.1 x.2) }
+{
+    let board = Board::of(A[0], A[1]).ok()?;
+    let (table, seat) = SharedTable::new(alloc, 64, Scoring::Winner).ok()?;
+    Some((board, table, seat))
+}
+
 #[test]
 fn an_engine_asks_a_table(rt: HostRuntime) {
-    let Ok(board) = Board::of(A[0], A[1]) else {
-        panic!(rt; "no board")
-    };
-    let Ok((table, seat)) = SharedTable::new(rt.alloc(), 64, Scoring::Winner) else {
-        panic!(rt; "no table")
+    let Some((board, table, seat)) = board_and_table(rt.alloc()) else {
+        panic!(rt; "no board or no table")
     };
     let mut cells = TableCells::of(&table, seat);
     for alpha in [-52, -50, -52] {
@@ -64,11 +74,8 @@ fn an_engine_asks_a_table(rt: HostRuntime) {
 
 #[test]
 fn an_engine_has_to_move(rt: HostRuntime) {
-    let Ok(board) = Board::of(A[0], A[1]) else {
-        panic!(rt; "no board")
-    };
-    let Ok((table, seat)) = SharedTable::new(rt.alloc(), 64, Scoring::Winner) else {
-        panic!(rt; "no table")
+    let Some((board, table, seat)) = board_and_table(rt.alloc()) else {
+        panic!(rt; "no board or no table")
     };
     let cells = TableCells::of(&table, seat);
     let (cells, early) = bounds_in_time(rt.alloc(), cells, &board, 0, Scoring::Winner);

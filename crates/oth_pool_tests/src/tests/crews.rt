@@ -14,7 +14,7 @@ pub(super) const BOARDS: [[u64; 2]; 3] = [
 ];
 
 // The answer of the board of these discs by one thread that keeps nothing.
-fn answered_alone(words: [u64; 2], scoring: Scoring) -> Option<Answer> {
+pub(super) fn answered_alone(words: [u64; 2], scoring: Scoring) -> Option<Answer> {
     let board = Board::of(words[0], words[1]).ok()?;
     solve_alone(&board, scoring).ok()
 }

@@ -6,8 +6,8 @@ ghost use Rattle.std.specs.Prelude.{◌≡◌, ◌<◌, ℕ, length, slice_index
 ghost use Rattle.oth_pieces.specs.Hands.{AreAllHands, IsHandOf, number_of};
 ghost use Rattle.oth_pieces.specs.Watch.{IsSeatOf};
 
+use super::{A, B, C, board};
 use oth_pieces::{Collector, Floor, FloorSeat, Frontier, Hand, Refusal, Reply, Tasks};
-use oth_rules::samples::board;
 use oth_rules::{Board, Scoring, Square};
 use oth_search::{NoCells, Solved};
 use std::process::Abort;
@@ -15,14 +15,8 @@ use std::test::Fail;
 use std::thread;
 use std::thread::Threads;
 
-const A: [u64; 2] = [8, 0xffff_ffff_ffff_ff74];
-
-const B: [u64; 2] = [0xffff_ffff_ffff_fcfc, 0x0000_0000_0000_0202];
-
 // A board of a game, with 28 empty squares.
 const MANY_ITEMS: [u64; 2] = [0x0408_40c7_c284_0400, 0x0264_3f38_3c48_9200];
-
-const C: [u64; 2] = [0xffff_ffff_ffff_ff3c, 0x42];
 
 // The board with its value.
 fn exactly(board: &Board) -> Solved {

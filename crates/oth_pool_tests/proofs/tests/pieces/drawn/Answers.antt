@@ -1,6 +1,6 @@
 use Rattle.std.proofs.Common.{arith}
 use Rattle.oth_pieces.proofs.Handouts.{one_drew}
-use Rattle.oth_pieces_tests.proofs.tests.drawn.Goals as goal
+use Rattle.oth_pool_tests.proofs.tests.pieces.drawn.Goals as goal
 
 pub returns : goal.returns
 returns c =

@@ -1,6 +1,6 @@
 //! Boards are answered for whoever asks, while other workers solve them.
 
-use crate::tests::{batch, images};
+use super::{batch, images};
 use oth_batch::{Asked, Jobs};
 use oth_rules::Scoring;
 use oth_search::{NoCells, scores_with, solve_alone};

@@ -1,9 +1,10 @@
 //! Moves of a root that one worker settles, and the hints that workers give each other.
 
+use super::board;
+use super::crews::{BOARDS, answered_alone};
 use oth_pieces::{Floor, Frontier};
-use oth_rules::samples::board;
 use oth_rules::{Board, Scoring, Square};
-use oth_search::{Answer, NoCells, order, solve_alone};
+use oth_search::{NoCells, order};
 use oth_walk::{
     HintSeat, Hints, MoveOrder, Open, RootBound, Search, Shape, Sharing, Worker, settle_all,
 };
@@ -11,25 +12,12 @@ use std::process::Abort;
 use std::test::Fail;
 use std::thread::join;
 
-// Boards of games, of 14 empty squares.
-const BOARDS: [[u64; 2]; 3] = [
-    [0x00fc_98c0_a010_0804, 0x0402_673b_5fef_75b8],
-    [0x8080_b1df_a743_2740, 0x4f67_4620_18bc_4082],
-    [0x450b_3b61_676b_5000, 0x18a4_c49c_9884_a2f0],
-];
-
 // Boards of games, of 14 empty squares, where a side must pass after a move of a board of at least 12.
 const PASSING: [[u64; 2]; 3] = [
     [0x0008_c0e1_a1ff_bfbf, 0x00e4_1e1e_5a00_4040],
     [0x8080_a8d6_ea5c_0010, 0x7c6b_5628_15a2_ff00],
     [0xe0e0_f008_0000_1000, 0x081c_0e37_ff7d_2f7f],
 ];
-
-// The answer of the board of these discs by one thread that keeps nothing.
-fn answered_alone(words: [u64; 2], scoring: Scoring) -> Option<Answer> {
-    let board = Board::of(words[0], words[1]).ok()?;
-    solve_alone(&board, scoring).ok()
-}
 
 // One worker that keeps nothing settles each move, and comes to the value.
 fn check_settled<R: AllocGlobal + Abort>(rt: &R, words: [u64; 2]) {

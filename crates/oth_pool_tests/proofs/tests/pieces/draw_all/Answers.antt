@@ -2,7 +2,7 @@ use Rattle.std.proofs.Common.{◌≡◌, List, length, sym, ap, subst, arith}
 use Rattle.oth_pieces.specs.declared.tasks.state.Hand.{Hand}
 use Rattle.oth_pieces.specs.Hands.{AreAllHands}
 use Rattle.oth_pieces.proofs.Handouts.{each_drew, written_back}
-use Rattle.oth_pieces_tests.proofs.tests.draw_all.Goals as goal
+use Rattle.oth_pool_tests.proofs.tests.pieces.draw_all.Goals as goal
 
 pub returns : goal.returns
 returns g c =

@@ -1,6 +1,0 @@
-//! The tests of `oth_walk`, which call what it exports. They stand apart so that `oth_walk` is not proved a second time
-//! for them.
-#![tactic(auto)]
-
-#[cfg(test)]
-mod tests;
