@@ -1,9 +1,9 @@
 -- What the program has done where its status is 0. Its input is known bytes `reader`, of which `reader'` are left; known bytes
 -- `writer` of its output become `writer'`.
 --     HasReported settings reader reader' writer writer'      all input was read, and the report of its lines was written
---     HasObeyed words reader reader' writer writer'      the same, where the words ask for a report; `book-verify` reads no input;
---                                                        `book-add` read it
---         all, and wrote the text of a true book, which extends that of a file by the answers of its lines
+--     HasObeyed words reader reader' writer writer'      the same, where the words ask for a report; `book-verify` read no input, and
+--         told the number of entries of a true book; `book-add` read it all, and wrote the text of a true book, which extends that of
+--         a file by the answers of its lines
 --     AreRefused words      the settings that the words give are refused
 use Rattle.std.specs.Prelude.{◌≡◌, ℕ, List, Option}
 use Rattle.std.specs.Io.KnownBytes.{Appends, Consumes, IsAtEnd}
@@ -14,6 +14,7 @@ use Rattle.oth_run.specs.Reply.{reply}
 use Rattle.oth_run.specs.Report.{report}
 use Rattle.oth_run.specs.Run.{AreLawful}
 use Rattle.oth_main.specs.Addition.{AddsTo}
+use Rattle.oth_main.specs.BookFile.{TellsBook}
 
 pub record HasReported (settings : Settings) (reader reader' writer writer' : Option (List ℕ)) : Type 0 where
   pub input : List ℕ
@@ -23,7 +24,7 @@ pub record HasReported (settings : Settings) (reader reader' writer writer' : Op
 
 abbrev pub HasObeyed : Words → Option (List ℕ) → Option (List ℕ) → Option (List ℕ) → Option (List ℕ) → Type 0
 HasObeyed (Run settings book) reader reader' writer writer' = HasReported settings reader reader' writer writer'
-HasObeyed (Verify name) reader reader' writer writer' = reader' ≡ reader
+HasObeyed (Verify name) reader reader' writer writer' = (reader' ≡ reader) × ((file : List ℕ) × TellsBook file writer writer')
 HasObeyed (Add settings name) reader reader' writer writer' = (file : List ℕ) × AddsTo file reader reader' writer writer'
 
 abbrev pub AreRefused : Words → Type 0
