@@ -5,13 +5,17 @@
 --     IsRefused file      the bytes are refused, those of a true book when out of memory alone
 --     KeepsRefusal file reason      the reason that is kept for words is why the bytes are refused
 --     IsVerdict file status failed      the status of `book_verify`, whose writer has failed or not
-use Rattle.std.specs.Prelude.{◌≡◌, ◌⊎◌, ℕ, Bool, true, List, Option, Some}
+--     TellsBook file writer writer'      the bytes are the text of a true book, and known bytes `writer` became `writer'` by the line
+--         that tells its number of entries
+use Rattle.std.specs.Prelude.{◌≡◌, ◌⊎◌, ◌++◌, ◌∷◌, [], ℕ, Bool, true, List, Option, Some, length}
+use Rattle.std.specs.Io.KnownBytes.{Appends}
 use Rattle.oth_book.specs.Book.{IsTrueBook}
 use Rattle.oth_book.specs.Contents.{Contents, IsText}
 use Rattle.oth_book.specs.Fault.{IsBookFault}
 use Rattle.oth_book.specs.True.{IsWrong}
 use Rattle.oth_book.specs.declared.fault.BookFault.TheVariants as faults
 use Rattle.oth_book.specs.declared.wrong.Wrong.TheVariants as wrongs
+use Rattle.oth_main.specs.Messages.{book_ok}
 use Rattle.oth_main.specs.declared.book_file.BookRefusal.{BookRefusal}
 use Rattle.oth_main.specs.declared.book_file.BookRefusal.TheVariants.{Text, Claim}
 use Rattle.oth_main.specs.declared.reasons.Reason.{Reason}
@@ -44,3 +48,8 @@ pub record KeepsRefusal (file : List ℕ) (reason : Option Reason) : Type 0 wher
 -- 0 of a true book, 1 where the writer has failed, 3 where the file is refused
 abbrev pub IsVerdict : List ℕ → ℕ → Bool → Type 0
 IsVerdict file status failed = ((status ≡ 0) × IsBook file) ⊎ (((status ≡ 1) × (failed ≡ true)) ⊎ ((status ≡ 3) × IsRefused file))
+
+pub record TellsBook (file : List ℕ) (writer writer' : Option (List ℕ)) : Type 0 where
+  pub book : Contents
+  pub of_file : IsBookOf file book
+  pub told : Appends writer writer' (book_ok (length book.entries) ++ 10 ∷ [])

@@ -13,7 +13,8 @@ ghost use Rattle.oth_book.specs.declared.add.AddError.{AddError as AnyRefusal};
 ghost use Rattle.oth_main.specs.Addition.{AddsBytes, AddsLines, AddsTo, AnswersLine, DeviceFails, FindsNoRoom};
 ghost use Rattle.oth_main.specs.Addition.{HasAdded, HasNoPlace, IsAdding, IsAnswered, IsFullFor, IsFullWithin};
 ghost use Rattle.oth_main.specs.Addition.{IsRefusedLine, IsStatus, OfInput, StopsBy, StopsFull, StopsReading};
-ghost use Rattle.oth_main.specs.BookFile.{IsRefused, IsVerdict, KeepsRefusal};
+ghost use Rattle.oth_main.specs.BookFile.{IsRefused, IsVerdict, KeepsRefusal, TellsBook};
+ghost use Rattle.oth_main.specs.Messages.{run_error};
 ghost use Rattle.oth_main.specs.declared.book_commands.Stop.TheVariants.{Run};
 ghost use Rattle.oth_main.specs.declared.reasons.Reason.TheVariants.{Run as RunReason};
 ghost use Rattle.oth_run.specs.Report.{lines_of};
@@ -61,7 +62,9 @@ pub fn book_verify<T: Threads + Sync, W: Sink, E: Sink>(
     errors: &mut Errors<E>,
 ) -> u8
     ensures verdict { IsVerdict file.now result (W.failed writer.new) }
+    ensures told { result ≡ 0 → TellsBook file.now (W.contents writer.old) (W.contents writer.new) }
     ensures reason { result ≡ 3 → KeepsRefusal file.now errors.new.reason }
+    ensures untouched { result ≡ 3 → writer.new ≡ writer.old }
     ensures works { result ≡ 0 → (W.failed writer.new ≡ false) × (W.flushed writer.new ≡ true) }
 {
     match open_book(rt, alloc, file, processors(rt), DEFAULT_CELLS) {
@@ -127,6 +130,8 @@ pub fn book_add<T: Wait + Threads + Sync, R: Source, W: Sink, E: Sink>(
 /// Prints the number of the fault, and gives the status of the program. The reason is kept, for words.
 pub fn print_run_fault<E: Sink>(fault: RunFault, errors: &mut Errors<E>) -> u8
     ensures status { result ≡ status_of fault }
+    ensures printed { E.failed errors.new.sink ≡ false
+        → Appends (E.contents errors.old.sink) (E.contents errors.new.sink) (run_error fault ++ 10 ∷ []) }
     ensures reason { errors.new.reason ≡ Some (RunReason fault) }
     ensures terminal { errors.new.is_terminal ≡ errors.old.is_terminal }
 {

@@ -1,9 +1,11 @@
 //! The book of a file, or why there is none.
 
-ghost use Rattle.std.specs.Prelude.{◌≡◌, Some, IfOk, IfErr};
+ghost use Rattle.std.specs.Prelude.{◌≡◌, ◌≤◌, ◌<◌, ◌+◌, ◌++◌, ◌∷◌, [], Some, IfOk, IfErr, false, length};
+ghost use Rattle.std.specs.Io.KnownBytes.{Appends};
 ghost use Rattle.oth_book.specs.Book.{IsTrueBook};
 ghost use Rattle.oth_book.specs.Contents.{IsText};
 ghost use Rattle.oth_main.specs.BookFile.{IsBook, IsForMemory, IsRefusal};
+ghost use Rattle.oth_main.specs.Messages.{book_refusal, placed};
 ghost use Rattle.oth_main.specs.declared.reasons.Reason.TheVariants.{Book as BookReason};
 
 use crate::message::Message;
@@ -56,18 +58,39 @@ pub fn open_book<T: Threads + Sync>(
 /// Prints why a file is no book: `book error n` or `book wrong n`, then ` at k` where a line or an entry is to blame.
 /// The reason is kept, for words. An output that fails is passed over.
 pub fn print_refusal<E: Sink>(refusal: &BookRefusal, errors: &mut Errors<E>)
+    ensures printed { E.failed errors.new.sink ≡ false
+        → Appends (E.contents errors.old.sink) (E.contents errors.new.sink) (book_refusal refusal.now ++ 10 ∷ []) }
     ensures reason { errors.new.reason ≡ Some (BookReason refusal.now) }
     ensures terminal { errors.new.is_terminal ≡ errors.old.is_terminal }
 {
-    let (message, number, place) = match *refusal {
-        BookRefusal::Text(fault) => (Message::of(b"book error "), fault.number(), fault.line()),
-        BookRefusal::Claim(wrong) => (Message::of(b"book wrong "), wrong.number(), wrong.entry()),
-    };
-    let message = message.number(u64::from(number));
-    let message = match place {
+    line_of(refusal).print(&mut errors.sink);
+    errors.reason = Some(Reason::Book(*refusal));
+}
+
+// The line of the refusal.
+fn line_of(refusal: &BookRefusal) -> Message
+    ensures text { result ≡ book_refusal refusal.now }
+    ensures short { length result < 80 }
+{
+    match *refusal {
+        BookRefusal::Text(fault) => {
+            let message = Message::of(b"book error ").number(u64::from(fault.number()));
+            placed(message, fault.line())
+        }
+        BookRefusal::Claim(wrong) => {
+            let message = Message::of(b"book wrong ").number(u64::from(wrong.number()));
+            placed(message, wrong.entry())
+        }
+    }
+}
+
+// The line with the place that is to blame, where there is one.
+fn placed(message: Message, place: Option<u32>) -> Message
+    ensures text { length message ≤ 50 → result ≡ placed message place }
+    ensures short { length result ≤ length message + 24 }
+{
+    match place {
         Some(place) => message.text(b" at ").number(u64::from(place)),
         None => message,
-    };
-    message.print(&mut errors.sink);
-    errors.reason = Some(Reason::Book(*refusal));
+    }
 }

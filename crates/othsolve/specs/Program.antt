@@ -1,11 +1,13 @@
 -- What the program has done where its status is 0. Its input is known bytes `reader`, of which `reader'` are left; known bytes
 -- `writer` of its output become `writer'`.
 --     HasReported settings reader reader' writer writer'      all input was read, and the report of its lines was written
---     HasObeyed words reader reader' writer writer'      the same, where the words ask for a report; `book-verify` reads no input;
---                                                        `book-add` read it
---         all, and wrote the text of a true book, which extends that of a file by the answers of its lines
+--     HasObeyed words reader reader' writer writer'      the same, where the words ask for a report; `book-verify` read no input, and
+--         told the number of entries of a true book; `book-add` read it all, and wrote the text of a true book, which extends that of
+--         a file by the answers of its lines
 --     AreRefused words      the settings that the words give are refused
-use Rattle.std.specs.Prelude.{◌≡◌, ℕ, List, Option}
+--     TellsFault status errors errors'      what known bytes `errors` of the error output become where a file can't be read: `run error 1`
+--         is told at status 1, `book error 7` at 3
+use Rattle.std.specs.Prelude.{◌≡◌, ◌⊎◌, ◌++◌, ◌∷◌, [], ℕ, List, Option}
 use Rattle.std.specs.Io.KnownBytes.{Appends, Consumes, IsAtEnd}
 use Rattle.oth_words.specs.declared.settings.Settings.{Settings}
 use Rattle.oth_words.specs.declared.settings.Words.{Words}
@@ -14,6 +16,11 @@ use Rattle.oth_run.specs.Reply.{reply}
 use Rattle.oth_run.specs.Report.{report}
 use Rattle.oth_run.specs.Run.{AreLawful}
 use Rattle.oth_main.specs.Addition.{AddsTo}
+use Rattle.oth_book.specs.declared.fault.BookFault.TheVariants.{Memory}
+use Rattle.oth_main.specs.BookFile.{TellsBook}
+use Rattle.oth_main.specs.Messages.{book_refusal, run_error}
+use Rattle.oth_main.specs.declared.book_file.BookRefusal.TheVariants.{Text}
+use Rattle.oth_run.specs.declared.fault.RunFault.TheVariants.{Read}
 
 pub record HasReported (settings : Settings) (reader reader' writer writer' : Option (List ℕ)) : Type 0 where
   pub input : List ℕ
@@ -23,10 +30,14 @@ pub record HasReported (settings : Settings) (reader reader' writer writer' : Op
 
 abbrev pub HasObeyed : Words → Option (List ℕ) → Option (List ℕ) → Option (List ℕ) → Option (List ℕ) → Type 0
 HasObeyed (Run settings book) reader reader' writer writer' = HasReported settings reader reader' writer writer'
-HasObeyed (Verify name) reader reader' writer writer' = reader' ≡ reader
+HasObeyed (Verify name) reader reader' writer writer' = (reader' ≡ reader) × ((file : List ℕ) × TellsBook file writer writer')
 HasObeyed (Add settings name) reader reader' writer writer' = (file : List ℕ) × AddsTo file reader reader' writer writer'
 
 abbrev pub AreRefused : Words → Type 0
 AreRefused (Run settings book) = AreLawful settings → ⊥
 AreRefused (Verify name) = ⊥
 AreRefused (Add settings name) = AreLawful settings → ⊥
+
+abbrev pub TellsFault : ℕ → Option (List ℕ) → Option (List ℕ) → Type 0
+TellsFault status errors errors' = ((status ≡ 1) × Appends errors errors' (run_error Read ++ 10 ∷ []))
+    ⊎ ((status ≡ 3) × Appends errors errors' (book_refusal (Text Memory) ++ 10 ∷ []))

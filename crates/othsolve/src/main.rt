@@ -3,7 +3,7 @@
 
 ghost use Rattle.std.specs.Prelude.{◌≡◌, ◌≤◌, ◌⊎◌, ◌↔◌, IfOk, IfErr, false, true};
 ghost use Rattle.oth_run.specs.Run.{AreLawful};
-ghost use Rattle.othsolve.specs.Program.{AreRefused, HasObeyed, HasReported};
+ghost use Rattle.othsolve.specs.Program.{AreRefused, HasObeyed, HasReported, TellsFault};
 
 use oth_book::{Book, BookFault};
 use oth_main::{
@@ -319,7 +319,9 @@ fn file_of<T: Files + AllocGlobal, E: Sink>(
     name: &str,
     errors: &mut Errors<E>,
 ) -> Result<Vec<u8>, u8>
-    ensures { IfErr result (λ s. (s ≡ 1) ⊎ (s ≡ 3)) }
+    ensures statuses { IfErr result (λ s. (s ≡ 1) ⊎ (s ≡ 3)) }
+    ensures told { IfErr result (λ s. E.failed errors.new.sink ≡ false
+        → TellsFault s (E.contents errors.old.sink) (E.contents errors.new.sink)) }
 {
     match read_file(rt, name) {
         Ok(file) => Ok(file),
