@@ -20,12 +20,11 @@ pub fn parts_of(mut hands: Vec<Hand>) -> Parts
         unreachable!()
     };
     let Hand {
-        number: _,
         owner,
         passes,
         list,
-        ended: _,
         room,
+        ..
     } = last;
     let mut parts = gathered(room, hands);
     parts.owners.push_reserved(owner);
@@ -49,12 +48,10 @@ fn gathered(room: Parts, hands: Vec<Hand>) -> Parts
     } = room;
     for hand in hands {
         let Hand {
-            number: _,
             owner,
             passes,
             list,
-            ended: _,
-            room: _,
+            ..
         } = hand;
         owners.push_reserved(owner);
         piles.push_reserved(passes);
