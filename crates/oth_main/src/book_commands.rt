@@ -1,7 +1,7 @@
 //! The commands of the book.
 
 ghost use Rattle.std.specs.Prelude.{◌≡◌, ◌≢◌, ◌↔◌, ◌≤◌, ◌⊎◌, ◌++◌, ◌∷◌, [], ℕ, List, All, false, true};
-ghost use Rattle.std.specs.Prelude.{IfErr, IfOk, OnErr, OnOk, Some};
+ghost use Rattle.std.specs.Prelude.{IfErr, IfOk, IsFalse, IsTrue, OnErr, OnOk, Some, length};
 ghost use Rattle.std.specs.Io.KnownBytes.{Appends, IsAtEnd};
 ghost use Rattle.oth_rules.specs.Position.{empty_count};
 ghost use Rattle.oth_rules.specs.Symmetry.{canonical};
@@ -14,7 +14,7 @@ ghost use Rattle.oth_main.specs.Addition.{AddsBytes, AddsLines, AddsTo, AnswersL
 ghost use Rattle.oth_main.specs.Addition.{HasAdded, HasNoPlace, IsAdding, IsAnswered, IsFullFor, IsFullWithin};
 ghost use Rattle.oth_main.specs.Addition.{IsRefusedLine, IsStatus, OfInput, StopsBy, StopsFull, StopsReading};
 ghost use Rattle.oth_main.specs.BookFile.{IsRefused, IsVerdict, KeepsRefusal, TellsBook};
-ghost use Rattle.oth_main.specs.Messages.{run_error};
+ghost use Rattle.oth_main.specs.Messages.{book_ok, run_error};
 ghost use Rattle.oth_main.specs.declared.book_commands.Stop.TheVariants.{Run};
 ghost use Rattle.oth_main.specs.declared.reasons.Reason.TheVariants.{Run as RunReason};
 ghost use Rattle.oth_run.specs.Report.{lines_of};
@@ -69,8 +69,7 @@ pub fn book_verify<T: Threads + Sync, W: Sink, E: Sink>(
 {
     match open_book(rt, alloc, file, processors(rt), DEFAULT_CELLS) {
         Ok(book) => {
-            let ok = Message::of(b"book ok ").number(book.len() as u64);
-            if !writer.failed() && ok.write_to(writer) && writer.flush().is_ok() {
+            if !writer.failed() && tell_book(&book, writer) && writer.flush().is_ok() {
                 STATUS_DONE
             } else {
                 print_run_fault(RunFault::Write, errors)
@@ -81,6 +80,17 @@ pub fn book_verify<T: Threads + Sync, W: Sink, E: Sink>(
             REFUSED
         }
     }
+}
+
+// Writes the number of the book's entries. Whether that was done.
+fn tell_book<W: Sink>(book: &Book, writer: &mut W) -> bool
+    ensures told { IsTrue result
+        → Appends (W.contents writer.old) (W.contents writer.new) (book_ok (length book.now.entries) ++ 10 ∷ []) }
+    ensures works { IsTrue result → W.failed writer.new ≡ W.failed writer.old }
+    ensures fails { IsFalse result → W.failed writer.new ≡ true }
+{
+    let ok = Message::of(b"book ok ").number(book.len() as u64);
+    ok.write_to(writer)
 }
 
 /// Solves each board line under the book's scoring, adds the answers to the book of the file, and writes the new book
