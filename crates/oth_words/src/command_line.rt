@@ -215,7 +215,7 @@ fn book_option<'a>(alloc: Global) -> Arg<'a>
     ensures local { result.global ≡ false }
 {
     option(alloc, "book", "FILE").help(
-        "The file of a book that is asked first, if it is by this scoring; each entry is solved anew beforehand",
+        "A book to consult first, if it is under this scoring; every entry is verified before the first line is read",
     )
 }
 
@@ -313,7 +313,7 @@ fn add_command<'a>(alloc: Global) -> Result<App<'a>, AllocError>
 {
     App::new(alloc, "book-add")
         .about(
-            "Writes the book of FILE with the answers to the board lines of standard input added",
+            "Solves the boards on standard input and writes the book of FILE with their answers added",
         )
         .override_usage("othsolve book-add [OPTIONS] FILE < BOARDS")
         .after_help(ADD_NOTES)
