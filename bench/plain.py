@@ -30,9 +30,9 @@ FROM_SHIM = r"std::(?:(?:alloc|thread)::|(?=thread;))"
 COUNTS = [
     ("oth_search/deep.rs", " = recalled(&node.board, cells, scoring);\n",
      " = recalled(&node.board, cells, scoring);\n    crate::counting::count(&node.board);\n"),
-    ("oth_walk/glance.rs", "    let squares = worker.order(&shared.root);\n    let mut best = match",
+    ("oth_search/guess.rs", "    let mut bracket = Bracket::from(likely);\n",
      "    let _guess = crate::counting::For::part(crate::counting::Part::Guess);\n"
-     "    let squares = worker.order(&shared.root);\n    let mut best = match"),
+     "    let mut bracket = Bracket::from(likely);\n"),
 ]
 
 

@@ -3,7 +3,7 @@
 use oth_pieces::Frontier;
 use oth_rules::{Board, Scoring, Square};
 use oth_search::{Cells, Observer, Solved, known_below};
-use oth_walk::{Gate, Search, is_settled};
+use oth_walk::{Gate, Search};
 
 // The items of a frontier by the root's moves, of which some were announced.
 #[derive(Drop)]
@@ -53,7 +53,7 @@ impl<'s> Items<'s> {
         let root = known_below(self.root, 1, replies, self.scoring);
         let mut settled = 0u64;
         for reply in replies {
-            if is_settled(reply, root.interval.lower) {
+            if reply.is_settled(-root.interval.lower) {
                 settled = settled.saturating_add(1);
             }
         }

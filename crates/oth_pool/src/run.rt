@@ -186,7 +186,7 @@ fn workers_of<'w, 't, R, G>(
         let root_bound = RootBound::of(links.floor, own);
         let hints = HintSeat::of(links.hints);
         let cells = WorkerCells::of(alloc, shared.root.empties(), shared.shape.sharing, table);
-        workers.push_reserved(Worker::of(alloc, cells, root_bound, hints));
+        workers.push_reserved(Worker::of(shared, alloc, cells, root_bound, hints));
     }
     Some(workers)
 }
@@ -262,7 +262,7 @@ fn replies_of<'w, C>(jobs: &[Job<'w, C>], room: Vec<Reply>) -> Vec<Reply>
 fn found_by_workers<'w, C>(alloc: Global, jobs: &[Job<'w, C>]) -> Vec<Solved> {
     let mut found = Vec::new(alloc);
     for job in jobs {
-        let _ = found.extend_from_slice(job.worker.found.as_slice());
+        let _ = found.extend_from_slice(job.worker.replies.as_slice());
     }
     found
 }

@@ -22,7 +22,7 @@ use oth_search::{
 use oth_table::{SharedTable, is_size};
 use oth_walk::{
     Gate, HintSeat, RootBound, RootMove, Search, Sharing, TableAccess, Worker, WorkerCells,
-    is_settled, search_item,
+    search_item,
 };
 use std::alloc::Global;
 use std::thread::Threads;
@@ -252,13 +252,14 @@ fn answer_together<'t, R: Threads + Sync, G: Gate>(
     let (floor, mut seat) = raised_floor(alloc, by_book)?;
     let (gathered, found) = run(means, shared, &floor, &mut seat, access);
     let cells = WorkerCells::of(alloc, shared.root.empties(), shared.shape.sharing, access);
-    let mut worker = Worker::of(alloc, cells, RootBound::of(&floor, seat), HintSeat::none());
-    worker.found = found;
+    let bound = RootBound::of(&floor, seat);
+    let mut worker = Worker::of(shared, alloc, cells, bound, HintSeat::none());
+    take_in(shared, found.as_slice(), &mut worker);
     let replies = replies_of(means, shared, &gathered, &mut worker);
-    let children = children_of(alloc, shared, replies.as_slice(), &mut worker);
+    take_in_items(shared, replies.as_slice(), &mut worker);
     let root = by_book.joined(&worker.root());
-    let mut cells = worker.into_cells();
-    Some(solve_moves(root, children.as_slice(), &mut cells, &mut Unobserved))
+    let (mut cells, known) = worker.into_parts();
+    Some(solve_moves(root, known.as_slice(), &mut cells, &mut Unobserved))
 }
 
 // A floor of the board that is as high as what the book tells of it, and its first seat; none where there is no memory.
@@ -292,39 +293,23 @@ fn replies_of<R, G: Gate, C: Cells>(
     replies
 }
 
-// What is known of the boards after the root's moves, by what workers found of them, and by the replies where that
-// leaves something open. The floor is raised by each.
-fn children_of<C: Cells>(
-    alloc: Global,
-    shared: &Search,
-    replies: &[Solved],
-    worker: &mut Worker<C>,
-) -> Vec<Solved> {
-    let mut children = room_for(alloc, 64);
-    for square in shared.squares {
-        if let Some(root_move) = RootMove::of(&*shared, *square) {
-            let child = root_move.child;
-            let by_workers = joined_bounds(child, worker.found.as_slice(), shared.scoring);
-            let bounds = if is_settled(&by_workers, worker.floor()) {
-                by_workers
-            } else {
-                by_workers.joined(&known_below(child, 1, replies, shared.scoring))
-            };
-            worker.raise_by(&root_move, &bounds);
-            let _ = children.push(bounds);
+// Lets the caller's worker know what the others found of the boards after the root's moves. The floor rises by each.
+fn take_in<C: Cells>(shared: &Search, found: &[Solved], worker: &mut Worker<C>) {
+    for child in found {
+        if let Some(root_move) = RootMove::to(&*shared, &child.board) {
+            worker.keep(&root_move, child);
         }
     }
-    children
 }
 
-// What all of these tell of the board.
-fn joined_bounds(board: Board, found: &[Solved], scoring: Scoring) -> Solved
-    ensures board { result.board ≡ board }
-    ensures scoring { result.scoring ≡ scoring }
-{
-    let mut joined = Solved::unknown(board, scoring);
-    for solved in found {
-        joined = joined.joined(solved);
+// The same of the items below them, where what is known of a board leaves something open.
+fn take_in_items<C: Cells>(shared: &Search, items: &[Solved], worker: &mut Worker<C>) {
+    for square in shared.squares {
+        if let Some(root_move) = RootMove::of(&*shared, *square) {
+            if !worker.is_settled(*square) {
+                let known = known_below(root_move.child, 1, items, shared.scoring);
+                worker.keep(&root_move, &known);
+            }
+        }
     }
-    joined
 }

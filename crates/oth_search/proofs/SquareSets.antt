@@ -69,6 +69,13 @@ Takes-without set square rest h w = record {
   split = λ s r. ⊎_elim inl (λ other. inr (record { on_board = r.on_board; member = w.others s r.on_board other ∙ r.member })) (cases_eq s square);
 }
 
+-- what is left of some squares is among what is left of more, if one of them is taken from both
+pub still-among : (left rest left' rest' square : ℕ) → ((s : ℕ) → In rest s → In left s) → In rest square → Without left square left' → Without rest square rest' → (s : ℕ) → In rest' s → In left' s
+still-among left rest left' rest' square among h wl wr s r = ⊎_elim
+    (λ e. absurd (false≢true (sym wr.taken ∙ ap (has rest') (sym e) ∙ r.member)))
+    (λ other. other)
+    ((Takes-without left square left' (among square h) wl).split s (among s ((Takes-without rest square rest' h wr).kept s r)))
+
 -- the squares of a list from a place on
 abbrev pub FromPlace : List ℕ → ℕ → ℕ → Type 0
 FromPlace xs i s = (k : ℕ) × (i ≤ k) × (k < length xs) × (get_or xs k s ≡ s)

@@ -1,4 +1,6 @@
-//! A guess of the value of a root by a search of few moves, to start from. No answer depends on it.
+//! A guess of the value of a root by a selective search, a search of few moves, to start from. One worker makes it
+//! alone, several make it together: each takes boards that no other one is at, and is told what the others saw of a
+//! board. No answer depends on it.
 ghost use Rattle.std.specs.Prelude.{◌≡◌, ◌<◌, ◌≤◌, ◌≤ℤ◌, pos, length};
 ghost use Rattle.std.specs.List.{All};
 ghost use Rattle.oth_rules.specs.Laws.{IsScore};
@@ -12,87 +14,49 @@ use crate::children::{children, looked_at, next_child};
 use crate::deep::nws_node;
 use crate::interval::{Interval, greater, lesser};
 use crate::node::Node;
+use crate::observer::Observer;
 use crate::solved::Solved;
 use crate::squares::without;
 use crate::tuning::{
     FEWEST_EMPTIES_GUESS_LOOKED, GUESS_ROUNDS, MANY_PLIES, MOST_EMPTIES_GUESS_LOOKED,
-    MOST_EMPTIES_IN_FULL, MOST_RANKED, WIDTH, WIDTH_AT_FIRST,
+    MOST_EMPTIES_IN_FULL, MOST_RANKED, TURNS, WIDTH, WIDTH_AT_FIRST,
 };
 use arrayvec::ArrayVec;
 use oth_rules::{Board, Scoring};
 
-// No board has more moves.
-const ALL_MOVES: usize = 64;
-
-// How much a glance sees: so many plies, and so many moves of the first board.
+// What the boards after a root's moves seem to have at least, in the order in which they are asked.
 #[derive(Clone, Copy)]
-struct Sight {
-    plies: u8,
-    width: usize,
-}
-
-impl Sight {
-    // Of a board after a move of the root: all replies are tried.
-    fn after_move(board: &Board) -> Sight {
-        Sight {
-            plies: plies_from(board),
-            width: ALL_MOVES,
-        }
-    }
-
-    // Of a board after a reply.
-    fn after_reply(board: &Board) -> Sight {
-        let plies = plies_from(board);
-        Sight {
-            plies,
-            width: width_after_reply(plies),
-        }
-    }
-
-    // A ply on.
-    fn below(self) -> Sight
-        requires { 0 < self.plies }
-        ensures { result.plies < self.plies }
-    {
-        let plies = self.plies - 1;
-        Sight {
-            plies,
-            width: if self.width == ALL_MOVES {
-                width_after_reply(plies)
-            } else {
-                WIDTH
-            },
-        }
-    }
-}
-
-// The plies before a board is searched in full.
-fn plies_from(board: &Board) -> u8 {
-    board.empties().saturating_sub(MOST_EMPTIES_IN_FULL)
-}
-
-// How many moves of a board after a reply are tried, where so many plies follow.
-fn width_after_reply(plies: u8) -> usize {
-    if plies >= MANY_PLIES {
-        WIDTH_AT_FIRST
-    } else {
-        WIDTH
-    }
+struct Seen {
+    root: Board,
+    bounds: [Interval; 64],
 }
 
 /// The least value that a reply seems to have, which is first asked for this one. The reply that seems to have it comes
 /// to the front.
-pub fn guess<C: Cells>(replies: &mut [Solved], likely: i8, cells: &mut C) -> i8
+pub fn guess<C: Cells, O: Observer<C>>(
+    root: &Board,
+    replies: &mut [Solved],
+    likely: i8,
+    cells: &mut C,
+    observer: &mut O,
+) -> i8
     requires few { length replies.old ≤ 64 }
     requires likely { IsThreshold likely }
     ensures score { IsScore result }
+    ensures length { length replies.new ≡ length replies.old }
     ensures fixed { C.fixed cells.new ≡ C.fixed cells.old }
 {
     let mut bracket = Bracket::from(likely);
-    let mut seen = [Interval::all(); 64];
+    let mut seen = Seen {
+        root: *root,
+        bounds: [Interval::all(); 64],
+    };
     for _ in 0..GUESS_ROUNDS {
-        let found = least_seen(replies, &mut seen, bracket.at, cells);
-        bracket = if found <= bracket.at {
+        let at = bracket.at;
+        let found = least_seen(replies, &mut seen, at, cells, observer);
+        let is_reached = found <= at;
+        observer.tell_seen(root, -at - 1, is_reached);
+        bracket = if is_reached {
             bracket.at_most(found)
         } else {
             bracket.at_least(found)
@@ -104,46 +68,236 @@ pub fn guess<C: Cells>(replies: &mut [Solved], likely: i8, cells: &mut C) -> i8
     bracket.most()
 }
 
-// A value of at most `at` that a reply seems to have, which comes to the front, or else the least of them. `seen` keeps
-// what they seem to have at least.
-fn least_seen<C: Cells>(
+// A value of at most `at` that a reply seems to have, which comes to the front, or else the least of them. At first a
+// reply that another worker is at is left to it, but for the one in front.
+fn least_seen<C: Cells, O: Observer<C>>(
     replies: &mut [Solved],
-    seen: &mut [Interval; 64],
+    seen: &mut Seen,
     at: i8,
     cells: &mut C,
+    observer: &mut O,
 ) -> i8
     requires few { length replies.old ≤ 64 }
     requires threshold { IsThreshold at }
     ensures score { IsScore result }
+    ensures length { length replies.new ≡ length replies.old }
     ensures fixed { C.fixed cells.new ≡ C.fixed cells.old }
 {
+    let mut asked = [false; 64];
     let mut least = 64;
-    for place in 0..replies.len() {
-        if seen[place].lower <= at {
-            let found = glance_at(&replies[place], at, cells);
+    for turn in 0..TURNS {
+        for place in 0..replies.len() {
+            let reply = replies[place];
+            let is_left = turn == 0 && place > 0 && observer.is_left(&reply.board);
+            if asked[place] || is_left {
+                continue;
+            }
+            asked[place] = true;
+            let found = least_of(&reply, seen.bounds[place], at, cells, observer);
             if found <= at {
                 replies.swap(0, place);
-                seen.swap(0, place);
+                seen.bounds.swap(0, place);
                 return found;
             }
-            seen[place] = Interval {
+            seen.bounds[place] = Interval {
                 lower: found,
                 upper: 64,
             };
+            least = lesser(least, found);
+            if let Some(is_reached) = observer.seen(&seen.root, -at - 1) {
+                return told(replies, at, is_reached, observer);
+            }
         }
-        least = lesser(least, seen[place].lower);
     }
     least
 }
 
-// The value that a reply seems to have: a bound on its side of `alpha`.
-fn glance_at<C: Cells>(reply: &Solved, alpha: i8, cells: &mut C) -> i8
+// The value that a reply seems to have, which seemed to lie between these bounds: it is only looked at if that may be
+// at most `at`.
+fn least_of<C: Cells, O: Observer<C>>(
+    reply: &Solved,
+    seen: Interval,
+    at: i8,
+    cells: &mut C,
+    observer: &mut O,
+) -> i8
+    requires { IsThreshold at }
+    ensures score { IsScore result }
+    ensures fixed { C.fixed cells.new ≡ C.fixed cells.old }
+{
+    if seen.lower > at {
+        return seen.lower;
+    }
+    glance_after_move(reply, at, cells, observer)
+}
+
+// What another worker has told of the root: whether a reply seems to have at most `at`. That one comes to the front.
+fn told<C: Cells, O: Observer<C>>(
+    replies: &mut [Solved],
+    at: i8,
+    is_reached: bool,
+    observer: &mut O,
+) -> i8
+    requires { IsThreshold at }
+    ensures score { IsScore result }
+    ensures length { length replies.new ≡ length replies.old }
+{
+    if !is_reached {
+        return at + 1;
+    }
+    for place in 0..replies.len() {
+        let board = replies[place].board;
+        if observer.seen(&board, at) == Some(false) {
+            replies.swap(0, place);
+            return at;
+        }
+    }
+    at
+}
+
+// The value that the board after a root's move seems to have: a bound on its side of `alpha`.
+fn glance_after_move<C: Cells, O: Observer<C>>(
+    reply: &Solved,
+    alpha: i8,
+    cells: &mut C,
+    observer: &mut O,
+) -> i8
     requires { IsThreshold alpha }
     ensures score { IsScore result }
     ensures fixed { C.fixed cells.new ≡ C.fixed cells.old }
 {
-    let sight = Sight::after_move(&reply.board);
-    glance(Node::of(reply.board), alpha, sight, cells, reply.scoring)
+    let board = reply.board;
+    if let Some(is_above) = observer.seen(&board, alpha) {
+        return beside(alpha, is_above);
+    }
+    observer.begin(&board);
+    let found = glance_all(&board, alpha, cells, observer, reply.scoring);
+    observer.tell_seen(&board, alpha, found > alpha);
+    observer.end(&board);
+    found
+}
+
+// The value that is told where a value seems to be above `alpha` or not.
+fn beside(alpha: i8, is_above: bool) -> i8
+    requires { IsThreshold alpha }
+    ensures { IsScore result }
+{
+    if is_above { alpha + 1 } else { alpha }
+}
+
+// The same of the board by all its moves, or those after a forced pass.
+fn glance_all<C: Cells, O: Observer<C>>(
+    board: &Board,
+    alpha: i8,
+    cells: &mut C,
+    observer: &mut O,
+    scoring: Scoring,
+) -> i8
+    requires { IsThreshold alpha }
+    ensures score { IsScore result }
+    ensures fixed { C.fixed cells.new ≡ C.fixed cells.old }
+{
+    let node = Node::of(*board);
+    if node.moves != 0 {
+        return glance_at_all_moves(node, alpha, cells, observer, scoring);
+    }
+    let passed = Node::of(board.pass());
+    if passed.moves != 0 {
+        return -glance_at_all_moves(passed, -alpha - 1, cells, observer, scoring);
+    }
+    board.final_score(scoring)
+}
+
+// The same of a board whose mover has a move. At first a board that another worker is at is left to it.
+fn glance_at_all_moves<C: Cells, O: Observer<C>>(
+    node: Node,
+    alpha: i8,
+    cells: &mut C,
+    observer: &mut O,
+    scoring: Scoring,
+) -> i8
+    requires { IsThreshold alpha }
+    ensures score { IsScore result }
+    ensures fixed { C.fixed cells.new ≡ C.fixed cells.old }
+{
+    let ranked = ranked(&node);
+    let mut best = -64;
+    let mut left = node.moves;
+    for turn in 0..TURNS {
+        let mut rest = left;
+        while rest != 0 {
+            let child = next_child(&node.board, ranked.as_slice(), rest);
+            rest = without(rest, child.square);
+            if turn == 0 && observer.is_left(&child.board) {
+                continue;
+            }
+            left = without(left, child.square);
+            let reply = -glance_after_reply(child.board, -alpha - 1, cells, observer, scoring);
+            if reply > alpha {
+                return reply;
+            }
+            best = greater(best, reply);
+            if let Some(is_above) = observer.seen(&node.board, alpha) {
+                return beside(alpha, is_above);
+            }
+        }
+    }
+    best
+}
+
+// The value that the board after a reply to a root's move seems to have: a bound on its side of `alpha`.
+fn glance_after_reply<C: Cells, O: Observer<C>>(
+    board: Board,
+    alpha: i8,
+    cells: &mut C,
+    observer: &mut O,
+    scoring: Scoring,
+) -> i8
+    requires { IsThreshold alpha }
+    ensures score { IsScore result }
+    ensures fixed { C.fixed cells.new ≡ C.fixed cells.old }
+{
+    if let Some(is_above) = observer.seen(&board, alpha) {
+        return beside(alpha, is_above);
+    }
+    observer.begin(&board);
+    let found = seeming_value(board, alpha, cells, scoring);
+    observer.tell_seen(&board, alpha, found > alpha);
+    observer.end(&board);
+    found
+}
+
+// How much a glance sees: so many plies, and so many moves of the first board.
+#[derive(Clone, Copy)]
+struct Sight {
+    plies: u8,
+    width: usize,
+}
+
+impl Sight {
+    // Of a board after a reply: so many plies that boards of few empty squares are searched in full.
+    fn after_reply(board: &Board) -> Sight {
+        let plies = board.empties().saturating_sub(MOST_EMPTIES_IN_FULL);
+        Sight {
+            plies,
+            width: if plies >= MANY_PLIES {
+                WIDTH_AT_FIRST
+            } else {
+                WIDTH
+            },
+        }
+    }
+
+    // A ply on.
+    fn below(self) -> Sight
+        requires { 0 < self.plies }
+        ensures { result.plies < self.plies }
+    {
+        Sight {
+            plies: self.plies - 1,
+            width: WIDTH,
+        }
+    }
 }
 
 /// The value that the board after a reply to a root's move seems to have, by a search of few moves: a bound on its side

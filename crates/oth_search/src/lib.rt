@@ -42,7 +42,6 @@ mod valuing;
 mod window;
 
 pub use answer::Answer;
-pub use bracket::Bracket;
 pub use cells::{Cells, NoCells};
 pub use combining::{known_below, known_of};
 pub use company::Company;
@@ -59,12 +58,11 @@ pub use null_window::NullWindow;
 pub use observer::{Observer, Unobserved};
 pub use ordering::order;
 pub use pace::Pace;
-pub use root::{guessed_score, settle_moves};
+pub use root::{Quest, first_threshold, lead, replies_to, settle_at, settle_moves};
 pub use scores::{ScoredMove, Scores, answer_by, scores_with};
 pub use searching::search;
 pub use solved::{NotChild, Solved};
 pub use solving::{
     MOST_EMPTIES, TooManyEmpties, before_pass, ended, solve_alone, solve_moves, solve_with,
 };
-pub use tuning::GUESS_ROUNDS;
 pub use valuing::value_of;

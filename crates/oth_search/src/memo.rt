@@ -84,7 +84,8 @@ fn place(board: &Board, last: usize) -> usize
 /// the cells.
 #[derive(Drop)]
 pub struct MemoCells<C> {
-    cells: C,
+    /// What all other boards are looked up in.
+    pub cells: C,
     memories: Memories,
 }
 

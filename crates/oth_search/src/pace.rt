@@ -1,7 +1,8 @@
 //! How far beyond what is known of a value a search for it asks next.
 ghost use Rattle.std.specs.Prelude.{pos, ◌≤ℤ◌, ◌<ℤ◌};
+ghost use Rattle.oth_search.specs.Interval.{IsThreshold};
 
-use crate::interval::{Interval, greater};
+use crate::interval::{Interval, greater, lesser};
 use crate::tuning::WIDEST_STEP;
 
 /// The step from a bound of a value to the threshold that is asked next: 1, 3, 7 and so on, up to 63 discs.
@@ -33,7 +34,23 @@ impl Pace {
     pub fn below(self, bounds: Interval) -> i8
         ensures low { bounds.lower ≤ℤ result }
         ensures high { bounds.lower <ℤ bounds.upper → result <ℤ bounds.upper }
+        ensures most { result ≤ℤ bounds.upper }
     {
         greater(bounds.lower, bounds.upper - self.step)
+    }
+
+    /// The same, or where nothing is known to be reached the start, or a step above the lower bound where that is
+    /// higher.
+    pub fn onward(self, bounds: Interval, start: i8) -> i8
+        requires { IsThreshold start }
+        ensures { IsThreshold result }
+    {
+        if bounds.upper < 64 {
+            self.below(bounds)
+        } else if bounds.lower <= start {
+            start
+        } else {
+            lesser(63, bounds.lower + self.step)
+        }
     }
 }

@@ -1,6 +1,11 @@
-//! What a search finds of the boards after the moves of a root, so far that the best moves are told from the rest.
-ghost use Rattle.std.specs.Prelude.{◌≡◌, ◌<◌, ◌≤◌, ◌≤ℤ◌, pos, length, IfSome};
+//! What a search finds of the boards after the moves of a root, so far that the best moves are told from the rest. The
+//! replies are asked for a first guess until one has it; that one is searched to its value by null windows ever further
+//! below what is known of it, as in MTD(f) (Plaat, Schaeffer, Pijls and de Bruin, Best-first fixed-depth minimax
+//! algorithms, 1996); each other one is asked whether it is worse, and takes its place where it is better. One worker
+//! and several search by these functions: what workers tell each other is the observer's.
+ghost use Rattle.std.specs.Prelude.{◌≡◌, ◌<◌, ◌≤◌, ◌≤ℤ◌, ◌<ℤ◌, pos, negsuc, length};
 ghost use Rattle.oth_rules.specs.Laws.{IsScore};
+ghost use Rattle.oth_search.specs.Interval.{IsThreshold};
 
 use crate::cells::Cells;
 use crate::combining::known_of;
@@ -10,23 +15,35 @@ use crate::observer::Observer;
 use crate::ordering::order;
 use crate::pace::Pace;
 use crate::solved::Solved;
-use crate::tuning::{FEWEST_EMPTIES_GUESSED, START_ROUNDS};
+use crate::tuning::{FEWEST_EMPTIES_GUESSED, LEAD_ROUNDS, MOST_IN_VAIN};
 use arrayvec::ArrayVec;
-use oth_rules::{Board, Scoring};
+use oth_rules::{Board, Scoring, Square};
 
 // Each question of a value leaves fewer of the 129 scores.
 const MOST_QUESTIONS: u8 = 128;
 
 /// What is asked of the boards after a root's moves.
 #[derive(Clone, Copy)]
-pub(crate) struct Quest {
+pub struct Quest {
     /// The value that they are first asked for.
     pub start: i8,
     /// A value that one of them is known to have at most.
     pub limit: i8,
     /// Whether each that is as good as the best is told from the rest: without it the best value alone is asked for.
     pub tells_ties: bool,
-    ghost range: { IsScore start × IsScore limit },
+    pub ghost range: { IsThreshold start × IsScore limit },
+}
+
+impl Quest {
+    // Above this value a reply is settled, where one is known to have at most the best: a reply that has it itself may
+    // be wanted or not.
+    fn bar(self, best: i8) -> i8
+        requires { IsScore best }
+        ensures low { negsuc 64 ≤ℤ result }
+        ensures high { result ≤ℤ pos 64 }
+    {
+        if self.tells_ties { best } else { best - 1 }
+    }
 }
 
 /// The boards after the root's moves, each with bounds of its value. One with the best score is searched to its value,
@@ -42,10 +59,9 @@ pub fn settle_moves<C: Cells, O: Observer<C>>(
     ensures fixed { C.fixed cells.new ≡ C.fixed cells.old }
 {
     let mut replies = replies_of(root, known);
-    let limit = -root.interval.lower;
     let quest = Quest {
-        start: start(replies.as_mut_slice(), limit, root.board.empties(), cells),
-        limit,
+        start: first_threshold(root, replies.as_mut_slice(), cells, observer),
+        limit: -root.interval.lower,
         tells_ties: true,
     };
     settle(replies.as_mut_slice(), quest, cells, observer);
@@ -54,27 +70,47 @@ pub fn settle_moves<C: Cells, O: Observer<C>>(
 
 /// The boards after the root's moves, in their order, with what is known of each.
 pub(crate) fn replies_of(root: &Solved, known: &[Solved]) -> ArrayVec<Solved, 64> {
-    let mut replies = ArrayVec::new();
     let squares = order(&root.board);
-    for square in squares.as_slice() {
-        if let Some(child) = root.board.play(*square) {
-            replies.push(known_of(child, known, root.scoring));
+    replies_to(&root.board, squares.as_slice(), known, root.scoring)
+}
+
+/// The boards after these moves of the root, as far as they are legal, with what is known of each.
+pub fn replies_to(
+    root: &Board,
+    squares: &[Square],
+    known: &[Solved],
+    scoring: Scoring,
+) -> ArrayVec<Solved, 64> {
+    let mut replies = ArrayVec::new();
+    for square in squares {
+        if let Some(child) = root.play(*square) {
+            let _ = replies.try_push(known_of(child, known, scoring));
         }
     }
     replies
 }
 
-/// The score that the root seems to have, by a search of few moves where many squares are empty. No answer depends on
-/// it.
-pub fn guessed_score<C: Cells>(root: &Board, cells: &mut C, scoring: Scoring) -> i8
-    ensures score { IsScore result }
+/// The value that a reply is first asked for: what is known to be reached, or else a guess where many squares are
+/// empty, of which the observer hears nothing but what guesses tell each other. No answer depends on it.
+pub fn first_threshold<C: Cells, O: Observer<C>>(
+    root: &Solved,
+    replies: &mut [Solved],
+    cells: &mut C,
+    observer: &mut O,
+) -> i8
+    requires few { length replies.old ≤ 64 }
+    ensures threshold { IsThreshold result }
+    ensures length { length replies.new ≡ length replies.old }
     ensures fixed { C.fixed cells.new ≡ C.fixed cells.old }
 {
-    if root.empties() < FEWEST_EMPTIES_GUESSED {
+    let least = lesser(-root.interval.lower, least_upper(replies));
+    if least < 64 {
+        return least;
+    }
+    if root.board.empties() < FEWEST_EMPTIES_GUESSED {
         return 0;
     }
-    let mut replies = replies_of(&Solved::unknown(*root, scoring), &[]);
-    -guess(replies.as_mut_slice(), 0, cells)
+    lesser(63, guess(&root.board, replies, 0, cells, observer))
 }
 
 /// Narrows what is known of the replies until it answers what is asked.
@@ -84,100 +120,181 @@ pub(crate) fn settle<C: Cells, O: Observer<C>>(
     cells: &mut C,
     observer: &mut O,
 )
-    requires few { length replies.old ≤ 64 }
     ensures fixed { C.fixed cells.new ≡ C.fixed cells.old }
 {
-    let mut leader = leader(replies, quest, cells, observer);
-    for _ in 0..replies.len() {
-        let Some(place) = leader else {
-            return;
-        };
-        if observer.is_over(cells) {
-            return;
-        }
-        let value = exact_at(replies, place, cells, observer);
-        leader = better(replies, value, quest.tells_ties, cells, observer);
+    lead(replies, quest, cells, observer);
+    let leader = leader(replies);
+    settle_at(replies, leader, quest, cells, observer);
+    for place in 0..replies.len() {
+        settle_at(replies, place, quest, cells, observer);
     }
 }
 
-// The value of the reply at this place.
-fn exact_at<C: Cells, O: Observer<C>>(
-    replies: &mut [Solved],
-    place: usize,
-    cells: &mut C,
-    observer: &mut O,
-) -> i8
-    requires within { place < length replies.old }
-    ensures score { IsScore result }
-    ensures length { length replies.new ≡ length replies.old }
-    ensures fixed { C.fixed cells.new ≡ C.fixed cells.old }
-{
-    let known = replies[place];
-    let Interval { lower, upper } = known.interval;
-    if lower == upper {
-        return upper;
-    }
-    observer.before(&known.board);
-    let exact = exact(&known, cells, observer);
-    let value = exact.interval.upper;
-    replies[place] = exact;
-    observer.after(&known.board, &*replies);
-    value
-}
-
-/// The value that a reply is first asked for: what is known to be reached, or else a guess.
-pub(crate) fn start<C: Cells>(replies: &mut [Solved], limit: i8, empties: u8, cells: &mut C) -> i8
-    requires few { length replies.old ≤ 64 }
-    requires limit { IsScore limit }
-    ensures score { IsScore result }
-    ensures fixed { C.fixed cells.new ≡ C.fixed cells.old }
-{
-    let mut least = limit;
-    for reply in replies.iter() {
-        least = lesser(least, reply.interval.upper);
-    }
-    if least < 64 {
-        return least;
-    }
-    if empties < FEWEST_EMPTIES_GUESSED {
-        return 0;
-    }
-    guess(replies, 0, cells)
-}
-
-// The place of a reply with at most the least value that is found to be reached, from the start up to the limit.
-fn leader<C: Cells, O: Observer<C>>(
+/// Asks the replies for the value that they are first asked for, until some value is known to be reached. Where none
+/// has so little they are asked for more: the value that was asked for last.
+pub fn lead<C: Cells, O: Observer<C>>(
     replies: &mut [Solved],
     quest: Quest,
     cells: &mut C,
     observer: &mut O,
-) -> Option<usize>
-    ensures within { IfSome result (λ place. place < length replies.new) }
+) -> i8
+    ensures threshold { IsThreshold result }
+    ensures length { length replies.new ≡ length replies.old }
     ensures fixed { C.fixed cells.new ≡ C.fixed cells.old }
 {
-    let mut most = quest.start;
+    let mut start = quest.start;
     let mut pace = Pace::new();
-    for _ in 0..START_ROUNDS {
-        let found = reaching(replies, most, cells, observer);
-        if found.is_some() || observer.is_over(cells) {
-            return found;
+    for _ in 0..LEAD_ROUNDS {
+        if ask_all(replies, start, quest.limit, cells, observer) {
+            return start;
         }
-        most = lowered(least_lower(replies), pace.step - 1, quest.limit);
+        start = raised(least_lower(replies), pace.step - 1);
         pace = pace.after(true);
     }
-    reaching(replies, quest.limit, cells, observer)
+    start
 }
 
-// A start so much above the least lower bound, and at most the limit.
-fn lowered(least: i8, step: i8, limit: i8) -> i8
+// The threshold so much above this score.
+fn raised(least: i8, step: i8) -> i8
     requires least { IsScore least }
     requires shortest { pos 0 ≤ℤ step }
     requires longest { step ≤ℤ pos 63 }
+    ensures { IsThreshold result }
+{
+    lesser(63, least + step)
+}
+
+// Asks each reply whether it has at most this value, until some value is known to be reached, or the search is over.
+fn ask_all<C: Cells, O: Observer<C>>(
+    replies: &mut [Solved],
+    most: i8,
+    limit: i8,
+    cells: &mut C,
+    observer: &mut O,
+) -> bool
+    requires most { IsThreshold most }
     requires limit { IsScore limit }
+    ensures length { length replies.new ≡ length replies.old }
+    ensures fixed { C.fixed cells.new ≡ C.fixed cells.old }
+{
+    for place in 0..replies.len() {
+        if best(replies, limit, observer) < 64 || observer.is_over(cells) {
+            return true;
+        }
+        let known = observer.hear(&replies[place], cells);
+        replies[place] = known;
+        if known.interval.lower <= most {
+            observer.before(&known.board);
+            replies[place] = observer.decide(&known, most, cells);
+            observer.after(&known.board, &*replies);
+        }
+    }
+    best(replies, limit, observer) < 64
+}
+
+/// Narrows what is known of the reply at this place until it is exact or worse than the best, or nobody needs it.
+pub fn settle_at<C: Cells, O: Observer<C>>(
+    replies: &mut [Solved],
+    place: usize,
+    quest: Quest,
+    cells: &mut C,
+    observer: &mut O,
+)
+    ensures length { length replies.new ≡ length replies.old }
+    ensures fixed { C.fixed cells.new ≡ C.fixed cells.old }
+{
+    if place >= replies.len() || observer.is_over(cells) {
+        return;
+    }
+    let known = observer.hear(&replies[place], cells);
+    replies[place] = known;
+    let best = best(replies, quest.limit, observer);
+    if known.is_settled(quest.bar(best)) || observer.is_done(&known.board) {
+        return;
+    }
+    observer.before(&known.board);
+    pursue(replies, place, quest, cells, observer);
+    observer.after(&known.board, &*replies);
+}
+
+// The same, of which the observer hears.
+fn pursue<C: Cells, O: Observer<C>>(
+    replies: &mut [Solved],
+    place: usize,
+    quest: Quest,
+    cells: &mut C,
+    observer: &mut O,
+)
+    requires within { place < length replies.old }
+    ensures length { length replies.new ≡ length replies.old }
+    ensures fixed { C.fixed cells.new ≡ C.fixed cells.old }
+{
+    let mut pace = Pace::new();
+    // What the others were found to have at most. Steps widen below it.
+    let mut edge = 65;
+    let mut vain = 0u8;
+    for _ in 0..MOST_QUESTIONS {
+        let known = replies[place];
+        let best = best(replies, quest.limit, observer);
+        let bar = quest.bar(best);
+        if vain == MOST_IN_VAIN || known.is_settled(bar) || observer.is_done(&known.board) {
+            return;
+        }
+        let is_behind = known.interval.upper > best;
+        let alpha = if is_behind {
+            bar
+        } else {
+            observer.next(known.interval, quest.start, pace)
+        };
+        let found = observer.decide(&known, alpha, cells);
+        replies[place] = found;
+        if observer.is_over(cells) {
+            return;
+        }
+        if is_behind {
+            edge = best;
+        } else if known.interval.upper < edge {
+            pace = pace.after(leads_on(known.interval, found.interval));
+        }
+        if found.interval == known.interval {
+            vain = vain.saturating_add(1);
+        }
+    }
+}
+
+// Whether a question led on: to less, or to more where nothing is known to be reached.
+fn leads_on(before: Interval, after: Interval) -> bool {
+    after.upper < before.upper || after.upper == 64
+}
+
+// A value that one of the replies is known to have at most, by whoever searched it.
+fn best<C: Cells, O: Observer<C>>(replies: &[Solved], limit: i8, observer: &mut O) -> i8
+    requires { IsScore limit }
     ensures { IsScore result }
 {
-    let start = least + step;
-    if start < limit { start } else { limit }
+    observer.best(lesser(limit, least_upper(replies)))
+}
+
+// The place of the first reply with the least upper bound.
+fn leader(replies: &[Solved]) -> usize {
+    let least = least_upper(replies);
+    for (place, reply) in replies.iter().enumerate() {
+        if reply.interval.upper == least {
+            return place;
+        }
+    }
+    0
+}
+
+// The least upper bound of the replies.
+fn least_upper(replies: &[Solved]) -> i8
+    ensures { IsScore result }
+{
+    let mut least = 64;
+    for reply in replies {
+        least = lesser(least, reply.interval.upper);
+    }
+    least
 }
 
 // The least lower bound of the replies.
@@ -189,115 +306,4 @@ fn least_lower(replies: &[Solved]) -> i8
         least = lesser(least, reply.interval.lower);
     }
     least
-}
-
-// The place of a reply whose value is at most `most`: one that is known, or else the first that is found.
-fn reaching<C: Cells, O: Observer<C>>(
-    replies: &mut [Solved],
-    most: i8,
-    cells: &mut C,
-    observer: &mut O,
-) -> Option<usize>
-    requires { IsScore most }
-    ensures within { IfSome result (λ place. place < length replies.new) }
-    ensures fixed { C.fixed cells.new ≡ C.fixed cells.old }
-{
-    for place in 0..replies.len() {
-        if replies[place].interval.upper <= most {
-            return Some(place);
-        }
-    }
-    for place in 0..replies.len() {
-        let known = replies[place];
-        if known.interval.lower > most {
-            continue;
-        }
-        observer.before(&known.board);
-        let reply = observer.decide(&known, most, cells);
-        let upper = reply.interval.upper;
-        replies[place] = reply;
-        observer.after(&known.board, &*replies);
-        if upper <= most {
-            return Some(place);
-        }
-        if observer.is_over(cells) {
-            return None;
-        }
-    }
-    None
-}
-
-// The place of a reply whose value is below `most`. Where there is none, each is at least `most`, and where ties are
-// told each is exact or above it.
-fn better<C: Cells, O: Observer<C>>(
-    replies: &mut [Solved],
-    most: i8,
-    tells_ties: bool,
-    cells: &mut C,
-    observer: &mut O,
-) -> Option<usize>
-    requires { IsScore most }
-    ensures within { IfSome result (λ place. place < length replies.new) }
-    ensures fixed { C.fixed cells.new ≡ C.fixed cells.old }
-{
-    for place in 0..replies.len() {
-        let known = replies[place];
-        let above = if tells_ties { most + 1 } else { most };
-        if !known.interval.decides(most - 1, above) {
-            observer.before(&known.board);
-            replies[place] = against(&known, most, tells_ties, cells, observer);
-            observer.after(&known.board, &*replies);
-        }
-        if replies[place].interval.upper < most {
-            return Some(place);
-        }
-        if observer.is_over(cells) {
-            return None;
-        }
-    }
-    None
-}
-
-// The board with bounds that tell whether its value is below `most`, and where ties are told whether it is above it,
-// unless the search is over before.
-fn against<C: Cells, O: Observer<C>>(
-    known: &Solved,
-    most: i8,
-    tells_ties: bool,
-    cells: &mut C,
-    observer: &mut O,
-) -> Solved
-    requires { IsScore most }
-    ensures board { result.board ≡ known.now.board }
-    ensures scoring { result.scoring ≡ known.now.scoring }
-    ensures fixed { C.fixed cells.new ≡ C.fixed cells.old }
-{
-    if !tells_ties {
-        return observer.decide(known, most - 1, cells);
-    }
-    let reply = observer.decide(known, most, cells);
-    if reply.interval.lower > most || observer.is_over(cells) {
-        return reply;
-    }
-    observer.decide(&reply, most - 1, cells)
-}
-
-// The board with its value, by questions ever further below what it is known to reach, unless the search is over
-// before.
-fn exact<C: Cells, O: Observer<C>>(known: &Solved, cells: &mut C, observer: &mut O) -> Solved
-    ensures board { result.board ≡ known.now.board }
-    ensures scoring { result.scoring ≡ known.now.scoring }
-    ensures fixed { C.fixed cells.new ≡ C.fixed cells.old }
-{
-    let mut reply = *known;
-    let mut pace = Pace::new();
-    for _ in 0..MOST_QUESTIONS {
-        if reply.interval.lower == reply.interval.upper || observer.is_over(cells) {
-            return reply;
-        }
-        let alpha = pace.below(reply.interval);
-        reply = observer.decide(&reply, alpha, cells);
-        pace = pace.after(reply.interval.upper <= alpha);
-    }
-    reply
 }

@@ -1,6 +1,22 @@
 //! Boards with bounds that enclose their value, true by the type, and what they tell of other boards. What takes a
 //! search stands in `searching` and `asking`.
-ghost use Rattle.std.specs.Prelude.{◌≡◌, ◌<◌, ◌↔◌, IsSome, IfSome, IfOk, IsOk, true, false, ◌≤ℤ◌, ◌<ℤ◌, neg_ℤ, pos};
+ghost use Rattle.std.specs.Prelude.{
+  ◌≡◌,
+  ◌<◌,
+  ◌↔◌,
+  ◌⊎◌,
+  IsSome,
+  IfSome,
+  IfOk,
+  IsOk,
+  IsTrue,
+  true,
+  false,
+  ◌≤ℤ◌,
+  ◌<ℤ◌,
+  neg_ℤ,
+  pos,
+};
 ghost use Rattle.oth_rules.specs.Position.{pass};
 ghost use Rattle.oth_rules.specs.Move.{can_move, after};
 ghost use Rattle.oth_rules.specs.Laws.{IsLegal};
@@ -92,6 +108,15 @@ impl Solved {
         ensures { result ≡ self.now.scoring }
     {
         self.scoring
+    }
+
+    /// Whether no more is asked of the board, where nothing above the bar matters: its value is known, or that it is
+    /// above the bar.
+    pub fn is_settled(&self, bar: i8) -> bool
+        ensures { IsTrue result ↔ ((self.now.interval.lower ≡ self.now.interval.upper)
+            ⊎ (bar <ℤ self.now.interval.lower)) }
+    {
+        self.interval.lower == self.interval.upper || self.interval.lower > bar
     }
 
     /// The same board with wider bounds; `None` exactly if they leave -64..64 or do not contain the old ones.

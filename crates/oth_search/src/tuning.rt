@@ -175,7 +175,10 @@ pub(crate) const FEWEST_EMPTIES_GUESS_LOOKED: u8 = 13;
 pub(crate) const MOST_EMPTIES_GUESS_LOOKED: u8 = 14;
 
 /// Null windows of one guess, at the most.
-pub const GUESS_ROUNDS: u8 = 12;
+pub(crate) const GUESS_ROUNDS: u8 = 12;
+
+/// Rounds through the moves of a node of the guess: a move that another worker is at is left to it in the first.
+pub(crate) const TURNS: u8 = 2;
 
 /// Discs that a guess leaves open: to close them takes longer than it saves.
 pub(crate) const GUESS_CLOSE: i8 = 3;
@@ -183,8 +186,11 @@ pub(crate) const GUESS_CLOSE: i8 = 3;
 /// Discs: the first step of a guess away from where it starts, which doubles each time.
 pub(crate) const FIRST_GUESS_STEP: i8 = 8;
 
-/// Rounds: how often a first guess that no move reaches is lowered by a step before the least possible score is tried.
-pub(crate) const START_ROUNDS: u8 = 6;
+/// Rounds: how often a first guess that no move reaches is lowered, first to the most that the root may still reach.
+pub(crate) const LEAD_ROUNDS: u8 = 6;
+
+/// Questions of a root move that may bring nothing new before a worker leaves it to the others. One worker has none.
+pub(crate) const MOST_IN_VAIN: u8 = 4;
 
 /// Empty squares: up to here the score of the sibling before starts the search of a child, where the scores of all
 /// moves are asked for. Beyond it a guess that starts there is nearer.

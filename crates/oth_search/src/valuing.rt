@@ -1,13 +1,14 @@
 //! The value of a board, where its best moves are not asked for.
 ghost use Rattle.std.specs.Prelude.{◌≡◌, ◌<◌, ◌≤◌, length, IfSome};
 ghost use Rattle.oth_rules.specs.Laws.{IsScore};
+ghost use Rattle.oth_search.specs.Interval.{IsThreshold};
 
 use crate::cells::Cells;
 use crate::combining::known_below;
 use crate::guess::guess;
 use crate::interval::{Interval, greater, lesser};
 use crate::observer::Observer;
-use crate::root::{Quest, replies_of, settle, start};
+use crate::root::{Quest, first_threshold, replies_of, settle};
 use crate::solved::Solved;
 use crate::tuning::MOST_EMPTIES_BY_SIBLING;
 use arrayvec::ArrayVec;
@@ -56,10 +57,9 @@ fn settled_replies<C: Cells, O: Observer<C>>(
     ensures fixed { C.fixed cells.new ≡ C.fixed cells.old }
 {
     let mut replies = replies_of(root, &[]);
-    let limit = -root.interval.lower;
     let quest = Quest {
-        start: first_asked(root, replies.as_mut_slice(), likely, cells),
-        limit,
+        start: first_asked(root, replies.as_mut_slice(), likely, cells, observer),
+        limit: -root.interval.lower,
         tells_ties: false,
     };
     settle(replies.as_mut_slice(), quest, cells, observer);
@@ -68,25 +68,26 @@ fn settled_replies<C: Cells, O: Observer<C>>(
 
 // The value that a reply is first asked for: by the root's likely score where few squares are empty, by a guess from
 // there where many are, and as `start` tells where no score is likely.
-fn first_asked<C: Cells>(
+fn first_asked<C: Cells, O: Observer<C>>(
     root: &Solved,
     replies: &mut [Solved],
     likely: Option<i8>,
     cells: &mut C,
+    observer: &mut O,
 ) -> i8
     requires few { length replies.old ≤ 64 }
     requires likely { IfSome likely IsScore }
-    ensures score { IsScore result }
+    ensures threshold { IsThreshold result }
     ensures fixed { C.fixed cells.new ≡ C.fixed cells.old }
 {
     let Some(score) = likely else {
-        return start(replies, -root.interval.lower, root.board.empties(), cells);
+        return first_threshold(root, replies, cells, observer);
     };
-    let likely = -within(root.interval, score);
+    let likely = lesser(63, -within(root.interval, score));
     if root.board.empties() <= MOST_EMPTIES_BY_SIBLING {
         return likely;
     }
-    guess(replies, lesser(63, likely), cells)
+    lesser(63, guess(&root.board, replies, likely, cells, observer))
 }
 
 // The score of the interval that is nearest to this one.

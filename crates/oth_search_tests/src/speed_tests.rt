@@ -4,7 +4,10 @@
 use crate::keeping_tests::Counted;
 use crate::tests::board_of;
 use oth_rules::{Board, Scoring, Square};
-use oth_search::{Cells, Entry, Memo, NoCells, Solved, guessed_score, search, solve_with};
+use oth_search::{
+    Cells, Entry, Memo, NoCells, Solved, Unobserved, first_threshold, order, replies_to, search,
+    solve_with,
+};
 use std::test::Fail;
 
 /// The root's score is known from its replies before the moves that may reach it are compared: 779 boards are looked
@@ -44,9 +47,17 @@ fn a_window_opens_its_first_move(rt: HostRuntime) -> Result<(), Fail> {
 #[test]
 fn a_guess_is_of_the_movers_side(rt: HostRuntime) -> Result<(), Fail> {
     let board = board_of(&rt, [0x1fff_442a_1d20_0000, 0x6000_bad4_e21d_7ae0]);
-    assert!(rt; guessed_score(&board, &mut NoCells, Scoring::Winner) > 0);
-    assert!(rt; guessed_score(&board.pass(), &mut NoCells, Scoring::Winner) < 0);
+    assert!(rt; guessed_score(board) > 0);
+    assert!(rt; guessed_score(board.pass()) < 0);
     Ok(())
+}
+
+// The score that the board seems to have.
+fn guessed_score(board: Board) -> i8 {
+    let root = Solved::unknown(board, Scoring::Winner);
+    let squares = order(&board);
+    let mut replies = replies_to(&board, squares.as_slice(), &[], Scoring::Winner);
+    -first_threshold(&root, replies.as_mut_slice(), &mut NoCells, &mut Unobserved)
 }
 
 /// Keeps nothing but the board that is looked up first after the root.

@@ -4,13 +4,12 @@
 ghost use Rattle.std.specs.Prelude.{◌≡◌};
 
 use crate::gate::Gate;
-use crate::leading::{lead, moves_of};
 use crate::root_move::RootMove;
 use crate::shared::Search;
 use crate::tuning::{LAST_SWEEP, MOVES_BEFORE, MOVES_TOGETHER, SWEEPS};
 use crate::worker::Worker;
 use oth_pieces::Item;
-use oth_rules::{Board, Square};
+use oth_rules::Board;
 use oth_search::{Cells, Solved};
 
 /// Searches the item of this number, of which the gate hears, and what it leaves open of its move of the root.
@@ -34,7 +33,7 @@ pub fn search_item<G: Gate, C: Cells>(
 // Tells the gate how far the search is, if it follows that.
 fn tell<G: Gate, C: Cells>(shared: &Search, gate: &G, worker: &mut Worker<C>) {
     if gate.follows() {
-        let root = worker.known_of_root(shared);
+        let root = worker.known_of_root();
         gate.goes_on(&root, worker.settled());
     }
 }
@@ -52,25 +51,32 @@ fn search_drawn<G: Gate, C: Cells>(
     let Some(root_move) = RootMove::of(&*shared, item.square) else {
         return worker.look_up(&item.board, shared.scoring);
     };
+    worker.favour(shared);
     if !shared.shares() {
         settle_alone(&root_move, worker);
         return worker.look_up(&item.board, shared.scoring);
     }
-    lead(shared, worker);
+    worker.lead(shared);
     tell(shared, gate, worker);
-    settle_before(shared, item.square, worker);
+    settle_before(&root_move, worker);
     tell(shared, gate, worker);
     if worker.is_settled(item.square) {
         return worker.look_up(&item.board, shared.scoring);
     }
     if !is_reply(item, &root_move) {
-        root_move.settle(worker);
+        settle(&root_move, worker);
         return worker.look_up(&item.board, shared.scoring);
     }
     search_elder_brother(&root_move, &item.board, worker);
     let found = root_move.search_reply(item.board, worker);
-    root_move.settle(worker);
+    settle(&root_move, worker);
     found
+}
+
+// Settles the move of the root.
+fn settle<C: Cells>(root_move: &RootMove, worker: &mut Worker<C>) {
+    let place = worker.place_of(&root_move.child);
+    worker.settle_at(root_move.shared, place);
 }
 
 // Whether the item comes after a reply to the move, with no forced pass on the way.
@@ -81,22 +87,15 @@ fn is_reply(item: &Item, root_move: &RootMove) -> bool {
 // Settles the move, unless another worker is at it of which nothing could be learnt on the way.
 fn settle_alone<C: Cells>(root_move: &RootMove, worker: &mut Worker<C>) {
     if !worker.is_taken(&root_move.child) {
-        root_move.settle(worker);
+        settle(root_move, worker);
     }
 }
 
-// Helps with the first moves of the root that come before this one.
-fn settle_before<C: Cells>(shared: &Search, square: Square, worker: &mut Worker<C>) {
-    let mut count = 0;
-    let squares = moves_of(shared, worker);
-    for elder in squares.as_slice() {
-        if *elder == square || count == MOVES_BEFORE {
-            return;
-        }
-        count = usize::saturating_add(count, 1);
-        if let Some(root_move) = RootMove::of(&*shared, *elder) {
-            root_move.settle(worker);
-        }
+// Helps with the first moves of the root, up to this one.
+fn settle_before<C: Cells>(root_move: &RootMove, worker: &mut Worker<C>) {
+    let places = worker.place_of(&root_move.child).min(MOVES_BEFORE);
+    for place in 0..places {
+        worker.settle_at(root_move.shared, place);
     }
 }
 
@@ -117,21 +116,22 @@ fn search_elder_brother<C: Cells>(root_move: &RootMove, board: &Board, worker: &
 /// Searches what is open of the root's moves, when no item is left.
 pub fn settle_all<G: Gate, C: Cells>(shared: &Search, gate: &G, worker: &mut Worker<C>) {
     let rounds = if shared.shares() { SWEEPS } else { 1 };
-    let squares = moves_of(shared, worker);
+    worker.favour(shared);
     for round in 0..rounds {
-        for square in squares.as_slice() {
-            if let Some(root_move) = RootMove::of(&*shared, *square) {
-                settle_in_round(&root_move, round, worker);
-                tell(shared, gate, worker);
-            }
+        for place in 0..worker.replies.len() {
+            settle_in_round(shared, place, round, worker);
+            tell(shared, gate, worker);
         }
     }
 }
 
-// Settles the move, unless it is left to another worker in this round.
-fn settle_in_round<C: Cells>(root_move: &RootMove, round: u32, worker: &mut Worker<C>) {
-    let together = root_move.shared.shares() && worker.settled() < MOVES_TOGETHER;
-    if together || round == LAST_SWEEP || !worker.is_taken(&root_move.child) {
-        root_move.settle(worker);
+// Settles the move at this place, unless it is left to another worker in this round.
+fn settle_in_round<C: Cells>(shared: &Search, place: usize, round: u32, worker: &mut Worker<C>) {
+    let Some(known) = worker.replies.get(place).copied() else {
+        return;
+    };
+    let together = shared.shares() && worker.settled() < MOVES_TOGETHER;
+    if together || round == LAST_SWEEP || !worker.is_taken(&known.board) {
+        worker.settle_at(shared, place);
     }
 }

@@ -6,7 +6,7 @@ ghost use Rattle.std.specs.Prelude.{◌≡◌, ◌<◌, ◌≤ℤ◌, negsuc, If
 
 mod rule;
 
-use crate::glance::Guess;
+use crate::guess::Guess;
 use crate::move_order::MoveOrder;
 use crate::tuning::{MARK_COUNT, SEEN_COUNT};
 use atomic_table::{Seat, Table};

@@ -5,10 +5,10 @@
 mod access;
 mod drawn;
 mod gate;
-mod glance;
+mod guess;
 mod hints;
-mod leading;
 mod move_order;
+mod others;
 mod root_bound;
 mod root_move;
 mod shared;
@@ -26,5 +26,4 @@ pub use root_bound::RootBound;
 pub use root_move::RootMove;
 pub use shared::{Search, Shape, Sharing};
 pub use tuning::orders_for;
-pub use window::is_settled;
 pub use worker::Worker;

@@ -1,4 +1,4 @@
-//! Orders of the moves of a board: one of which the first ten are told, and one that begins with a given move.
+//! Orders of the moves of a board, of which the first ten are told.
 use crate::tuning::TOLD;
 use arrayvec::ArrayVec;
 use oth_rules::Square;
@@ -71,18 +71,4 @@ impl MoveOrder {
         }
         squares
     }
-}
-
-/// This move first, if there is one, and then the others of these.
-pub(crate) fn beginning_with(first: Option<Square>, squares: &[Square]) -> ArrayVec<Square, 64> {
-    let mut ordered = ArrayVec::new();
-    if let Some(first) = first {
-        let _ = ordered.try_push(first);
-    }
-    for square in squares {
-        if Some(*square) != first {
-            let _ = ordered.try_push(*square);
-        }
-    }
-    ordered
 }

@@ -45,6 +45,16 @@ impl<'s> Search<'s> {
         self.shares() && self.root.empties() >= FEWEST_EMPTIES_GUESSED_TOGETHER
     }
 
+    /// The move of the root after which the board stands, if there is one.
+    pub fn move_to(&self, child: &Board) -> Option<Square> {
+        for square in self.squares {
+            if self.root.play(*square) == Some(*child) {
+                return Some(*square);
+            }
+        }
+        None
+    }
+
     /// Whether several workers learn from a table what the others found.
     pub fn shares(&self) -> bool {
         matches!(self.shape.sharing, Sharing::OverTable)

@@ -53,15 +53,6 @@ pub(crate) const TOLD: u32 = 10;
 /// Empty squares of the root: from here on workers make the first guess together. Below it each one searches at once.
 pub(crate) const FEWEST_EMPTIES_GUESSED_TOGETHER: u8 = 14;
 
-/// Rounds through the moves of a node of the guess: a move that another worker is at is left to it in the first.
-pub(crate) const TURNS: u8 = 2;
-
-/// Rounds: how often a guess that no move reaches is lowered, first to the most that the root may still reach.
-pub(crate) const LEAD_ROUNDS: u32 = 6;
-
-/// Discs below that most by which it is lowered the second time, and by more than twice as much each further time.
-pub(crate) const SECOND_STEP: i8 = 2;
-
 // ---- The root's moves
 
 /// Root moves of higher rank that a worker helps to finish before its own item's: what they reach bounds its search.
@@ -75,12 +66,6 @@ pub(crate) const LAST_SWEEP: u32 = SWEEPS - 1;
 
 /// Root moves that all workers search together then, before any is left to another one.
 pub(crate) const MOVES_TOGETHER: u64 = 3;
-
-/// Null windows of one root move by one worker, at the most: each narrows what is known of it.
-pub(crate) const MOST_WINDOWS: u32 = 256;
-
-/// Searches of a root move that may bring nothing new before a worker leaves it to the others.
-pub(crate) const MOST_IN_VAIN: u8 = 4;
 
 /// Discs: a first guess that is further off than this lets the next null window step further.
 pub(crate) const OFF: i8 = 4;

@@ -6,6 +6,7 @@ ghost use Rattle.std.specs.Prelude.{◌≡◌, pos, negsuc, ◌≤ℤ◌};
 use crate::hints::HintSeat;
 use crate::move_order::MoveOrder;
 use crate::root_bound::RootBound;
+use crate::root_move::RootMove;
 use crate::shared::Search;
 use crate::tuning::{CHILDREN_TOGETHER, FEW_TOGETHER, FEWEST_EMPTIES_PREFERRED, SMALL};
 use arrayvec::ArrayVec;
@@ -57,9 +58,19 @@ impl<'w> Way<'w> {
         self.root_bound.root()
     }
 
-    /// Tells bounds of the root.
-    pub fn raise(&mut self, bound: &Solved) {
-        self.root_bound.raise(bound);
+    /// Raises the floor by what a move of the root alone tells of it.
+    pub fn raise_by(&mut self, root_move: &RootMove, child: &Solved) {
+        if let Ok(bound) = Solved::lift(&root_move.shared.root, root_move.square, child) {
+            self.root_bound.raise(&bound);
+        }
+    }
+
+    /// Tells the others of the root's move if it needs no further search, where so much is known of the board after it.
+    pub fn note(&mut self, root_move: &RootMove, child: &Solved) {
+        let least = self.floor();
+        if child.is_settled(-least) {
+            self.settle(root_move.square);
+        }
     }
 
     /// Whether the root's move needs no further search.

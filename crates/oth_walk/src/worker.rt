@@ -1,32 +1,37 @@
 //! One worker of a search: what it searches over, what it knows of the root, and what it has found.
 ghost use Rattle.std.specs.Prelude.{◌≡◌, pos, negsuc, ◌≤ℤ◌};
+ghost use Rattle.oth_search.specs.Interval.{IsThreshold};
 
-use crate::glance::{Guess, glance};
+use crate::guess::Guess;
 use crate::hints::HintSeat;
+use crate::others::Others;
 use crate::root_bound::RootBound;
 use crate::root_move::RootMove;
 use crate::shared::Search;
-use crate::way::{Walk, Way};
-use crate::window::is_settled;
+use crate::way::Way;
 use arrayvec::ArrayVec;
 use oth_rules::{Board, Scoring, Square};
-use oth_search::{Cells, NullWindow, Solved, guessed_score, known_below, known_of, put};
+use oth_search::{
+    Cells, NullWindow, Quest, Solved, first_threshold, known_below, lead, put, replies_to,
+    settle_at,
+};
 use std::alloc::Global;
 
-/// What a worker searches over and with, and what it found.
+/// What a worker searches over and with, and what it knows.
 #[derive(Drop)]
 pub struct Worker<'w, C> {
     pub(crate) cells: C,
     pub(crate) way: Way<'w>,
     // A score that the root seems to have, and its move.
     guess: Option<Guess>,
-    /// What it found of boards after the root's moves.
-    pub found: Vec<Solved>,
+    /// The boards after the root's moves, with what it knows of each, in the order in which they are searched.
+    pub replies: ArrayVec<Solved, 64>,
 }
 
 impl<'w, C: Cells> Worker<'w, C> {
     /// A worker that has searched nothing yet. Its lists take memory as they grow; where there is none they keep less.
     pub fn of(
+        shared: &Search,
         alloc: Global,
         cells: C,
         root_bound: RootBound<'w>,
@@ -36,7 +41,7 @@ impl<'w, C: Cells> Worker<'w, C> {
             cells,
             way: Way::of(alloc, root_bound, hints),
             guess: None,
-            found: Vec::new(alloc),
+            replies: replies_to(&shared.root, shared.squares, &[], shared.scoring),
         }
     }
 
@@ -48,44 +53,81 @@ impl<'w, C: Cells> Worker<'w, C> {
         self.way.floor()
     }
 
-    /// Raises the floor by what a move of the root alone tells of it.
-    pub fn raise_by(&mut self, root_move: &RootMove, child: &Solved) {
-        if let Ok(bound) = Solved::lift(&root_move.shared.root, root_move.square, child) {
-            self.way.raise(&bound);
+    /// Asks the root's moves for what the root seems to reach until there is a floor, the move that seems best first.
+    /// Where no move reaches it, they are asked for less.
+    pub(crate) fn lead(&mut self, shared: &Search) {
+        if self.floor() > -64 {
+            return;
+        }
+        let guess = self.guess(shared);
+        let quest = quest_from(guess.score);
+        let mut others = Others {
+            shared,
+            way: &mut self.way,
+        };
+        let replies = self.replies.as_mut_slice();
+        let asked = lead(replies, quest, &mut self.cells, &mut others);
+        self.guess = Some(Guess::of(-asked, guess.square));
+    }
+
+    /// Searches the board at this place until it is settled: its value is known, or that the root gets less than the
+    /// floor by it.
+    pub(crate) fn settle_at(&mut self, shared: &Search, place: usize) {
+        let quest = self.quest(shared);
+        let mut others = Others {
+            shared,
+            way: &mut self.way,
+        };
+        let replies = self.replies.as_mut_slice();
+        settle_at(replies, place, quest, &mut self.cells, &mut others);
+    }
+
+    // What is asked of the boards after the root's moves: what the root seems to have, or the floor.
+    fn quest(&mut self, shared: &Search) -> Quest {
+        let least = self.floor();
+        if least == -64 {
+            return quest_from(self.guess(shared).score);
+        }
+        match self.known_guess() {
+            Some(guess) => quest_from(guess.score),
+            None => quest_from(least),
+        }
+    }
+
+    // The guess that was made, or told by another worker.
+    fn known_guess(&mut self) -> Option<Guess> {
+        match self.guess {
+            Some(guess) => Some(guess),
+            None => self.way.hints.guess(),
         }
     }
 
     /// The board, which comes after this move of the root, with closer bounds, by a search that the workers share. They
-    /// decide the window unless it is given up, as where the floor rises above `least`.
+    /// decide the window unless it is given up, as where the floor rises.
     pub(crate) fn narrow(
         &mut self,
         root_move: &RootMove,
-        least: i8,
         known: &Solved,
         window: NullWindow,
     ) -> Solved
         ensures board { result.board ≡ known.now.board }
         ensures scoring { result.scoring ≡ known.now.scoring }
     {
-        let mut walk = Walk {
+        let mut others = Others {
             shared: root_move.shared,
-            square: root_move.square,
-            least,
             way: &mut self.way,
         };
-        known.narrowed_in(window, &mut self.cells, &mut walk)
+        others.narrow(root_move.square, known, window, &mut self.cells)
     }
 
     /// What is known of the root: the floor, and what the cells and this worker's own searches tell of the boards after
     /// its moves.
-    pub(crate) fn known_of_root(&mut self, shared: &Search) -> Solved {
+    pub(crate) fn known_of_root(&mut self) -> Solved {
         let root = self.way.root();
-        let mut children = Vec::new(self.way.alloc);
-        for square in shared.squares {
-            if let Some(child) = root.board.play(*square) {
-                let known = known_of(child, self.found.as_slice(), root.scoring);
-                let _ = children.push(self.look_up(&child, root.scoring).joined(&known));
-            }
+        let mut children = ArrayVec::<Solved, 64>::new();
+        for reply in self.replies.as_slice() {
+            let told = Solved::looked_up(&reply.board, &mut self.cells, reply.scoring);
+            let _ = children.try_push(reply.joined(&told));
         }
         root.joined(&known_below(root.board, 1, children.as_slice(), root.scoring))
     }
@@ -95,25 +137,30 @@ impl<'w, C: Cells> Worker<'w, C> {
         self.way.root()
     }
 
-    /// A score that the root seems to have, and its move.
+    /// A score that the root seems to have, and its move: what was guessed before, or another worker has told, or else
+    /// a guess that is made now.
     pub(crate) fn guess(&mut self, shared: &Search) -> Guess {
-        if self.guess.is_none() {
+        if self.known_guess().is_none() {
             self.make_guess(shared);
         }
-        match self.guess {
+        match self.known_guess() {
             Some(guess) => guess,
             None => Guess::of(0, Square::numbered(0)),
         }
     }
 
-    // Makes a guess, together with the others where that pays.
+    // Makes a guess, together with the others where that pays, and tells it. Where the board is small for that it is a
+    // draw.
     fn make_guess(&mut self, shared: &Search) {
-        if !shared.guesses() {
-            self.guess = Some(self.guess_alone(shared));
-            return;
+        let asked = if shared.shares() && !shared.guesses() {
+            0
+        } else {
+            self.first_asked(shared)
+        };
+        self.guess = Some(Guess::of(-asked, self.first_move(shared)));
+        if shared.guesses() {
+            self.tell_guess();
         }
-        self.guess = Some(glance(shared, self));
-        self.tell_guess();
     }
 
     // Tells the others the guess.
@@ -123,48 +170,27 @@ impl<'w, C: Cells> Worker<'w, C> {
         }
     }
 
-    // A guess by this worker alone, where others can't learn from it, or without a search where the board is small.
-    fn guess_alone(&mut self, shared: &Search) -> Guess {
-        let score = if shared.shares() {
-            0
-        } else {
-            guessed_score(&shared.root, &mut self.cells, shared.scoring)
+    // The value that a reply is first asked for, by a guess that the workers make together where they share it.
+    fn first_asked(&mut self, shared: &Search) -> i8
+        ensures { IsThreshold result }
+    {
+        let root = Solved::unknown(shared.root, shared.scoring);
+        let mut others = Others {
+            shared,
+            way: &mut self.way,
         };
-        let squares = self.order(&shared.root);
-        match squares.first() {
-            Some(square) => Guess::of(score, *square),
-            None => Guess::of(score, Square::numbered(0)),
+        let replies = self.replies.as_mut_slice();
+        first_threshold(&root, replies, &mut self.cells, &mut others)
+    }
+
+    // The root's move that comes first.
+    fn first_move(&self, shared: &Search) -> Square {
+        for reply in self.replies.as_slice() {
+            if let Some(square) = shared.move_to(&reply.board) {
+                return square;
+            }
         }
-    }
-
-    /// From now on the root seems to have at most so much.
-    pub(crate) fn lower_guess(&mut self, shared: &Search, most: i8) {
-        let Guess { score, square } = self.guess(shared);
-        self.guess = Some(Guess::of(most.min(score - 1), square));
-    }
-
-    /// The guess that another worker has told.
-    pub(crate) fn told_guess(&mut self) -> Option<Guess> {
-        self.way.hints.guess()
-    }
-
-    /// Whether the board seems to have at least this score, if another worker has told it.
-    pub(crate) fn seen(&mut self, board: &Board, score: i8) -> Option<bool> {
-        self.way.hints.seen(board, score)
-    }
-
-    /// Tells whether the board seems to have at least this score.
-    pub(crate) fn tell_seen(&mut self, board: &Board, score: i8, is_reached: bool) {
-        self.way.hints.tell_seen(board, score, is_reached);
-    }
-
-    /// The root's move that seems best, if there is a guess.
-    pub(crate) fn favourite(&mut self) -> Option<Square> {
-        let guess = match self.guess {
-            Some(guess) => guess,
-            None => self.told_guess()?,
-        };
-        Some(guess.square)
+        Square::numbered(0)
     }
 
     /// The score that the root's moves are asked for: the floor, or a guess where there is none.
@@ -179,9 +205,9 @@ impl<'w, C: Cells> Worker<'w, C> {
         self.guess(shared).score
     }
 
-    /// The cells, when nothing more is to be searched.
-    pub fn into_cells(self) -> C {
-        self.cells
+    /// The cells, and what it knows of the boards after the root's moves, when nothing more is to be searched.
+    pub fn into_parts(self) -> (C, ArrayVec<Solved, 64>) {
+        (self.cells, self.replies)
     }
 
     /// Whether the root's move needs no further search.
@@ -194,11 +220,37 @@ impl<'w, C: Cells> Worker<'w, C> {
         self.way.settled()
     }
 
-    /// Keeps what was found of the board after a root's move, and tells where the move needs no further search.
-    pub(crate) fn keep(&mut self, square: Square, child: Solved) {
-        let least = self.floor();
-        if is_settled(&child, least) && self.found.push(child).is_ok() {
-            self.way.settle(square);
+    /// Takes in bounds of the board after a root's move: the floor rises by them, and the others hear where the move
+    /// needs no further search.
+    pub fn keep(&mut self, root_move: &RootMove, child: &Solved) {
+        let place = self.place_of(&root_move.child);
+        if place < self.replies.len() {
+            let known = self.replies[place].joined(child);
+            self.replies[place] = known;
+            self.way.raise_by(root_move, &known);
+            self.way.note(root_move, &known);
+        }
+    }
+
+    /// The place of the board after a root's move, or else how many there are.
+    pub(crate) fn place_of(&self, child: &Board) -> usize {
+        for (place, reply) in self.replies.as_slice().iter().enumerate() {
+            if reply.board == *child {
+                return place;
+            }
+        }
+        self.replies.len()
+    }
+
+    /// Brings the board after the move that seems best to the front, if there is a guess.
+    pub(crate) fn favour(&mut self, shared: &Search) {
+        if let Some(guess) = self.known_guess() {
+            if let Some(child) = shared.root.play(guess.square) {
+                let place = self.place_of(&child);
+                if place < self.replies.len() {
+                    self.replies.as_mut_slice().swap(0, place);
+                }
+            }
         }
     }
 
@@ -220,11 +272,6 @@ impl<'w, C: Cells> Worker<'w, C> {
         self.way.hints.is_searched(board)
     }
 
-    /// Whether another worker seems to search the board, of which this one could learn what it finds.
-    pub(crate) fn is_left(&mut self, board: &Board, shared: &Search) -> bool {
-        shared.shares() && self.is_taken(board)
-    }
-
     /// Marks the board as one that is being searched.
     pub(crate) fn begin(&mut self, board: &Board) {
         self.way.hints.begin(board);
@@ -238,5 +285,17 @@ impl<'w, C: Cells> Worker<'w, C> {
     /// Each legal move of the board once, in the order in which it is searched: the one that is kept, where one is.
     pub(crate) fn order(&mut self, board: &Board) -> ArrayVec<Square, 64> {
         self.way.order_of(board)
+    }
+}
+
+// Asks for this score first, -63 to 64, and for ties too.
+fn quest_from(score: i8) -> Quest
+    requires low { negsuc 63 ≤ℤ score }
+    requires high { score ≤ℤ pos 64 }
+{
+    Quest {
+        start: -score.max(-63),
+        limit: 64,
+        tells_ties: true,
     }
 }

@@ -47,6 +47,7 @@ fn check_settled<R: AllocGlobal + Abort>(rt: &R, words: [u64; 2]) {
         )
     };
     let mut worker = Worker::of(
+        &shared,
         rt.alloc(),
         NoCells,
         RootBound::of(&floor, seat),

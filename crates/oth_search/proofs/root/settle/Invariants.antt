@@ -1,6 +1,5 @@
-use Rattle.std.proofs.Common.{◌≡◌, ◌<◌, length}
-use Rattle.std.specs.Prelude.{IfSome}
+use Rattle.std.proofs.Common.{◌≡◌}
 use Rattle.oth_search.proofs.root.settle.Given as goal
 
-abbrev pub invariant-loop : goal.invariant-loop
-invariant-loop g l = IfSome l.leader (λ place. place < length l.replies) × (g.C.Cells.fixed l.cells ≡ g.C.Cells.fixed l.fn.cells)
+abbrev pub invariant-loop-place : goal.invariant-loop-place
+invariant-loop-place g l = g.C.Cells.fixed l.cells ≡ g.C.Cells.fixed l.fn.cells

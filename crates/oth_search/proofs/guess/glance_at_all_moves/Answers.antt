@@ -1,0 +1,27 @@
+use Rattle.std.proofs.Common.{refl, arith, ◌∙◌}
+use Rattle.std.specs.Prelude.{neg_ℤ}
+use Rattle.std.proofs.lemmas.Int.{ints}
+use Rattle.oth_search.proofs.SquareSets.{Takes-without, still-among}
+use Rattle.oth_search.proofs.Replies.{legal-moves}
+use Rattle.oth_search.proofs.RootSearch.{IsScore-negated, IsScore-one}
+use Rattle.oth_search.proofs.guess.glance_at_all_moves.Goals as goal
+
+pub loop-turn-init : goal.loop-turn-init
+loop-turn-init g c = record {
+  score = record { low = omega (arith, ints); high = omega (arith, ints) };
+  fixed = refl;
+  legal = legal-moves c.args.node.board c.args.node.moves c.args.node.legal;
+}
+
+pub loop-rest-preserved : goal.loop-rest-preserved
+loop-rest-preserved g c =
+    let before = c.loop-rest.invariant in
+    let member = c.next_child-child.ensures.member in
+    record {
+      score = IsScore-one _ (neg_ℤ c.glance_after_reply-reply.result) _ _ c.greater-best.result _ before.score
+          (IsScore-negated _ _ (omega (arith, ints)) c.glance_after_reply-reply.ensures.score)
+          (omega (arith, ints)) (omega (arith, ints)) (omega (arith, ints)) c.greater-best.ensures.one;
+      fixed = c.glance_after_reply-reply.ensures.fixed ∙ before.fixed;
+      legal = λ s h. before.legal s ((Takes-without _ _ _ (before.among _ member) c.without-left.ensures.rest).kept s h);
+      among = still-among _ _ _ _ _ before.among member c.without-left.ensures.rest c.without-rest.ensures.rest;
+    }

@@ -1,0 +1,18 @@
+use Rattle.std.proofs.Common.{◌≡◌, ℕ}
+use Rattle.oth_rules.specs.Laws.{IsScore, IsLegal}
+use Rattle.oth_search.specs.Squares.{In}
+use Rattle.oth_search.proofs.guess.glance_at_all_moves.Given as goal
+
+abbrev pub invariant-loop-turn : goal.invariant-loop-turn
+invariant-loop-turn g l = record { score : IsScore l.best; fixed : g.C.Cells.fixed l.cells ≡ g.C.Cells.fixed l.fn.cells; legal : (s : ℕ) → In l.left s → IsLegal l.node.board s }
+
+abbrev pub invariant-loop-rest : goal.invariant-loop-rest
+invariant-loop-rest g l = record {
+  score : IsScore l.best;
+  fixed : g.C.Cells.fixed l.cells ≡ g.C.Cells.fixed l.fn.cells;
+  legal : (s : ℕ) → In l.left s → IsLegal l.node.board s;
+  among : (s : ℕ) → In l.rest s → In l.left s;
+}
+
+abbrev pub decreases-loop-rest : goal.decreases-loop-rest
+decreases-loop-rest g l = l.rest
