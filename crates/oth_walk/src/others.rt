@@ -6,7 +6,7 @@ use crate::shared::Search;
 use crate::way::{Walk, Way};
 use crate::window::shared_threshold;
 use oth_rules::{Board, Square};
-use oth_search::{Cells, Interval, NullWindow, Observer, Pace, Solved, known_of, put};
+use oth_search::{Cells, Interval, NullWindow, Observer, Pace, Solved, put};
 
 /// The other workers of a search, as one of them knows them: by the table, the floor and the hints.
 #[derive(Drop)]
@@ -47,12 +47,8 @@ impl<'a, 'w, C: Cells> Observer<C> for Others<'a, 'w> {
         self.way.hints.begin(child);
     }
 
-    fn after(&mut self, child: &Board, replies: &[Solved]) {
+    fn after(&mut self, child: &Board, _replies: &[Solved]) {
         self.way.hints.end(child);
-        if let Some(root_move) = RootMove::to(self.shared, child) {
-            let known = known_of(*child, replies, self.shared.scoring);
-            self.way.note(&root_move, &known);
-        }
     }
 
     fn hear(&mut self, known: &Solved, cells: &mut C) -> Solved {

@@ -75,11 +75,21 @@ impl<'w, C: Cells> Worker<'w, C> {
     pub(crate) fn settle_at(&mut self, shared: &Search, place: usize) {
         let quest = self.quest(shared);
         let mut others = Others {
-            shared,
+            shared: &*shared,
             way: &mut self.way,
         };
         let replies = self.replies.as_mut_slice();
         settle_at(replies, place, quest, &mut self.cells, &mut others);
+        self.note_at(shared, place);
+    }
+
+    // Tells the others of the root's move to the board at this place, if it needs no further search.
+    fn note_at(&mut self, shared: &Search, place: usize) {
+        if let Some(known) = self.replies.get(place).copied() {
+            if let Some(root_move) = RootMove::to(&*shared, &known.board) {
+                self.way.note(&root_move, &known);
+            }
+        }
     }
 
     // What is asked of the boards after the root's moves: what the root seems to have, or the floor.

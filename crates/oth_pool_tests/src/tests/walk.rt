@@ -6,7 +6,8 @@ use oth_pieces::{Floor, Frontier};
 use oth_rules::{Board, Scoring, Square};
 use oth_search::{NoCells, order};
 use oth_walk::{
-    HintSeat, Hints, MoveOrder, Open, RootBound, Search, Shape, Sharing, Worker, settle_all,
+    HintSeat, Hints, MoveOrder, Open, RootBound, Search, Shape, Sharing, Worker, search_item,
+    settle_all,
 };
 use std::process::Abort;
 use std::test::Fail;
@@ -19,8 +20,9 @@ const PASSING: [[u64; 2]; 3] = [
     [0xe0e0_f008_0000_1000, 0x081c_0e37_ff7d_2f7f],
 ];
 
-// One worker that keeps nothing settles each move, and comes to the value.
-fn check_settled<R: AllocGlobal + Abort>(rt: &R, words: [u64; 2]) {
+// One worker that keeps nothing settles each move, and comes to the value. Where it would share what it finds it
+// searches the first item before, and so looks for a move that reaches what it guesses.
+fn check_settled<R: AllocGlobal + Abort>(rt: &R, words: [u64; 2], sharing: Sharing) {
     let Some(answer) = answered_alone(words, Scoring::Winner) else {
         panic!(rt; "no answer")
     };
@@ -36,14 +38,14 @@ fn check_settled<R: AllocGlobal + Abort>(rt: &R, words: [u64; 2]) {
         shape: Shape {
             fewest: 12,
             dealt: 64,
-            sharing: Sharing::Apart,
+            sharing,
         },
         ..Search::of(
             root,
             Scoring::Winner,
             squares.as_slice(),
             &frontier,
-            Sharing::Apart,
+            sharing,
         )
     };
     let mut worker = Worker::of(
@@ -53,6 +55,12 @@ fn check_settled<R: AllocGlobal + Abort>(rt: &R, words: [u64; 2]) {
         RootBound::of(&floor, seat),
         HintSeat::none(),
     );
+    if shared.shares() {
+        let Some(item) = frontier.entry(0) else {
+            panic!(rt; "no item")
+        };
+        search_item(&shared, 0, &item, &Open, &mut worker);
+    }
     settle_all(&shared, &Open, &mut worker);
     assert!(rt; worker.settled() == squares.len() as u64);
     assert!(rt; worker.floor() == answer.score);
@@ -62,14 +70,21 @@ fn check_settled<R: AllocGlobal + Abort>(rt: &R, words: [u64; 2]) {
 #[test]
 fn one_worker_settles_each_move(rt: HostRuntime) {
     for words in &BOARDS {
-        check_settled(&rt, *words);
+        check_settled(&rt, *words, Sharing::Apart);
+    }
+}
+
+#[test]
+fn one_worker_settles_each_move_that_fell_short_of_its_guess(rt: HostRuntime) {
+    for words in &BOARDS {
+        check_settled(&rt, *words, Sharing::OverTable);
     }
 }
 
 #[test]
 fn one_worker_settles_each_move_before_a_pass(rt: HostRuntime) {
     for words in &PASSING {
-        check_settled(&rt, *words);
+        check_settled(&rt, *words, Sharing::Apart);
     }
 }
 
