@@ -20,6 +20,14 @@ const PASSING: [[u64; 2]; 3] = [
     [0xe0e0_f008_0000_1000, 0x081c_0e37_ff7d_2f7f],
 ];
 
+// Boards of games, of 12 empty squares, whose mover loses (by 10, 10 and 38, as another solver says), so that no move
+// reaches the draw that is asked for first.
+const LOSING: [[u64; 2]; 3] = [
+    [0x00f2_e2da_3f2a_1e0e, 0x3c0d_1c24_40d5_2051],
+    [0xc0ec_d047_8c08_f06c, 0x3512_2c38_70b7_0f01],
+    [0x8276_2a0f_2761_c100, 0x1c09_5070_189e_1e7f],
+];
+
 // One worker that keeps nothing settles each move, and comes to the value. Where it would share what it finds it
 // searches the first item before, and so looks for a move that reaches what it guesses.
 fn check_settled<R: AllocGlobal + Abort>(rt: &R, words: [u64; 2], sharing: Sharing) {
@@ -76,7 +84,7 @@ fn one_worker_settles_each_move(rt: HostRuntime) {
 
 #[test]
 fn one_worker_settles_each_move_that_fell_short_of_its_guess(rt: HostRuntime) {
-    for words in &BOARDS {
+    for words in &LOSING {
         check_settled(&rt, *words, Sharing::OverTable);
     }
 }
