@@ -30,7 +30,7 @@ const MOST_CELLS: u32 = 262_144;
 // What `--version` prints behind the program's name.
 const VERSION: &str = "0.1.0";
 
-// What stands behind the help of each command.
+// What each command is about, how it is called, and what stands behind its help.
 
 const PROGRAM_NOTES: &str = "\
 Lines come from standard input, answers go to standard output, one for each line:
@@ -48,6 +48,11 @@ Statuses, and what is then on standard error:
        neither 0 nor a power of two up to 262144
     3  book error N, book wrong N: FILE is no book, or no true one (see book-verify --help);
        line I: book error N: an answer can't be added (see book-add --help)";
+
+const SOLVE_ABOUT: &str =
+    "Writes the score and all best moves of each board line of standard input";
+
+const SOLVE_USAGE: &str = "othsolve solve [OPTIONS] < BOARDS";
 
 const SOLVE_NOTES: &str = "\
 Boards are read from standard input, a line each: othsolve solve < boards.txt
@@ -67,6 +72,10 @@ Faults of a board line:
     error 4       byte 66 is neither X nor O
     error 5 N     N squares are empty, more than 30";
 
+const SCORES_ABOUT: &str = "Writes the score of every move of each board line of standard input";
+
+const SCORES_USAGE: &str = "othsolve scores [OPTIONS] < BOARDS";
+
 const SCORES_NOTES: &str = "\
 Boards are read from standard input, a line each: othsolve scores < boards.txt
 
@@ -77,6 +86,10 @@ and equal ones in the order a1, b1 .. h8:
     -50 h1 -64 b1
 
 Where the side to move has no move, the answer and the faults are those of solve (see solve --help).";
+
+const MOVES_ABOUT: &str = "Writes all legal moves of each board line of standard input";
+
+const MOVES_USAGE: &str = "othsolve moves < BOARDS";
 
 const MOVES_NOTES: &str = "\
 Boards are read from standard input, a line each: othsolve moves < boards.txt
@@ -89,6 +102,11 @@ A board line, and its answer, all legal moves:
 'pass' stands in place of the moves where the side to move has none and the other side has one,
 'end' where the game is over. The number of empty squares is not limited. A line that can't be read
 is answered by 'error 1' to 'error 4', as in solve --help.";
+
+const TRANSCRIPT_ABOUT: &str =
+    "Writes the board line that each transcript of standard input leads to";
+
+const TRANSCRIPT_USAGE: &str = "othsolve transcript < GAMES";
 
 const TRANSCRIPT_NOTES: &str = "\
 Games are read from standard input, a line each: othsolve transcript < games.txt
@@ -104,6 +122,11 @@ Faults of a transcript, whose pairs of bytes are counted from 1:
     error 2 at K  pair K is no letter from a to h and digit from 1 to 8
     error 4 at K  the game is over before pair K
     error 3 at K  the move of pair K is illegal";
+
+const PLAY_ABOUT: &str =
+    "Writes the board line that moves on each board line of standard input lead to";
+
+const PLAY_USAGE: &str = "othsolve play < GAMES";
 
 const PLAY_NOTES: &str = "\
 Games are read from standard input, a line each: othsolve play < games.txt
@@ -270,13 +293,7 @@ fn solve_command<'a>(alloc: Global, scorings: &'a [&'a str]) -> Result<App<'a>, 
     ensures app { IfOk result (λ c. app_of c ≡ solve_app scorings.entry) }
     ensures local { IfOk result (λ c. (out-Command c).has_globals ≡ false) }
 {
-    let solve = titled_command(
-        alloc,
-        "solve",
-        "Writes the score and all best moves of each board line of standard input",
-        "othsolve solve [OPTIONS] < BOARDS",
-        SOLVE_NOTES,
-    );
+    let solve = titled_command(alloc, "solve", SOLVE_ABOUT, SOLVE_USAGE, SOLVE_NOTES);
     with_search_options(alloc, solve, scorings)?.arg(book_option(alloc))
 }
 
@@ -285,13 +302,7 @@ fn scores_command<'a>(alloc: Global, scorings: &'a [&'a str]) -> Result<App<'a>,
     ensures app { IfOk result (λ c. app_of c ≡ scores_app scorings.entry) }
     ensures local { IfOk result (λ c. (out-Command c).has_globals ≡ false) }
 {
-    let scores = titled_command(
-        alloc,
-        "scores",
-        "Writes the score of every move of each board line of standard input",
-        "othsolve scores [OPTIONS] < BOARDS",
-        SCORES_NOTES,
-    );
+    let scores = titled_command(alloc, "scores", SCORES_ABOUT, SCORES_USAGE, SCORES_NOTES);
     with_search_options(alloc, scores, scorings)
 }
 
@@ -341,27 +352,15 @@ fn command<'a>(alloc: Global, scorings: &'a [&'a str]) -> Result<App<'a>, AllocE
         .subcommand_required(true)
         .subcommand(solve_command(alloc, scorings)?)?
         .subcommand(scores_command(alloc, scorings)?)?
-        .subcommand(titled_command(
-            alloc,
-            "moves",
-            "Writes all legal moves of each board line of standard input",
-            "othsolve moves < BOARDS",
-            MOVES_NOTES,
-        ))?
+        .subcommand(titled_command(alloc, "moves", MOVES_ABOUT, MOVES_USAGE, MOVES_NOTES))?
         .subcommand(titled_command(
             alloc,
             "transcript",
-            "Writes the board line that each transcript of standard input leads to",
-            "othsolve transcript < GAMES",
+            TRANSCRIPT_ABOUT,
+            TRANSCRIPT_USAGE,
             TRANSCRIPT_NOTES,
         ))?
-        .subcommand(titled_command(
-            alloc,
-            "play",
-            "Writes the board line that moves on each board line of standard input lead to",
-            "othsolve play < GAMES",
-            PLAY_NOTES,
-        ))?
+        .subcommand(titled_command(alloc, "play", PLAY_ABOUT, PLAY_USAGE, PLAY_NOTES))?
         .subcommand(verify_command(alloc)?)?
         .subcommand(add_command(alloc)?)
 }
