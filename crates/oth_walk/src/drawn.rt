@@ -24,7 +24,10 @@ pub fn search_item<G: Gate, C: Cells>(
     ensures scoring { result.scoring ≡ shared.now.scoring }
 {
     gate.before(number);
-    let found = search_drawn(shared, item, gate, worker);
+    let found = match RootMove::of(&*shared, item.square) {
+        Some(root_move) => search_below(&root_move, item, gate, worker),
+        None => worker.look_up(&item.board, shared.scoring),
+    };
     tell(shared, gate, worker);
     gate.after(number);
     found
@@ -38,38 +41,36 @@ fn tell<G: Gate, C: Cells>(shared: &Search, gate: &G, worker: &mut Worker<C>) {
     }
 }
 
-// What a worker finds of a drawn item.
-fn search_drawn<G: Gate, C: Cells>(
-    shared: &Search,
+// What a worker finds of an item that comes after the move of the root.
+fn search_below<G: Gate, C: Cells>(
+    root_move: &RootMove,
     item: &Item,
     gate: &G,
     worker: &mut Worker<C>,
 ) -> Solved
     ensures board { result.board ≡ item.now.board }
-    ensures scoring { result.scoring ≡ shared.now.scoring }
+    ensures scoring { result.scoring ≡ root_move.now.shared.now.scoring }
 {
-    let Some(root_move) = RootMove::of(&*shared, item.square) else {
-        return worker.look_up(&item.board, shared.scoring);
-    };
+    let shared = root_move.shared;
     worker.favour(shared);
     if !shared.shares() {
-        settle_alone(&root_move, worker);
+        settle_alone(root_move, worker);
         return worker.look_up(&item.board, shared.scoring);
     }
     worker.lead(shared);
     tell(shared, gate, worker);
-    settle_before(&root_move, worker);
+    settle_before(root_move, worker);
     tell(shared, gate, worker);
     if worker.is_settled(item.square) {
         return worker.look_up(&item.board, shared.scoring);
     }
-    if !is_reply(item, &root_move) {
-        settle(&root_move, worker);
+    if !is_reply(item, root_move) {
+        settle(root_move, worker);
         return worker.look_up(&item.board, shared.scoring);
     }
-    search_elder_brother(&root_move, &item.board, worker);
+    search_elder_brother(root_move, &item.board, worker);
     let found = root_move.search_reply(item.board, worker);
-    settle(&root_move, worker);
+    settle(root_move, worker);
     found
 }
 

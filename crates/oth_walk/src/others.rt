@@ -1,11 +1,9 @@
 //! What a worker hears from the others and tells them while it searches the root's moves.
-ghost use Rattle.std.specs.Prelude.{◌≡◌, ◌≤ℤ◌};
-
 use crate::root_move::RootMove;
 use crate::shared::Search;
 use crate::way::{Walk, Way};
 use crate::window::shared_threshold;
-use oth_rules::{Board, Square};
+use oth_rules::Board;
 use oth_search::{Cells, Interval, NullWindow, Observer, Pace, Solved, put};
 
 /// The other workers of a search, as one of them knows them: by the table, the floor and the hints.
@@ -13,33 +11,6 @@ use oth_search::{Cells, Interval, NullWindow, Observer, Pace, Solved, put};
 pub(crate) struct Others<'a, 'w> {
     pub shared: &'a Search<'a>,
     pub way: &'a mut Way<'w>,
-}
-
-impl<'a, 'w> Others<'a, 'w> {
-    /// Closer bounds of a board below this move of the root, by a search that the workers share. They decide the window
-    /// unless it is given up, as where the floor rises.
-    pub fn narrow<C: Cells>(
-        &mut self,
-        square: Square,
-        known: &Solved,
-        window: NullWindow,
-        cells: &mut C,
-    ) -> Solved
-        ensures board { result.board ≡ known.now.board }
-        ensures scoring { result.scoring ≡ known.now.scoring }
-        ensures lower { known.now.interval.lower ≤ℤ result.interval.lower }
-        ensures upper { result.interval.upper ≤ℤ known.now.interval.upper }
-        ensures fixed { C.fixed cells.new ≡ C.fixed cells.old }
-    {
-        let least = self.way.floor();
-        let mut walk = Walk {
-            shared: self.shared,
-            square,
-            least,
-            way: &mut *self.way,
-        };
-        known.narrowed_in(window, cells, &mut walk)
-    }
 }
 
 impl<'a, 'w, C: Cells> Observer<C> for Others<'a, 'w> {
@@ -81,7 +52,13 @@ impl<'a, 'w, C: Cells> Observer<C> for Others<'a, 'w> {
         let Some(root_move) = RootMove::to(self.shared, &known.board) else {
             return *known;
         };
-        let found = self.narrow(root_move.square, known, NullWindow::at(alpha + 1), cells);
+        let mut walk = Walk {
+            shared: self.shared,
+            square: root_move.square,
+            least: self.way.floor(),
+            way: &mut *self.way,
+        };
+        let found = known.narrowed_in(NullWindow::at(alpha + 1), cells, &mut walk);
         put(&found, cells);
         self.way.raise_by(&root_move, &found);
         found

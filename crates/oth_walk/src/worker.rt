@@ -8,7 +8,7 @@ use crate::others::Others;
 use crate::root_bound::RootBound;
 use crate::root_move::RootMove;
 use crate::shared::Search;
-use crate::way::Way;
+use crate::way::{Walk, Way};
 use arrayvec::ArrayVec;
 use oth_rules::{Board, Scoring, Square};
 use oth_search::{
@@ -123,11 +123,13 @@ impl<'w, C: Cells> Worker<'w, C> {
         ensures board { result.board ≡ known.now.board }
         ensures scoring { result.scoring ≡ known.now.scoring }
     {
-        let mut others = Others {
+        let mut walk = Walk {
             shared: root_move.shared,
+            square: root_move.square,
+            least: self.way.floor(),
             way: &mut self.way,
         };
-        others.narrow(root_move.square, known, window, &mut self.cells)
+        known.narrowed_in(window, &mut self.cells, &mut walk)
     }
 
     /// What is known of the root: the floor, and what the cells and this worker's own searches tell of the boards after
