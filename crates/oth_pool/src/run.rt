@@ -14,8 +14,10 @@ use crate::work::{Job, Work};
 use crate::workers::work_all;
 use oth_pieces::{Drawn, Floor, FloorSeat, Frontier, Hand, Reply, Tasks};
 use oth_search::{Cells, Solved, order};
+use oth_table::TableCells;
 use oth_walk::{
-    Gate, HintSeat, Hints, RootBound, Search, Sharing, TableAccess, Worker, WorkerCells, orders_for,
+    Gate, HintSeat, Hints, RootBound, Search, Sharing, Worker, WorkerCells, orders_for,
+    worker_cells,
 };
 use std::alloc::Global;
 use std::thread::Threads;
@@ -53,7 +55,7 @@ pub fn run_workers<'t, R: Threads + Sync, G: Gate>(
     floor: &Floor,
     seat: &mut FloorSeat,
     workers: u8,
-    table: &mut Option<TableAccess<'t>>,
+    table: &mut Option<TableCells<'t>>,
     gate: &G,
 ) -> Gathered
     requires crew { IsCrew workers }
@@ -83,7 +85,7 @@ pub(crate) fn run<'t, R: Threads + Sync, G: Gate>(
     shared: &Search,
     floor: &Floor,
     seat: &mut FloorSeat,
-    table: &mut Option<TableAccess<'t>>,
+    table: &mut Option<TableCells<'t>>,
 ) -> (Gathered, Vec<Solved>)
     requires crew { IsCrew means.now.workers }
     requires seat { IsSeatOf floor.now seat.old }
@@ -106,7 +108,7 @@ fn run_linked<'w, 't, R: Threads + Sync, G: Gate>(
     shared: &Search,
     links: Links<'w>,
     seat: &mut FloorSeat,
-    table: &mut Option<TableAccess<'t>>,
+    table: &mut Option<TableCells<'t>>,
 ) -> (Gathered, Vec<Solved>)
     requires crew { IsCrew means.now.workers }
     requires seat { IsSeatOf links.floor.now seat.old }
@@ -168,7 +170,7 @@ fn workers_of<'w, 't, R, G>(
     shared: &Search,
     links: Links<'w>,
     seat: &mut FloorSeat,
-    table: &mut Option<TableAccess<'t>>,
+    table: &mut Option<TableCells<'t>>,
 ) -> Option<Vec<Worker<'w, WorkerCells<'t>>>>
     requires { IsSeatOf links.floor.now seat.old }
     ensures seat { LendsFloor seat.old seat.new }
@@ -185,7 +187,7 @@ fn workers_of<'w, 't, R, G>(
         };
         let root_bound = RootBound::of(links.floor, own);
         let hints = HintSeat::of(links.hints);
-        let cells = WorkerCells::of(alloc, shared.root.empties(), shared.shape.sharing, table);
+        let cells = worker_cells(alloc, shared.root.empties(), shared.shape.sharing, table);
         workers.push_reserved(Worker::of(shared, alloc, cells, root_bound, hints));
     }
     Some(workers)

@@ -15,8 +15,8 @@ use arrayvec::ArrayVec;
 use oth_book::Book;
 use oth_rules::{Board, Scoring};
 use oth_search::{NoCells, Scores, Solved, answer_by};
-use oth_table::SharedTable;
-use oth_walk::{Gate, TableAccess};
+use oth_table::{SharedTable, TableCells};
+use oth_walk::Gate;
 use std::alloc::Global;
 use std::thread::Threads;
 
@@ -73,7 +73,7 @@ fn replies_of<R: Threads + Sync, G: Gate>(
     let cells = cells_for(cells, board.empties());
     match SharedTable::new(means.alloc, cells, scoring) {
         Ok((table, seat)) => {
-            let mut access = Some(TableAccess::of(&table, seat));
+            let mut access = Some(TableCells::of(&table, seat));
             replies_over(means, board, book, scoring, &mut access)
         }
         Err(_) => replies_over(means, board, book, scoring, &mut None),
@@ -86,7 +86,7 @@ fn replies_over<'t, R: Threads + Sync, G: Gate>(
     board: &Board,
     book: Option<&Book>,
     scoring: Scoring,
-    access: &mut Option<TableAccess<'t>>,
+    access: &mut Option<TableCells<'t>>,
 ) -> ArrayVec<Solved, 64>
     requires few { IsSolvable board.now }
     requires crew { IsCrew means.now.workers }

@@ -19,10 +19,9 @@ use oth_search::{
     Answer, Cells, MOST_EMPTIES, Solved, Unobserved, before_pass, ended, known_below, order,
     solve_moves,
 };
-use oth_table::{SharedTable, is_size};
+use oth_table::{SharedTable, TableCells, is_size};
 use oth_walk::{
-    Gate, HintSeat, RootBound, RootMove, Search, Sharing, TableAccess, Worker, WorkerCells,
-    search_item,
+    Gate, HintSeat, RootBound, RootMove, Search, Sharing, Worker, search_item, worker_cells,
 };
 use std::alloc::Global;
 use std::thread::Threads;
@@ -137,7 +136,7 @@ fn answer_moves<R: Threads + Sync, G: Gate>(
     let cells = cells_for(cells, by_book.board.empties());
     match SharedTable::new(means.alloc, cells, by_book.scoring) {
         Ok((table, seat)) => {
-            let mut access = Some(TableAccess::of(&table, seat));
+            let mut access = Some(TableCells::of(&table, seat));
             answer_over(means, by_book, &mut access)
         }
         Err(_) => answer_over(means, by_book, &mut None),
@@ -148,7 +147,7 @@ fn answer_moves<R: Threads + Sync, G: Gate>(
 pub(crate) fn answer_over<'t, R: Threads + Sync, G: Gate>(
     means: &Means<R, G>,
     by_book: &Solved,
-    access: &mut Option<TableAccess<'t>>,
+    access: &mut Option<TableCells<'t>>,
 ) -> Answer
     requires some { can_move by_book.now.board ≡ true }
     requires few { IsSolvable by_book.now.board }
@@ -175,7 +174,7 @@ pub(crate) fn frontier_of(alloc: Global, board: &Board) -> Option<Box<Frontier>>
 fn answer_without_room<'t, R: Threads + Sync, G: Gate>(
     means: &Means<R, G>,
     by_book: &Solved,
-    access: &mut Option<TableAccess<'t>>,
+    access: &mut Option<TableCells<'t>>,
 ) -> Answer
     requires some { can_move by_book.now.board ≡ true }
     requires few { IsSolvable by_book.now.board }
@@ -192,7 +191,7 @@ fn answer_by_items<'t, R: Threads + Sync, G: Gate>(
     means: &Means<R, G>,
     by_book: &Solved,
     frontier: &Frontier,
-    access: &mut Option<TableAccess<'t>>,
+    access: &mut Option<TableCells<'t>>,
 ) -> Answer
     requires some { can_move by_book.now.board ≡ true }
     requires few { IsSolvable by_book.now.board }
@@ -222,13 +221,13 @@ fn answer_alone<'t, R: Threads + Sync, G: Gate>(
     means: &Means<R, G>,
     shared: &Search,
     by_book: &Solved,
-    access: &mut Option<TableAccess<'t>>,
+    access: &mut Option<TableCells<'t>>,
 ) -> Answer
     requires some { can_move by_book.now.board ≡ true }
     ensures board { result.board ≡ by_book.now.board }
     ensures scoring { result.scoring ≡ by_book.now.scoring }
 {
-    let mut cells = WorkerCells::of(means.alloc, shared.root.empties(), Sharing::Alone, access);
+    let mut cells = worker_cells(means.alloc, shared.root.empties(), Sharing::Alone, access);
     let mut announcer = Announcer::of(shared, means.gate);
     let answer = solve_moves(*by_book, &[], &mut cells, &mut announcer);
     announcer.finish();
@@ -241,7 +240,7 @@ fn answer_together<'t, R: Threads + Sync, G: Gate>(
     means: &Means<R, G>,
     shared: &Search,
     by_book: &Solved,
-    access: &mut Option<TableAccess<'t>>,
+    access: &mut Option<TableCells<'t>>,
 ) -> Option<Answer>
     requires some { can_move by_book.now.board ≡ true }
     requires crew { IsCrew means.now.workers }
@@ -251,7 +250,7 @@ fn answer_together<'t, R: Threads + Sync, G: Gate>(
     let alloc = means.alloc;
     let (floor, mut seat) = raised_floor(alloc, by_book)?;
     let (gathered, found) = run(means, shared, &floor, &mut seat, access);
-    let cells = WorkerCells::of(alloc, shared.root.empties(), shared.shape.sharing, access);
+    let cells = worker_cells(alloc, shared.root.empties(), shared.shape.sharing, access);
     let bound = RootBound::of(&floor, seat);
     let mut worker = Worker::of(shared, alloc, cells, bound, HintSeat::none());
     take_in(shared, found.as_slice(), &mut worker);

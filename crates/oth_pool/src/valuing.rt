@@ -11,7 +11,8 @@ use crate::solving::{answer_over, crew, frontier_of};
 use arrayvec::ArrayVec;
 use oth_pieces::{Frontier, awake};
 use oth_search::{Cells, Interval, Solved, ended, order, value_of};
-use oth_walk::{Gate, Search, Sharing, TableAccess, WorkerCells};
+use oth_table::TableCells;
+use oth_walk::{Gate, Search, Sharing, WorkerCells, worker_cells};
 use std::thread::Threads;
 
 // What one worker searches over, and the boards that it has valued.
@@ -27,7 +28,7 @@ pub(crate) fn valued_apart<'t, R: Threads + Sync, G: Gate>(
     means: &Means<R, G>,
     queue: &Queue,
     empties: u8,
-    access: &mut Option<TableAccess<'t>>,
+    access: &mut Option<TableCells<'t>>,
 ) -> ArrayVec<Solved, 64> {
     let mut valuers = valuers_of(means, empties, access);
     for_each_at_once(
@@ -47,7 +48,7 @@ pub(crate) fn valued_apart<'t, R: Threads + Sync, G: Gate>(
 pub(crate) fn valued_together<'t, R: Threads + Sync, G: Gate>(
     means: &Means<R, G>,
     queue: &Queue,
-    access: &mut Option<TableAccess<'t>>,
+    access: &mut Option<TableCells<'t>>,
 ) -> ArrayVec<Solved, 64>
     requires { IsCrew means.now.workers }
 {
@@ -65,7 +66,7 @@ pub(crate) fn valued_together<'t, R: Threads + Sync, G: Gate>(
 fn valuers_of<'t, R, G>(
     means: &Means<R, G>,
     empties: u8,
-    access: &mut Option<TableAccess<'t>>,
+    access: &mut Option<TableCells<'t>>,
 ) -> Vec<Valuer<'t>> {
     let mut valuers = room_for(means.alloc, u32::from(means.workers));
     for _ in 0..means.workers {
@@ -82,14 +83,14 @@ fn valuers_of<'t, R, G>(
 fn cells_of<'t, R, G>(
     means: &Means<R, G>,
     empties: u8,
-    access: &mut Option<TableAccess<'t>>,
+    access: &mut Option<TableCells<'t>>,
 ) -> WorkerCells<'t> {
     let sharing = if means.workers == 1 {
         Sharing::Alone
     } else {
         Sharing::of_several(access.is_some())
     };
-    WorkerCells::of(means.alloc, empties, sharing, access)
+    worker_cells(means.alloc, empties, sharing, access)
 }
 
 // Values the next boards of the queue, until all are taken.
@@ -175,7 +176,7 @@ fn value_by_items<R, G: Gate, C: Cells>(
 fn value_together<'t, R: Threads + Sync, G: Gate>(
     means: &Means<R, G>,
     by_book: &Solved,
-    access: &mut Option<TableAccess<'t>>,
+    access: &mut Option<TableCells<'t>>,
 ) -> Solved
     requires few { IsSolvable by_book.now.board }
     requires crew { IsCrew means.now.workers }

@@ -15,11 +15,11 @@ mod together;
 mod view;
 mod walk;
 
-use oth_pool::{Floor, Frontier, Open, SolveError, TableAccess, WorkerCells, run_workers, solve};
+use oth_pool::{Floor, Frontier, Open, SolveError, WorkerCells, run_workers, solve, worker_cells};
 use oth_rules::samples::board;
 use oth_rules::{Board, Scoring, Square};
 use oth_search::{Answer, Cells, Kind};
-use oth_table::SharedTable;
+use oth_table::{SharedTable, TableCells};
 use oth_walk::Sharing;
 use std::alloc::Global;
 use std::test::Fail;
@@ -78,7 +78,7 @@ fn workers_search_over_the_table(rt: HostRuntime) -> Result<(), Fail> {
     let Ok((table, own)) = SharedTable::new(rt.alloc(), 1, Scoring::Winner) else {
         panic!(rt; "no table")
     };
-    let mut access = Some(TableAccess::of(&table, own));
+    let mut access = Some(TableCells::of(&table, own));
     let found = run_workers(
         &rt,
         rt.alloc(),
@@ -90,7 +90,7 @@ fn workers_search_over_the_table(rt: HostRuntime) -> Result<(), Fail> {
         &Open,
     );
     assert!(rt; found.drawn.left.is_empty() && found.replies.len() == 2);
-    let mut cells = WorkerCells::of(rt.alloc(), 0, Sharing::Apart, &mut access);
+    let mut cells = worker_cells(rt.alloc(), 0, Sharing::Apart, &mut access);
     let mut whole = false;
     for number in [1, 7] {
         if let Some(child) = a.play(Square::numbered(number)) {

@@ -6,8 +6,8 @@ use crate::entry::Entry;
 use crate::solved::Solved;
 use oth_rules::{Board, Scoring};
 
-/// Where a search keeps what it found. Nothing is promised of what is kept, but that `look` gives only an entry of the
-/// board and scoring that it is asked for.
+/// Where a search keeps what it found: by default nowhere. Nothing is promised of what is kept, but that `look` gives
+/// only an entry of the board and scoring that it is asked for.
 pub trait Cells {
     /// What no call changes, as the table on which the cells stand.
     ghost Fixed: { Type 0 };
@@ -15,14 +15,18 @@ pub trait Cells {
     ghost fixed: { Self → Fixed };
 
     /// An entry of a canonical board under the asked scoring, if one is kept.
-    fn look(&mut self, board: &Board, scoring: Scoring) -> Option<Entry>
-        requires { IsCanonical board.now }
-        ensures asked { IfSome result (λ e. (e.board ≡ board.now) × (e.scoring ≡ scoring)) }
-        ensures fixed { fixed self.new ≡ fixed self.old };
+    fn look(&mut self, _board: &Board, _scoring: Scoring) -> Option<Entry>
+        requires { IsCanonical _board.now }
+        ensures asked { IfSome result (λ e. (e.board ≡ _board.now) × (e.scoring ≡ _scoring)) }
+        ensures fixed { fixed self.new ≡ fixed self.old }
+    {
+        None
+    }
 
     /// Offers an entry. The cells are free to drop it.
-    fn put(&mut self, entry: &Entry)
-        ensures fixed { fixed self.new ≡ fixed self.old };
+    fn put(&mut self, _entry: &Entry)
+        ensures fixed { fixed self.new ≡ fixed self.old }
+    {}
 
     /// Whether boards with so many empty squares, 9 and more, are remembered too, and neither looked up nor put: by
     /// default they are not.
@@ -59,6 +63,41 @@ impl Cells for NoCells {
     {
         None
     }
+}
 
-    fn put(&mut self, _entry: &Entry) {}
+/// Cells that may be missing: then nothing is found and nothing is kept.
+impl<C: Cells> Cells for Option<C> {
+    ghost use Rattle.std.specs.Prelude.{Option};
+    ghost use Rattle.std.specs.Option.{option_map};
+
+    ghost Fixed = { Option C.Fixed };
+
+    ghost fixed = { λ cells. option_map C.fixed cells };
+
+    fn look(&mut self, board: &Board, scoring: Scoring) -> Option<Entry> {
+        self.as_mut()?.look(board, scoring)
+    }
+
+    fn put(&mut self, entry: &Entry) {
+        if let Some(cells) = self {
+            cells.put(entry);
+        }
+    }
+
+    fn remembers(&self, empties: u8) -> bool {
+        match self {
+            Some(cells) => cells.remembers(empties),
+            None => false,
+        }
+    }
+
+    fn recall(&mut self, board: &Board, scoring: Scoring) -> Option<Solved> {
+        self.as_mut()?.recall(board, scoring)
+    }
+
+    fn remember(&mut self, solved: &Solved) {
+        if let Some(cells) = self {
+            cells.remember(solved);
+        }
+    }
 }

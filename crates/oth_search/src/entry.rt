@@ -101,11 +101,7 @@ impl Entry {
         ensures lower { result.interval.lower ≡ self.now.lower }
         ensures upper { result.interval.upper ≡ self.now.upper }
     {
-        Solved {
-            board: self.board,
-            scoring: self.scoring,
-            interval: self.interval(),
-        }
+        Solved::between(self.board, self.scoring, self.lower, self.upper)
     }
 
     /// Own discs, opposing discs, and the packed bounds: `(lower + 64) + 256 * (upper + 64)`.

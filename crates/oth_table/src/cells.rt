@@ -1,8 +1,8 @@
 //! A table as a search uses it: two cells for each board.
-ghost use Rattle.std.specs.Prelude.{◌≡◌, ◌≢◌, ◌<◌, IfSome, None};
+ghost use Rattle.std.specs.Prelude.{◌≡◌, ◌≢◌, ◌<◌, IfSome, IsNone, None};
 ghost use Rattle.oth_rules.specs.Symmetry.{IsCanonical};
 ghost use Rattle.oth_table.specs.Sizes.{IsSize};
-ghost use Rattle.oth_table.specs.SharedTable.{IsSeatOf, IsFoundBy};
+ghost use Rattle.oth_table.specs.SharedTable.{IsSame, IsSeatOf, IsFoundBy, Makes};
 ghost use Rattle.oth_table.specs.Pairs.{LooksAt, PutsAt, LooksBoth, LooksFor, PutsFor};
 ghost use Rattle.oth_table.specs.Parts.{fixed_of};
 
@@ -10,6 +10,7 @@ use crate::choice::{entry_in, picked, place, second};
 use crate::table::{Look, Put, SharedTable, TableSeat};
 use oth_rules::{Board, Scoring};
 use oth_search::{Cells, Entry, Solved};
+use std::alloc::Global;
 use std::marker::Model;
 
 /// A table and a seat at it, as the cells in which a search keeps what it found.
@@ -48,6 +49,21 @@ impl<'a> TableCells<'a> {
     {
         let TableCells { table: _, seat } = self;
         seat
+    }
+
+    /// Cells of the same table by a further seat of it; none where there is no memory for one. Its making stands in the
+    /// history that both seats have then seen. It takes two atomic steps.
+    pub fn another(&mut self, alloc: Global) -> Option<TableCells<'a>>
+        ensures table { self.new.table ≡ self.old.table }
+        ensures same { IsSame self.old.seat self.new.seat }
+        ensures made { IfSome result (λ cells. (cells.table ≡ self.old.table)
+            × Makes self.old.seat self.new.seat cells.seat) }
+        ensures none { IsNone result → self.new ≡ self.old }
+    {
+        let Ok(seat) = self.table.seat(alloc, &mut self.seat) else {
+            return None;
+        };
+        Some(TableCells::of(self.table, seat))
     }
 
     // The number of the table's cells.

@@ -1,10 +1,10 @@
 -- Seats that are lent one after the other.
-use Rattle.std.proofs.Common.{◌≡◌, List, [], ◌∷◌, ◌++◌, refl, sym, ap, ◌∙◌, subst, append_assoc, Option, Some, None}
+use Rattle.std.proofs.Common.{◌≡◌, List, [], ◌∷◌, ◌++◌, refl, sym, ap, ◌∙◌, subst, append_assoc, Option, Some, None, IfSome, IsNone}
 use Rattle.std.proofs.lemmas.List.Elements.{All-nil, All-cons, All-append}
 use Rattle.oth_history.specs.History.{Name, events_of, EndsBy}
-use Rattle.oth_history.proofs.Histories.{begins_then, ends_begins, events_of-own, events_of-since}
-use Rattle.oth_table.specs.Parts.{Use, Shape, Sitting}
-use Rattle.oth_table.specs.SharedTable.{Makes}
+use Rattle.oth_history.proofs.Histories.{begins_itself, begins_then, ends_begins, events_of-own, events_of-since}
+use Rattle.oth_table.specs.Parts.{Use}
+use Rattle.oth_table.specs.SharedTable.{IsSame, Makes}
 use Rattle.oth_table.specs.History as tables
 use Rattle.oth_table.specs.declared.history.Event as table_events
 use Rattle.oth_pieces.specs.History.{author, makes, Fits, IsLegal}
@@ -55,6 +55,16 @@ LendsSeat-then a b c one two =
       legal = λ was. stays (one.legal was);
     }
 
+-- nothing is made
+pub LendsSeat-nothing : (u : Use) → LendsSeat u u
+LendsSeat-nothing u = record {
+  table = refl;
+  seat = (refl, refl, refl);
+  begins = begins_itself u.seat.seen;
+  mine = ([], refl, All-nil (IsMaking tables.author tables.makes));
+  legal = λ was. was;
+}
+
 pub LendsTable-then : (a b c : Option Use) → LendsTable a b → LendsTable b c → LendsTable a c
 LendsTable-then None None None one two = tt
 LendsTable-then None None (Some c) one two = two
@@ -63,15 +73,17 @@ LendsTable-then (Some a) None c one two = absurd one
 LendsTable-then (Some a) (Some b) None one two = two
 LendsTable-then (Some a) (Some b) (Some c) one two = LendsSeat-then a b c one two
 
--- a further seat of the table is made
-pub LendsSeat-made : (t : Shape) (s u new : Sitting) → (u.table ≡ s.table) × (u.terms ≡ s.terms) × (u.name ≡ s.name) → Makes s u new
-    → LendsSeat (record { table = t; seat = s }) (record { table = t; seat = u })
-LendsSeat-made t s u new same made =
-    let e : table_events.Event = table_events.TheVariants.Made s.name new.name in
+-- a further seat of the table is made, or there is no memory for one
+pub LendsSeat-another : (u v : Use) (another : Option Use) → v.table ≡ u.table → IsSame u.seat v.seat
+    → IfSome another (λ c. (c.table ≡ u.table) × Makes u.seat v.seat c.seat) → (IsNone another → v ≡ u) → LendsSeat u v
+LendsSeat-another u v None table same made none = subst (LendsSeat u) (sym (none refl)) (LendsSeat-nothing u)
+LendsSeat-another u v (Some c) table same made none =
+    let e : table_events.Event = table_events.TheVariants.Made u.seat.name c.seat.name in
+    let ends = made.1.ends in
     record {
-      table = refl;
+      table = table;
       seat = same;
-      begins = ends_begins tables.author tables.makes (tables.Fits s.terms) s.name s.seen u.seen e made.ends;
-      mine = makes_one tables.author tables.makes (tables.Fits s.terms) s.name s.seen u.seen e refl (new.name, refl) made.ends;
-      legal = λ was. made.ends.legal;
+      begins = ends_begins tables.author tables.makes (tables.Fits u.seat.terms) u.seat.name u.seat.seen v.seat.seen e ends;
+      mine = makes_one tables.author tables.makes (tables.Fits u.seat.terms) u.seat.name u.seat.seen v.seat.seen e refl (c.seat.name, refl) ends;
+      legal = λ was. ends.legal;
     }

@@ -17,7 +17,7 @@ mod way;
 mod window;
 mod worker;
 
-pub use access::{TableAccess, WorkerCells};
+pub use access::{WorkerCells, worker_cells};
 pub use drawn::{search_item, settle_all};
 pub use gate::{Gate, Open};
 pub use hints::{HintSeat, Hints};

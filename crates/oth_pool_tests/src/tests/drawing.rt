@@ -4,10 +4,10 @@ use super::crews::{BOARDS, check_board};
 use super::rows::ROWS;
 use super::view::TableView;
 use super::{A, board, solved};
-use oth_pool::{Floor, Frontier, Gate, Open, TableAccess, run_workers, solve};
+use oth_pool::{Floor, Frontier, Gate, Open, run_workers, solve};
 use oth_rules::{Board, Scoring};
 use oth_search::solve_alone;
-use oth_table::{Look, SharedTable};
+use oth_table::{Look, SharedTable, TableCells};
 use std::process::Abort;
 use std::sync::atomic::{AtomicU64, Ordering};
 use std::test::Fail;
@@ -42,7 +42,7 @@ fn check_left<R: Threads + Sync + AllocGlobal + Abort>(rt: &R, root: &Board, fro
     let Ok((table, own)) = SharedTable::new(rt.alloc(), 1, Scoring::Winner) else {
         panic!(rt; "no table")
     };
-    let mut access = Some(TableAccess::of(&table, own));
+    let mut access = Some(TableCells::of(&table, own));
     let alloc = rt.alloc();
     let found = run_workers(
         rt,
@@ -135,7 +135,7 @@ fn nothing_is_searched_before_the_first_item_is_announced(rt: HostRuntime) -> Re
     let Ok((table, own)) = SharedTable::new(rt.alloc(), 4096, Scoring::Winner) else {
         panic!(rt; "no table")
     };
-    let mut access = Some(TableAccess::of(&table, own));
+    let mut access = Some(TableCells::of(&table, own));
     let gate = Watching {
         view: TableView::of(rt.alloc(), &mut access, root),
         calls: AtomicU64::new(0),

@@ -4,10 +4,10 @@ use super::board;
 use super::crews::BOARDS;
 use super::rows::ROWS;
 use super::view::TableView;
-use oth_pool::{Floor, Frontier, Gate, Open, TableAccess, WorkerCells, run_workers};
+use oth_pool::{Floor, Frontier, Gate, Open, run_workers, worker_cells};
 use oth_rules::{Board, Scoring};
 use oth_search::{Answer, Kind, solve_with};
-use oth_table::SharedTable;
+use oth_table::{SharedTable, TableCells};
 use oth_walk::Sharing;
 use std::alloc::Global;
 use std::process::Abort;
@@ -90,7 +90,7 @@ fn search_by_two<'t, R: Threads + Sync + AllocGlobal + Abort, G: Gate>(
     rt: &R,
     frontier: &Frontier,
     root: &Board,
-    access: &mut Option<TableAccess<'t>>,
+    access: &mut Option<TableCells<'t>>,
     gate: &G,
 ) {
     let alloc = rt.alloc();
@@ -112,7 +112,7 @@ fn each_of_two_workers_searches_its_first_item(rt: HostRuntime) -> Result<(), Fa
         let Ok((table, own)) = SharedTable::new(rt.alloc(), 4_096, Scoring::Winner) else {
             panic!(rt; "no table")
         };
-        let mut access = Some(TableAccess::of(&table, own));
+        let mut access = Some(TableCells::of(&table, own));
         let view = TableView::of(rt.alloc(), &mut access, root);
         let gate = Beginning::of(view, &frontier);
         search_by_two(&rt, &frontier, &root, &mut access, &gate);
@@ -133,7 +133,7 @@ fn by_sixteen<R: Threads + Sync>(rt: &R, alloc: Global, words: [u64; 2]) -> Opti
     let Ok((table, own)) = SharedTable::new(alloc, 1, Scoring::Winner) else {
         return None;
     };
-    let mut access = Some(TableAccess::of(&table, own));
+    let mut access = Some(TableCells::of(&table, own));
     let found = run_workers(
         rt,
         alloc,
@@ -147,7 +147,7 @@ fn by_sixteen<R: Threads + Sync>(rt: &R, alloc: Global, words: [u64; 2]) -> Opti
     if !found.drawn.left.is_empty() || found.drawn.lists.len() != 16 {
         return None;
     }
-    let mut cells = WorkerCells::of(alloc, 0, Sharing::Apart, &mut access);
+    let mut cells = worker_cells(alloc, 0, Sharing::Apart, &mut access);
     let answer = solve_with(root, &mut cells, Scoring::Winner);
     Some((floor.read(&mut seat), answer))
 }

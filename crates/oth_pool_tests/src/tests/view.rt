@@ -1,8 +1,9 @@
 //! A table as a gate sees it.
 
 use super::has_entry;
-use oth_pool::{TableAccess, WorkerCells};
+use oth_pool::{WorkerCells, worker_cells};
 use oth_rules::{Board, Square};
+use oth_table::TableCells;
 use oth_walk::Sharing;
 use std::alloc::Global;
 use std::sync::Mutex;
@@ -18,11 +19,11 @@ pub(super) struct TableView<'t> {
 impl<'t> TableView<'t> {
     pub(super) fn of(
         alloc: Global,
-        access: &mut Option<TableAccess<'t>>,
+        access: &mut Option<TableCells<'t>>,
         root: Board,
     ) -> TableView<'t> {
         TableView {
-            cells: Mutex::new(WorkerCells::of(alloc, 0, Sharing::Apart, access)),
+            cells: Mutex::new(worker_cells(alloc, 0, Sharing::Apart, access)),
             root,
         }
     }

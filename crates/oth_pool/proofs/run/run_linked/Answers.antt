@@ -1,7 +1,8 @@
-use Rattle.std.proofs.Common.{◌≤◌, ◌∙◌, ℕ, List, map, subst, sym}
+use Rattle.std.proofs.Common.{◌≤◌, ◌∙◌, ℕ, List, Option, map, subst, sym}
 use Rattle.std.specs.List.{All}
 use Rattle.oth_rules.specs.declared.scoring.Scoring.{Scoring}
-use Rattle.oth_walk.specs.declared.access.WorkerCells.{WorkerCells}
+use Rattle.oth_search.specs.declared.memo.MemoCells.{MemoCells}
+use Rattle.oth_table.specs.Parts.{Use}
 use Rattle.oth_pool.specs.declared.work.Job.{Job}
 use Rattle.oth_pool.specs.declared.run.Gathered.{Gathered}
 use Rattle.oth_pieces.specs.declared.frontier.item.Item.{Item}
@@ -15,11 +16,11 @@ pub returns-clause-gathered : goal.returns-clause-gathered
 returns-clause-gathered g c =
     let items : List Item = c.args.shared.now.frontier.now in
     let scoring : Scoring = c.args.shared.now.scoring in
-    let jobs : List (Job WorkerCells) = c.run_jobs-jobs.result.items in
+    let jobs : List (Job (MemoCells (Option Use))) = c.run_jobs-jobs.result.items in
     let all : Gathered = record { drawn = c.close-drawn-2.result; replies = c.replies_of-replies.result } in
-    let H : List (Job WorkerCells) → Type 0 = All (λ (j : Job WorkerCells). Holds items scoring j.work) in
+    let H : List (Job (MemoCells (Option Use))) → Type 0 = All (λ (j : Job (MemoCells (Option Use))). Holds items scoring j.work) in
     let each : H c.as_slice-2.result.now = subst H (sym c.as_slice-2.ensures.value) c.run_jobs-jobs.ensures.each in
-    let P : List (Job WorkerCells) → Type 0 = λ js. (x : ℕ) → times x (numbers_of c.replies_of-replies.result.items) ≤ times_by x (map (λ (j : Job WorkerCells). j.work) js) in
-    gathered items scoring (count_of c.in-Ok.tasks) (map (λ (j : Job WorkerCells). j.work) jobs) c.hands_in-hands.result.items all
+    let P : List (Job (MemoCells (Option Use))) → Type 0 = λ js. (x : ℕ) → times x (numbers_of c.replies_of-replies.result.items) ≤ times_by x (map (λ (j : Job (MemoCells (Option Use))). j.work) js) in
+    gathered items scoring (count_of c.in-Ok.tasks) (map (λ (j : Job (MemoCells (Option Use))). j.work) jobs) c.hands_in-hands.result.items all
     c.in-Ok.ensures.count c.close-drawn-2.ensures.once c.close-drawn-2.ensures.lists (c.hands_in-hands.ensures ∙ twice jobs)
     (c.replies_of-replies.ensures.replies items scoring each) (subst P c.as_slice-2.ensures.value (c.replies_of-replies.ensures.once items scoring each))

@@ -12,5 +12,5 @@ loop-preserved g c =
       omega (arith, pushed.capacity),
       (same.0 ∙ inv.2.0, same.1 ∙ inv.2.1),
       LendsFloor-made _ _ _ _ inv.3 made,
-      LendsTable-then _ _ _ inv.4 c.of-cells.ensures.lends,
+      LendsTable-then _ _ _ inv.4 c.worker_cells-cells.ensures.lends,
     )
