@@ -14,13 +14,14 @@ use Rattle.oth_pool.proofs.run.run_linked.Goals as goal
 
 pub returns-clause-gathered : goal.returns-clause-gathered
 returns-clause-gathered g c =
+    let J : Type 0 = Job (MemoCells (Option Use)) in
     let items : List Item = c.args.shared.now.frontier.now in
     let scoring : Scoring = c.args.shared.now.scoring in
-    let jobs : List (Job (MemoCells (Option Use))) = c.run_jobs-jobs.result.items in
+    let jobs : List J = c.run_jobs-jobs.result.items in
     let all : Gathered = record { drawn = c.close-drawn-2.result; replies = c.replies_of-replies.result } in
-    let H : List (Job (MemoCells (Option Use))) → Type 0 = All (λ (j : Job (MemoCells (Option Use))). Holds items scoring j.work) in
+    let H : List J → Type 0 = All (λ (j : J). Holds items scoring j.work) in
     let each : H c.as_slice-2.result.now = subst H (sym c.as_slice-2.ensures.value) c.run_jobs-jobs.ensures.each in
-    let P : List (Job (MemoCells (Option Use))) → Type 0 = λ js. (x : ℕ) → times x (numbers_of c.replies_of-replies.result.items) ≤ times_by x (map (λ (j : Job (MemoCells (Option Use))). j.work) js) in
-    gathered items scoring (count_of c.in-Ok.tasks) (map (λ (j : Job (MemoCells (Option Use))). j.work) jobs) c.hands_in-hands.result.items all
+    let P : List J → Type 0 = λ js. (x : ℕ) → times x (numbers_of c.replies_of-replies.result.items) ≤ times_by x (map (λ (j : J). j.work) js) in
+    gathered items scoring (count_of c.in-Ok.tasks) (map (λ (j : J). j.work) jobs) c.hands_in-hands.result.items all
     c.in-Ok.ensures.count c.close-drawn-2.ensures.once c.close-drawn-2.ensures.lists (c.hands_in-hands.ensures ∙ twice jobs)
     (c.replies_of-replies.ensures.replies items scoring each) (subst P c.as_slice-2.ensures.value (c.replies_of-replies.ensures.once items scoring each))
