@@ -48,14 +48,6 @@ OnRefusal (Err Write) P = ⊤
 OnRefusal (Err Workers) P = P
 OnRefusal (Err Cells) P = P
 
--- the settings are not refused
-abbrev pub IsPastTests : Result (Unit {0}) RunFault → Type 0
-IsPastTests (Ok done) = ⊤
-IsPastTests (Err Read) = ⊤
-IsPastTests (Err Write) = ⊤
-IsPastTests (Err Workers) = ⊥
-IsPastTests (Err Cells) = ⊥
-
 -- the number that `run error` is printed with
 abbrev pub number_of : RunFault → ℕ
 number_of Read = 1

@@ -3,8 +3,7 @@
 ghost use Rattle.std.specs.Prelude.{◌≡◌, ℕ, List, [], false, true, OnOk};
 ghost use Rattle.std.specs.Io.KnownBytes.{Appends, Consumes, IsAtEnd};
 ghost use Rattle.oth_run.specs.Reply.{reply};
-ghost use Rattle.oth_run.specs.Run.{FailsBy, IsPastTests, OnRefusal, RefusesBy};
-ghost use Rattle.oth_run.specs.Run.{Writes};
+ghost use Rattle.oth_run.specs.Run.{FailsBy, OnRefusal, RefusesBy, Writes};
 
 use crate::checking::Lawful;
 use crate::engine::Engine;
@@ -58,29 +57,9 @@ pub fn run<T: Wait + Threads + Sync, R: Source, W: Sink, G: Gate>(
         gate,
         book,
     };
-    run_lines(&solver, reader, writer, &lawful)
-}
-
-// The run by settings that were tested.
-fn run_lines<T: Wait + Threads + Sync, R: Source, W: Sink, G: Gate>(
-    solver: &Solver<'_, T, G>,
-    reader: &mut R,
-    writer: &mut W,
-    settings: &Lawful,
-) -> Result<(), RunFault>
-    requires reader { R.failed reader.old ≡ false }
-    requires writer { W.failed writer.old ≡ false }
-    ensures bytes { (input written : List ℕ) × Consumes (R.remaining reader.old) (R.remaining reader.new) input
-        × Appends (W.contents writer.old) (W.contents writer.new) written
-        × Writes (reply settings.now) result input written }
-    ensures end { OnOk result (IsAtEnd (R.remaining reader.new)) }
-    ensures flushed { OnOk result (W.flushed writer.new ≡ true) }
-    ensures devices { FailsBy result (R.failed reader.new) (W.failed writer.new) }
-    ensures past_tests { IsPastTests result }
-{
-    let mut engine = Engine::new(settings.get().command);
-    engine.run_ended(solver, reader, writer, settings)?;
-    match engine.finish(solver, settings, writer) {
+    let mut engine = Engine::new(settings.command);
+    engine.run_ended(&solver, reader, writer, &lawful)?;
+    match engine.finish(&solver, &lawful, writer) {
         Ok(()) => Ok(()),
         Err(_) => Err(RunFault::Write),
     }
