@@ -19,7 +19,7 @@ pub fn worker_cells<'t>(
 ) -> WorkerCells<'t>
     ensures lends { LendsTable table.old table.new }
 {
-    let memories = Memories::of(alloc, empties, sharing.is_alone());
+    let memories = Memories::of(alloc, empties, !sharing.is_over_table());
     match table {
         Some(table) => MemoCells::of(table.another(alloc), memories),
         None => MemoCells::of(None, memories),

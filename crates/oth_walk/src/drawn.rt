@@ -85,9 +85,13 @@ fn is_reply(item: &Item, root_move: &RootMove) -> bool {
     item.same_mover && item.board.can_move() && root_move.child.can_move()
 }
 
-// Settles the move, unless another worker is at it of which nothing could be learnt on the way.
+// Settles the move, unless another worker is at it of which nothing could be learnt on the way. Until there is a floor
+// a move is only asked for what the root seems to reach: none but one that may reach it is searched to its value.
 fn settle_alone<C: Cells>(root_move: &RootMove, worker: &mut Worker<C>) {
-    if !worker.is_taken(&root_move.child) {
+    if worker.is_taken(&root_move.child) {
+        return;
+    }
+    if worker.floor() > -64 || worker.ask(root_move) {
         settle(root_move, worker);
     }
 }

@@ -57,7 +57,7 @@ impl<'s> Search<'s> {
 
     /// Whether several workers learn from a table what the others found.
     pub fn shares(&self) -> bool {
-        matches!(self.shape.sharing, Sharing::OverTable)
+        self.shape.sharing.is_over_table()
     }
 }
 
@@ -82,9 +82,9 @@ impl Sharing {
         }
     }
 
-    /// Whether nobody learns what a worker finds.
-    pub fn is_alone(self) -> bool {
-        matches!(self, Sharing::Alone)
+    /// Whether each worker learns what the others find.
+    pub fn is_over_table(self) -> bool {
+        matches!(self, Sharing::OverTable)
     }
 }
 

@@ -2,6 +2,7 @@
 //! them. A node that another worker is at is deferred, as in ABDADA (Weill, The ABDADA distributed minimax-search
 //! algorithm, 1996).
 ghost use Rattle.std.specs.Prelude.{◌≡◌, pos, negsuc, ◌≤ℤ◌};
+ghost use Rattle.oth_search.specs.Interval.{IsThreshold};
 
 use crate::hints::HintSeat;
 use crate::move_order::MoveOrder;
@@ -82,6 +83,13 @@ impl<'w> Way<'w> {
     pub fn settle(&mut self, square: Square) {
         self.settled |= square.word();
         self.hints.settle(square);
+    }
+
+    /// Whether another worker has told that the board seems to have more than this.
+    pub fn is_told_above(&mut self, board: &Board, alpha: i8) -> bool
+        requires { IsThreshold alpha }
+    {
+        self.hints.seen(board, alpha + 1) == Some(true)
     }
 
     /// How many of the root's moves need no further search.
@@ -194,10 +202,10 @@ impl<'a, 'w, C: Cells> Company<C> for Walk<'a, 'w> {
     }
 
     // The floor has risen, the root's move is settled, or the cells tell what one of the searches under way is to
-    // decide.
+    // decide. Without a table a search goes on at a higher floor: what it has found so far would be lost.
     fn gives_up(&mut self, searched: &Board, cells: &mut C) -> bool {
         let most = self.goals_after(searched.empties());
-        self.way.floor() > self.least
+        self.shared.shares() && self.way.floor() > self.least
             || self.way.is_settled(self.square)
             || self.is_any_decided(most, cells)
     }

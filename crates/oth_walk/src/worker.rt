@@ -12,8 +12,8 @@ use crate::way::{Walk, Way};
 use arrayvec::ArrayVec;
 use oth_rules::{Board, Scoring, Square};
 use oth_search::{
-    Cells, NullWindow, Quest, Solved, first_threshold, known_below, lead, put, replies_to,
-    settle_at,
+    Cells, NullWindow, Observer, Quest, Solved, first_threshold, known_below, lead, put,
+    replies_to, settle_at,
 };
 use std::alloc::Global;
 
@@ -81,6 +81,31 @@ impl<'w, C: Cells> Worker<'w, C> {
         let replies = self.replies.as_mut_slice();
         settle_at(replies, place, quest, &mut self.cells, &mut others);
         self.note_at(shared, place);
+    }
+
+    /// Asks the root's move for what the root seems to reach, unless it is known to miss that. Whether the move may
+    /// reach it.
+    pub(crate) fn ask(&mut self, root_move: &RootMove) -> bool {
+        let most = quest_from(self.guess(root_move.shared).score).start;
+        let place = self.place_of(&root_move.child);
+        let Some(known) = self.replies.get(place).copied() else {
+            return false;
+        };
+        if known.interval.lower > most || self.way.is_told_above(&known.board, most) {
+            return false;
+        }
+        self.begin(&known.board);
+        let mut others = Others {
+            shared: root_move.shared,
+            way: &mut self.way,
+        };
+        let found = others.decide(&known, most, &mut self.cells);
+        self.end(&known.board);
+        self.keep(root_move, &found);
+        if found.interval.lower > most {
+            self.way.hints.tell_seen(&known.board, most + 1, true);
+        }
+        found.interval.lower <= most
     }
 
     // Tells the others of the root's move to the board at this place, if it needs no further search.
