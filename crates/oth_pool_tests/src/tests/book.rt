@@ -4,8 +4,8 @@ use super::crews::BOARDS;
 use super::gate::Hearing;
 use super::{A, B, C, board};
 use oth_book::{Added, Book};
-use oth_pool::{Gate, solve};
-use oth_rules::{Board, Scoring};
+use oth_pool::{Gate, Open, scores, solve};
+use oth_rules::{Board, Scoring, Square};
 use oth_search::{Answer, Kind, NoCells, Solved, solve_alone};
 use std::alloc::Global;
 use std::process::Abort;
@@ -45,6 +45,18 @@ fn bounded_book(
     }
 }
 
+// The book of the answers of the boards after the root's moves.
+fn book_of_replies(alloc: Global, root: &Board, scoring: Scoring) -> Option<Book> {
+    let mut book = Book::new(alloc, scoring);
+    for number in 0..64 {
+        if let Some(child) = root.play(Square::numbered(number)) {
+            let answer = solve_alone(&child, scoring).ok()?;
+            book.add(&answer).ok()?;
+        }
+    }
+    Some(book)
+}
+
 // What two workers answer with the book, where the gate hears just once of each of so many items.
 fn solved_by<R: Threads + Sync>(
     rt: &R,
@@ -75,6 +87,37 @@ fn the_gate_hears_nothing_of_a_board_that_the_book_has(rt: HostRuntime) {
     assert!(rt; absent == Some((64, 0x81, Kind::Move)));
     let discs = solved_by(&rt, rt.alloc(), &book, A, Scoring::Discs, 2);
     assert!(rt; discs == Some((-49, 0x80, Kind::Move)));
+}
+
+#[test]
+fn the_gate_hears_nothing_of_scores_that_the_book_has(rt: HostRuntime) {
+    let Some(root) = board(BOARDS[0]) else {
+        panic!(rt; "no board")
+    };
+    let alloc = rt.alloc();
+    let Some(book) = book_of_replies(alloc, &root, Scoring::Winner) else {
+        panic!(rt; "no book")
+    };
+    for workers in [1, 2, 16] {
+        let gate = Hearing::new();
+        let told = scores(
+            &rt,
+            alloc,
+            &root,
+            workers,
+            64,
+            &gate,
+            Some(&book),
+            Scoring::Winner,
+        );
+        let searched = scores(&rt, alloc, &root, workers, 64, &Open, None, Scoring::Winner);
+        let (Ok(told), Ok(searched)) = (told, searched) else {
+            panic!(rt; "no scores")
+        };
+        assert!(rt; gate.heard_once(0), "{workers} workers");
+        assert!(rt; told.answer() == searched.answer());
+        assert!(rt; told.moves() == searched.moves());
+    }
 }
 
 // In most of these a bound is the value, so that the floor is as high before the workers start as it ever gets.
