@@ -3,7 +3,7 @@
 use crate::under_search::UnderSearch;
 use oth_pool::Gate;
 use oth_rules::{Board, Square};
-use oth_search::Solved;
+use oth_search::{Interval, Solved};
 use std::fmt;
 use std::sync::{Condvar, Mutex, MutexGuard, Wait};
 use std::time::{Clock, Duration, Instant};
@@ -65,7 +65,7 @@ impl State {
     // How far the search of the board is, if anything was heard of it.
     fn search_of(&self, board: &Board) -> Option<UnderSearch> {
         for place in 0..MOST_SEARCHES {
-            if self.searches[place].bounds_of(board).is_some() {
+            if self.searches[place].known_of(board).is_some() {
                 return Some(self.searches[place]);
             }
         }
@@ -252,8 +252,8 @@ impl fmt::Display for Shown {
         if let Some(search) = &self.look.search {
             let moves = search.root.board.moves().count_ones();
             write!(f, ", {} of {moves} moves settled", search.settled)?;
-            if let Some(bounds) = search.bounds_of(board) {
-                write!(f, ", {:+} to {:+}", bounds.lower, bounds.upper)?;
+            if let Some(known) = search.known_of(board) {
+                write_bounds(f, known.interval)?;
             }
         } else if let Some((square, search)) = &self.look.after_move {
             write_move(f, board, *square, search)?;
@@ -277,8 +277,13 @@ fn write_move<W: fmt::Write>(
         ", {column}{row}: {} of {replies} replies settled",
         search.settled
     )?;
-    if let Some(bounds) = search.bounds_after(board, square) {
-        write!(f, ", {:+} to {:+}", bounds.lower, bounds.upper)?;
+    match search.known_after(board, square) {
+        Some(known) => write_bounds(f, known.interval.turned()),
+        None => Ok(()),
     }
-    Ok(())
+}
+
+// What a score lies between.
+fn write_bounds<W: fmt::Write>(f: &mut fmt::Formatter<W>, bounds: Interval) -> fmt::Result {
+    write!(f, ", {:+} to {:+}", bounds.lower, bounds.upper)
 }

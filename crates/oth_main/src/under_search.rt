@@ -1,7 +1,10 @@
 //! How far the search of a root is.
 
+ghost use Rattle.std.specs.Prelude.{◌≡◌, IfSome, IsTrue};
+ghost use Rattle.oth_rules.specs.Move.{after, is_legal};
+
 use oth_rules::{Board, Square};
-use oth_search::{Interval, Solved};
+use oth_search::Solved;
 
 /// What is known of a root under search, and how many of its moves need no further search.
 #[derive(Clone, Copy)]
@@ -12,28 +15,36 @@ pub(crate) struct UnderSearch {
 
 impl UnderSearch {
     /// What is known of the board, where that is the root, or the root comes after its forced pass.
-    pub fn bounds_of(&self, board: &Board) -> Option<Interval> {
+    pub fn known_of(&self, board: &Board) -> Option<Solved>
+        ensures board { IfSome result (λ s. s.board ≡ board.now) }
+        ensures scoring { IfSome result (λ s. s.scoring ≡ self.now.root.scoring) }
+    {
         if self.root.board == *board {
-            return Some(self.root.interval);
+            return Some(self.root);
         }
-        if self.root.board == board.pass() {
-            return Some(self.root.interval.turned());
+        if board.can_move() || self.root.board != board.pass() || !self.root.board.can_move() {
+            return None;
         }
-        None
+        Some(self.root.before_pass(board))
     }
 
-    /// What is known of a move of the board, seen from who moves, where the root comes after it, or after the forced
-    /// pass behind it.
-    pub fn bounds_after(&self, board: &Board, square: Square) -> Option<Interval> {
+    /// What is known of the board after a move, where the root is that one, or comes after a forced pass there.
+    pub fn known_after(&self, board: &Board, square: Square) -> Option<Solved>
+        ensures legal { IfSome result (λ s. IsTrue (is_legal board.now square)) }
+        ensures board { IfSome result (λ s. s.board ≡ after board.now square) }
+        ensures scoring { IfSome result (λ s. s.scoring ≡ self.now.root.scoring) }
+    {
         let child = board.play(square)?;
-        Some(self.bounds_of(&child)?.turned())
+        self.known_of(&child)
     }
 
     /// The move of the board after which the root comes, or comes after a forced pass.
-    pub fn move_of(&self, board: &Board) -> Option<Square> {
+    pub fn move_of(&self, board: &Board) -> Option<Square>
+        ensures legal { IfSome result (λ s. IsTrue (is_legal board.now s)) }
+    {
         for number in 0..64u8 {
             let square = Square::of(number)?;
-            if self.bounds_after(board, square).is_some() {
+            if self.known_after(board, square).is_some() {
                 return Some(square);
             }
         }
