@@ -39,14 +39,17 @@ impl<'t> TableView<'t> {
         64
     }
 
-    // Whether the table has the board after this move of the root.
+    // Whether the table has the board after this move of the root. Where a worker is writing its cell there is nothing to
+    // see for that moment, so it is looked at for a while, which is short beside a search.
     pub(super) fn has(&self, square: Square) -> bool {
         let Some(child) = self.root.play(square) else {
             return false;
         };
-        for _ in 0..1_000_000 {
+        for _ in 0..1_000 {
             if let Some(mut cells) = self.cells.try_lock() {
-                return has_entry(&mut *cells, &child);
+                if has_entry(&mut *cells, &child) {
+                    return true;
+                }
             }
             thread::yield_now();
         }
