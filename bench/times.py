@@ -5,9 +5,10 @@
 
 The command, `./check` if none is given, is run at the top of this repository, and what it prints goes through, each line behind the
 minutes since the start. Meanwhile the prover's processes are looked at each second. The table at the end tells the CPU seconds that
-they took, by crate: its own proof, the proof of its tests, and its must-fail edits. Then come the edits that took most, and the wall-clock
-minutes of the whole. What a process takes after it was last looked at is not seen, so a row is short by up to a second a
-process. Leave the machine alone meanwhile. The exit status is the command's.
+they took, by crate: its own proof, the proof of its tests, the second proof that its must-fail edits begin with, how many edits there
+are, and what they took. Then come the edits that took most, and the wall-clock minutes of the whole. What a process takes after it
+was last looked at is not seen, so a row is short by up to a second a process. Leave the machine alone meanwhile. The exit status is
+the command's.
 """
 import collections
 import os
@@ -18,7 +19,7 @@ import threading
 import time
 
 ROOT = pathlib.Path(__file__).resolve().parent.parent
-PARTS = ("proof", "tests", "edits")
+PARTS = ("proof", "tests", "second proof", "edits")
 TICKS = os.sysconf("SC_CLK_TCK")
 # So many edits are shown.
 DEAREST = 40
@@ -52,10 +53,12 @@ class Seen:
                 self.edits[key] = edit_of(crate, folder)
 
     def table(self):
-        """Seconds by crate and part."""
+        """Seconds by crate and part, and how many edits of each crate took them."""
         sums = collections.defaultdict(collections.Counter)
-        for crate, name, seconds in self.taken.values():
-            sums[crate][name] += seconds
+        for key, (crate, name, seconds) in self.taken.items():
+            sums[crate]["second proof" if name == "edits" and not self.edits[key] else name] += seconds
+        for edit in set(self.edits.values()) - {None}:
+            sums[edit.split("/")[0]]["count"] += 1
         return sums
 
     def dearest(self):
@@ -101,12 +104,13 @@ def crates():
 
 def show(sums):
     """Prints the table, and what was made beside the gate."""
-    print("| Crate | its proof | its tests | its edits |\n|---|---|---|---|")
+    columns = (*PARTS[:-1], "count", PARTS[-1])
+    print("| Crate | Proof | Tests | Second proof | Mutants | Seconds of them |\n|---|---|---|---|---|---|")
     for crate in crates():
-        print(f"| `{crate}` | " + " | ".join(f"{sums[crate][name]:.0f}" if sums[crate][name] else "" for name in PARTS) + " |")
-    whole = [sum(row[name] for row in sums.values()) / 60 for name in (*PARTS, "beside")]
-    print("| all, in minutes | " + " | ".join(f"{minutes:.1f}" for minutes in whole[:3]) + " |")
-    print(f"beside the gate: {whole[3]:.1f} minutes")
+        print(f"| `{crate}` | " + " | ".join(f"{sums[crate][name]:.0f}" if sums[crate][name] else "" for name in columns) + " |")
+    whole = {name: sum(row[name] for row in sums.values()) / (1 if name == "count" else 60) for name in (*columns, "beside")}
+    print("| all, in minutes | " + " | ".join(f"{whole[name]:.0f}" for name in columns) + " |")
+    print(f"beside the gate: {whole['beside']:.1f} minutes")
 
 
 def main():

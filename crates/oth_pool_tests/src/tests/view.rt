@@ -39,8 +39,8 @@ impl<'t> TableView<'t> {
         64
     }
 
-    // Whether the table has the board after this move of the root. Where a worker is writing its cell there is nothing to
-    // see for that moment, so it is looked at for a while, which is short beside a search.
+    // Whether the table has the board after this move of the root. While a worker writes its cell there is nothing to
+    // see, so it is looked at for a while, which is short beside a search.
     pub(super) fn has(&self, square: Square) -> bool {
         let Some(child) = self.root.play(square) else {
             return false;

@@ -1,4 +1,4 @@
-use Rattle.std.proofs.Common.{ap, refl, sym, ◌∙◌, arith}
+use Rattle.std.proofs.Common.{ap, refl, sym, ◌∙◌, arith, rules}
 use Rattle.oth_rules.specs.Position.{pass, empty_count}
 use Rattle.oth_rules.proofs.SearchLaws.{is_over-false, empty_count-pass}
 use Rattle.oth_search.proofs.Replies.{can_move-from_moves, can_move-from_none, can_move-after_pass}
@@ -33,3 +33,6 @@ before_pass-requires-clause-some g c =
 
 pub answer_moves-requires-clause-some : goal.answer_moves-requires-clause-some
 answer_moves-requires-clause-some g c = λ κs within. can_move-from_moves c.args.by_book.now.board _ c.moves.ensures c.if-moves-eq0.false
+
+pub returns-then-moves-eq0-clause-board : goal.returns-then-moves-eq0-clause-board
+returns-then-moves-eq0-clause-board g c = search rules

@@ -1,4 +1,4 @@
-use Rattle.std.proofs.Common.{◌≡◌, slice_index}
+use Rattle.std.proofs.Common.{◌≡◌, slice_index, rules}
 use Rattle.oth_text.specs.BoardLine.{side_byte}
 use Rattle.oth_text.proofs.ReadingLemmas.{line_of}
 use Rattle.oth_text.proofs.board_line.parsed.Goals as goal
@@ -15,3 +15,6 @@ returns-clause-line c =
     ] in
     line_of _ c.in_ok-black.black c.in_ok-black.white p c.of_sides.ensures.board sides.apart (rw is c.of_sides.ensures.own) (rw is c.of_sides.ensures.opp)
     c.if-text-ne-BOARD_LINE_LEN.false sides.cells c.if-text-ne32.false (rw is mover)
+
+pub returns-then-text-ne32-clause-fault : goal.returns-then-text-ne32-clause-fault
+returns-then-text-ne32-clause-fault c = search rules

@@ -1,3 +1,4 @@
+use Rattle.std.proofs.Common.{rules}
 use Rattle.oth_text.proofs.DiscLemmas.{black_more, white_more, empty_more, are_apart}
 use Rattle.oth_text.proofs.board_line.read_cells.Goals as goal
 use Rattle.oth_text.proofs.board_line.read_cells.Goals.{in-88, in-79, in-45}
@@ -13,3 +14,6 @@ loop-n-preserved c =
 
 pub returns-clause-apart : goal.returns-clause-apart
 returns-clause-apart c = are_apart _ _ _ _ c.loop-n.invariant
+
+pub returns-in_default-clause-fault : goal.returns-in_default-clause-fault
+returns-in_default-clause-fault c = search rules

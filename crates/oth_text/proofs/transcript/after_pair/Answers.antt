@@ -1,4 +1,4 @@
-use Rattle.std.proofs.Common.{sym}
+use Rattle.std.proofs.Common.{sym, rules}
 use Rattle.oth_text.proofs.PairLemmas.{fewer_empties, legal_pair}
 use Rattle.oth_text.proofs.transcript.after_pair.Goals as goal
 
@@ -13,3 +13,6 @@ pub returns-in-Some-play-clause-fewer : goal.returns-in-Some-play-clause-fewer
 returns-in-Some-play-clause-fewer c =
     let moved = c.in-Some-play.ensures.moved in
     fewer_empties c.args.position.now.board _ _ c.in-Some.square c.in-Some-play.ensures.valid moved.0 moved.1 c.with_forced_pass.ensures.empties
+
+pub returns-then-is_over-clause-err : goal.returns-then-is_over-clause-err
+returns-then-is_over-clause-err c = search rules

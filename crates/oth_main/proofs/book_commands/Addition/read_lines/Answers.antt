@@ -1,4 +1,4 @@
-use Rattle.std.proofs.Common.{[], ◌++◌, ◌∙◌, refl}
+use Rattle.std.proofs.Common.{[], ◌++◌, ◌∙◌, refl, rules}
 use Rattle.std.proofs.KnownBytes.{Consumes-nil, Consumes-trans}
 use Rattle.std.proofs.lemmas.Result.{err_from_is_err_and}
 use Rattle.oth_main.proofs.AdditionLemmas.{adding_none, full_of, stops_reading}
@@ -29,3 +29,6 @@ returns-in_err-take_bytes-clause-err g c =
       read = Consumes-trans _ _ _ _ _ done.1 c.in-Ok.ensures.bytes.0;
       full = full_of _ _ (c.in_err-take_bytes.ensures.full _ done.0 done.2);
     }))
+
+pub returns-clause-at_end : goal.returns-clause-at_end
+returns-clause-at_end g c = search rules

@@ -11,3 +11,6 @@ raise_to-requires-clause-true_bound c =
     let same : s.board ≡ root.board = search rules in
     let by : s.scoring ≡ root.scoring = search rules in
     below_root s.scoring s.board root s.interval.lower s.interval.upper _ same by (omega (arith, ints)) s.encloses
+
+pub returns-clause-ok : goal.returns-clause-ok
+returns-clause-ok c = search rules

@@ -18,3 +18,6 @@ returns-clause-bound c =
     let is = told.2 in
     let small = told.3 in
     omega (arith, ints)
+
+pub returns-clause-floor : goal.returns-clause-floor
+returns-clause-floor c = search rules

@@ -14,3 +14,6 @@ returns-clause-asked c =
     let same : g ≡ c.args.scoring = search rules in
     let found : c.or.result ≡ option_or (entry_in first p) (entry_in other p) = search rules in
     subst (λ (z : Option Bounded × Scoring). IsAsked z.1 p z.0) (λ i. (sym found i, same i)) (asked g p first other c.look_both-first.ensures.first c.look_both-first.ensures.other)
+
+pub returns-clause-looks : goal.returns-clause-looks
+returns-clause-looks c = search rules

@@ -1,4 +1,4 @@
-use Rattle.std.proofs.Common.{◌≡◌, ◌∙◌, [], ◌∷◌, ◌++◌, length, ap, subst, sym}
+use Rattle.std.proofs.Common.{◌≡◌, ◌∙◌, [], ◌∷◌, ◌++◌, length, ap, subst, sym, rules}
 use Rattle.std.proofs.lemmas.Bool.{eqb-false}
 use Rattle.oth_text.specs.BoardLine.{reading}
 use Rattle.oth_text.specs.Game.{KeepsGame, moves_part}
@@ -31,3 +31,6 @@ returns-in-Moves c = λ line keeps.
       ap reading still.1 ∙ kept.2,
       subst (λ t. StandsFrom (with_forced_pass kept.1) c.push-in-Moves.new.self t) (sym still.2) (c.push-in-Moves.ensures (with_forced_pass kept.1) (moves_part line) kept.3),
     )
+
+pub returns-then-has_length_of_line : goal.returns-then-has_length_of_line
+returns-then-has_length_of_line c = search rules
