@@ -5,8 +5,11 @@
 
 CRATES is the folder of the crates, `crates` if not given. Each step is a line, `ok` or `FAILED` and its name, and after a failure what is
 wrong. With words only the steps are run whose part is one of them: `statuses`, `texts`, `flow`, `limits`, `seen`, `terminal`, `progress`,
-`differential`, `recipes`, `refusals`, `c_library`, `installed`. The last line is `N passed, M failed`; the exit status is 1 where a step failed.
+`differential`, `recipes`, `refusals`, `c_library`, `installed`. As many parts run at once as there are processors, and the lines come in the
+order of the parts. The last line is `N passed, M failed`; the exit status is 1 where a step failed.
 """
+import functools
+import multiprocessing
 import os
 import subprocess
 import sys
@@ -25,10 +28,10 @@ import terminal
 import texts
 
 
-def steps(crates, parts):
-    """The steps of the parts, one after the other."""
+def every_part(crates):
+    """The parts by their names."""
     program = os.path.abspath(f"{crates}/othsolve/out/othsolve")
-    every = {
+    return {
         "statuses": lambda: statuses.steps(program),
         "texts": lambda: texts.steps(program),
         "flow": lambda: flow.steps(program),
@@ -42,17 +45,30 @@ def steps(crates, parts):
         "c_library": lambda: c_library.steps(crates),
         "installed": lambda: installed.steps(crates),
     }
-    for part in parts or every:
-        try:
-            yield from every[part]()
-        except (OSError, subprocess.SubprocessError) as error:
-            yield f"{part} comes to its end", f"{error}"
+
+
+def steps_of(crates, part):
+    """The steps of the part."""
+    steps = []
+    try:
+        for step in every_part(crates)[part]():
+            steps.append(step)
+    except (OSError, subprocess.SubprocessError) as error:
+        steps.append((f"{part} comes to its end", f"{error}"))
+    return steps
+
+
+def steps(crates, parts):
+    """The steps of the parts, which run beside each other, one part after the other."""
+    with multiprocessing.Pool() as pool:
+        for found in pool.imap(functools.partial(steps_of, crates), parts):
+            yield from found
 
 
 def main():
     crates = sys.argv[1] if len(sys.argv) > 1 else "crates"
     passed = failed = 0
-    for name, wrong in steps(crates, sys.argv[2:]):
+    for name, wrong in steps(crates, sys.argv[2:] or list(every_part(crates))):
         print(f"{'FAILED' if wrong else 'ok'} {name}", flush=True)
         if wrong:
             print(f"    {wrong}", flush=True)
