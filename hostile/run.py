@@ -8,8 +8,8 @@ wrong. With words only the steps are run whose part is one of them: `statuses`, 
 `differential`, `recipes`, `refusals`, `c_library`, `installed`. As many parts run at once as there are processors, and the lines come in the
 order of the parts. The last line is `N passed, M failed`; the exit status is 1 where a step failed.
 """
+import concurrent.futures
 import functools
-import multiprocessing
 import os
 import subprocess
 import sys
@@ -60,15 +60,19 @@ def steps_of(crates, part):
 
 def steps(crates, parts):
     """The steps of the parts, which run beside each other, one part after the other."""
-    with multiprocessing.Pool() as pool:
-        for found in pool.imap(functools.partial(steps_of, crates), parts):
+    with concurrent.futures.ProcessPoolExecutor() as pool:
+        for found in pool.map(functools.partial(steps_of, crates), parts):
             yield from found
 
 
 def main():
     crates = sys.argv[1] if len(sys.argv) > 1 else "crates"
+    every = list(every_part(crates))
+    parts = sys.argv[2:] or every
+    if unknown := [part for part in parts if part not in every]:
+        sys.exit(f"hostile/run.py: no part {unknown[0]}; there are {', '.join(every)}")
     passed = failed = 0
-    for name, wrong in steps(crates, sys.argv[2:] or list(every_part(crates))):
+    for name, wrong in steps(crates, parts):
         print(f"{'FAILED' if wrong else 'ok'} {name}", flush=True)
         if wrong:
             print(f"    {wrong}", flush=True)
