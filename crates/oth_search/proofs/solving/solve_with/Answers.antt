@@ -1,4 +1,4 @@
-use Rattle.std.proofs.Common.{refl, sym, ◌∙◌}
+use Rattle.std.proofs.Common.{refl, sym, ◌∙◌, rules}
 use Rattle.oth_rules.proofs.SearchLaws.{is_over-false}
 use Rattle.oth_search.proofs.Replies.{can_move-from_moves, can_move-from_none, can_move-after_pass}
 use Rattle.oth_search.proofs.solving.solve_with.Goals as goal
@@ -20,3 +20,6 @@ before_pass-requires-clause-some g c =
 
 pub solve_unobserved-requires : goal.solve_unobserved-requires
 solve_unobserved-requires g c = can_move-from_moves c.args.board _ c.moves.ensures c.if-moves-eq0.false
+
+pub before_pass-requires-clause-passed : goal.before_pass-requires-clause-passed
+before_pass-requires-clause-passed g c = search rules

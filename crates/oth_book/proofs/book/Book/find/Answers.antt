@@ -1,4 +1,4 @@
-use Rattle.std.proofs.Common.{◌≡◌, sym, ◌∙◌, refl, true, false}
+use Rattle.std.proofs.Common.{◌≡◌, sym, ◌∙◌, refl, true, false, rules}
 use Rattle.oth_rules.specs.Symmetry.{canonical}
 use Rattle.oth_book.proofs.BookLemmas.{gap_absent, kept_is, entry_has}
 use Rattle.oth_book.proofs.book.Book.find.Goals as goal
@@ -23,3 +23,6 @@ pub returns-in-Err-clause-found : goal.returns-in-Err-clause-found
 returns-in-Err-clause-found c =
     let gap = rw (c.as_slice.ensures.value, c.canonical-image.ensures.board) at c.in-Err.ensures.absent in
     rw (← c.self.view_is) (λ no. absurd (let clash : false ≡ true = no in cc), λ has. absurd (gap_absent c.self.inside.entries.items _ _ gap (has.0, has.0, has.1)))
+
+pub position-requires-clause-board : goal.position-requires-clause-board
+position-requires-clause-board c = search rules

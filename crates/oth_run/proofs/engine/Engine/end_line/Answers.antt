@@ -1,4 +1,4 @@
-use Rattle.std.proofs.Common.{◌∷◌, [], ◌∙◌, refl, sym, append_assoc}
+use Rattle.std.proofs.Common.{◌∷◌, [], ◌∙◌, refl, sym, append_assoc, rules}
 use Rattle.oth_run.specs.Reply.{reply}
 use Rattle.oth_run.proofs.GatherLemmas.{beginning_within, on_err_always}
 use Rattle.oth_run.specs.Report.{with_end}
@@ -20,3 +20,6 @@ returns-clause-ok g c = λ before done text held gathered.
     let first = rw answer at (c.in_ok-push_text.ensures.ok before done gathered) in
     let second = c.in_ok-push_text-2.ensures.ok before _ first in
     (second.0, second.1, sym (append_assoc done _ _) ∙ second.2)
+
+pub returns-clause-line : goal.returns-clause-line
+returns-clause-line g c = search rules

@@ -1,4 +1,4 @@
-use Rattle.std.proofs.Common.{[], ◌++◌, sym, append-nil}
+use Rattle.std.proofs.Common.{[], ◌++◌, sym, append-nil, rules}
 use Rattle.std.proofs.KnownBytes.{Appends-kept}
 use Rattle.oth_run.specs.Report.{last_report}
 use Rattle.oth_run.specs.Reply.{reply}
@@ -18,3 +18,6 @@ returns-clause-err g c = on_err_always c.flush.result (λ before done text held 
     let all = done ++ last_report (reply c.args.settings.now) text in
     let written = c.in_ok-write_to.ensures.ok before _ (c.in_ok-end_last.ensures.ok before done text held gathered) in
     (all, Appends-kept before _ _ _ written c.flush.ensures.bytes, ([], sym (append-nil all))))
+
+pub returns-clause-flushed : goal.returns-clause-flushed
+returns-clause-flushed g c = search rules

@@ -1,4 +1,4 @@
-use Rattle.std.proofs.Common.{[], ◌++◌, ◌∙◌, arith}
+use Rattle.std.proofs.Common.{[], ◌++◌, ◌∙◌, arith, rules}
 use Rattle.std.proofs.KnownBytes.{Consumes-nil, Consumes-trans}
 use Rattle.oth_run.proofs.CutLemmas.{up_to_no_waiting, up_to_none, up_to_waiting}
 use Rattle.oth_run.proofs.engine.Engine.run_ended.Goals as goal
@@ -31,3 +31,6 @@ returns-in_default-take_chunk-clause-bytes g c =
     let done = c.loop.invariant.done in
     let so_far = up_to_waiting _ _ _ _ _ _ c.loop.invariant.waiting done.2 in
     (done.0 ++ _, Consumes-trans _ _ _ _ _ done.1 c.in-Ok.ensures.bytes.0, c.in_default-take_chunk.ensures.err _ done.0 so_far)
+
+pub returns-clause-bytes : goal.returns-clause-bytes
+returns-clause-bytes g c = search rules

@@ -1,4 +1,4 @@
-use Rattle.std.proofs.Common.{arith}
+use Rattle.std.proofs.Common.{arith, rules}
 use Rattle.std.proofs.lemmas.Int.{ints}
 use Rattle.oth_search.proofs.Entries.{IsTrueEntry-of}
 use Rattle.oth_search.proofs.entry.Entry.of.Goals as goal
@@ -8,3 +8,6 @@ invariant_of-result c =
     let s = c.args.solved.now in
     IsTrueEntry-of s.scoring s.board c.canonical.result.0 s.interval.lower s.interval.upper _ _ c.canonical.ensures.board s.interval.is_interval s.encloses
     (omega (arith, ints)) (omega (arith, ints))
+
+pub returns-clause-board : goal.returns-clause-board
+returns-clause-board c = search rules

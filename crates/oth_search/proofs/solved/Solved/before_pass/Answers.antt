@@ -1,3 +1,4 @@
+use Rattle.std.proofs.Common.{rules}
 use Rattle.oth_search.proofs.Enclosing.{Encloses-pass}
 use Rattle.oth_search.proofs.solved.Solved.before_pass.Goals as goal
 
@@ -9,3 +10,6 @@ invariant_of-result c =
           Encloses-pass s.scoring c.args.board.now s.board s.interval.lower s.interval.upper _ _ c.requires.passed c.requires.none c.requires.some s.encloses
           c.turned-interval.ensures.lower c.turned-interval.ensures.upper;
     }
+
+pub returns-clause-lower : goal.returns-clause-lower
+returns-clause-lower c = search rules

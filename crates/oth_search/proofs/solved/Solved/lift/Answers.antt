@@ -14,3 +14,6 @@ invariant_of-result-in-Some c =
           Encloses-lift s.scoring c.args.root.now s.board c.args.square _ s.interval.upper _ _ legal (same ∙ c.in-Some.ensures.moved.1) s.encloses (omega (arith, ints))
           (omega (arith, ints));
     }
+
+pub returns-in-Some-clause-child : goal.returns-in-Some-clause-child
+returns-in-Some-clause-child c = search rules

@@ -1,3 +1,4 @@
+use Rattle.std.proofs.Common.{rules}
 use Rattle.oth_search.proofs.Enclosing.{Encloses-passed}
 use Rattle.oth_search.proofs.solved.Solved.passed.Goals as goal
 
@@ -9,3 +10,6 @@ invariant_of-result c =
           Encloses-passed s.scoring s.board _ s.interval.lower s.interval.upper _ _ c.pass.ensures c.requires.none c.requires.some s.encloses c.turned.ensures.lower
           c.turned.ensures.upper;
     }
+
+pub returns-clause-board : goal.returns-clause-board
+returns-clause-board c = search rules
