@@ -6,6 +6,7 @@ mod batch;
 mod book;
 mod crews;
 mod drawing;
+mod fixtures;
 mod gate;
 mod pieces;
 mod refused;
@@ -15,11 +16,11 @@ mod together;
 mod view;
 mod walk;
 
-use oth_pool::{Floor, Frontier, Open, SolveError, WorkerCells, run_workers, solve, worker_cells};
-use oth_rules::samples::board;
+use self::fixtures::{board_of, floor_of, table_of};
+use oth_pool::{Frontier, Open, SolveError, WorkerCells, run_workers, solve, worker_cells};
 use oth_rules::{Board, Scoring, Square};
 use oth_search::{Answer, Cells, Kind};
-use oth_table::{SharedTable, TableCells};
+use oth_table::TableCells;
 use oth_walk::Sharing;
 use std::alloc::Global;
 use std::test::Fail;
@@ -68,16 +69,10 @@ fn has_entry<'t>(cells: &mut WorkerCells<'t>, board: &Board) -> bool {
 
 #[test]
 fn workers_search_over_the_table(rt: HostRuntime) -> Result<(), Fail> {
-    let Some(a) = board(A) else {
-        panic!(rt; "no board")
-    };
+    let a = board_of(&rt, A);
     let frontier = Frontier::of(&a, 1);
-    let Ok((floor, mut seat)) = Floor::new(rt.alloc(), &a, Scoring::Winner) else {
-        panic!(rt; "no floor")
-    };
-    let Ok((table, own)) = SharedTable::new(rt.alloc(), 1, Scoring::Winner) else {
-        panic!(rt; "no table")
-    };
+    let (floor, mut seat) = floor_of(&rt, &a);
+    let (table, own) = table_of(&rt, 1);
     let mut access = Some(TableCells::of(&table, own));
     let found = run_workers(
         &rt,

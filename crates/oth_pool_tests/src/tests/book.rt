@@ -1,10 +1,12 @@
 //! Boards of a book: an exact one is not searched, and the bounds of another one change no answer.
 
 use super::crews::BOARDS;
+use super::fixtures::{answer_of, board_of};
 use super::gate::Hearing;
-use super::{A, B, C, board};
+use super::{A, B, C};
 use oth_book::{Added, Book};
 use oth_pool::{Gate, Open, scores, solve};
+use oth_rules::samples::board;
 use oth_rules::{Board, Scoring, Square};
 use oth_search::{Answer, Kind, NoCells, Solved, solve_alone};
 use std::alloc::Global;
@@ -91,9 +93,7 @@ fn the_gate_hears_nothing_of_a_board_that_the_book_has(rt: HostRuntime) {
 
 #[test]
 fn the_gate_hears_nothing_of_scores_that_the_book_has(rt: HostRuntime) {
-    let Some(root) = board(BOARDS[0]) else {
-        panic!(rt; "no board")
-    };
+    let root = board_of(&rt, BOARDS[0]);
     let alloc = rt.alloc();
     let Some(book) = book_of_replies(alloc, &root, Scoring::Winner) else {
         panic!(rt; "no book")
@@ -202,13 +202,7 @@ fn told_below<R: Threads + Sync + AllocGlobal + Abort>(
 fn one_worker_begins_with_the_bounds_of_the_book(rt: HostRuntime) {
     let mut without = 0u64;
     for words in BOARDS {
-        let alone = match board(words) {
-            Some(root) => solve_alone(&root, Scoring::Winner),
-            None => panic!(rt; "no board"),
-        };
-        let Ok(alone) = alone else {
-            panic!(rt; "no answer")
-        };
+        let alone = answer_of(&rt, &board_of(&rt, words), Scoring::Winner);
         let bounds = (alone.score, 64);
         let Some(book) = bounded_book(rt.alloc(), words, bounds, Scoring::Winner) else {
             panic!(rt; "no book")

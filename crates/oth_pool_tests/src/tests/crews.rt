@@ -1,8 +1,8 @@
 //! Boards whose moves several workers search together: what they answer.
 
+use super::fixtures::{answer_of, board_of};
 use oth_pool::{Open, solve};
-use oth_rules::{Board, Scoring};
-use oth_search::{Answer, solve_alone};
+use oth_rules::Scoring;
 use std::process::Abort;
 use std::thread::Threads;
 
@@ -13,12 +13,6 @@ pub(super) const BOARDS: [[u64; 2]; 3] = [
     [0x450b_3b61_676b_5000, 0x18a4_c49c_9884_a2f0],
 ];
 
-// The answer of the board of these discs by one thread that keeps nothing.
-pub(super) fn answered_alone(words: [u64; 2], scoring: Scoring) -> Option<Answer> {
-    let board = Board::of(words[0], words[1]).ok()?;
-    solve_alone(&board, scoring).ok()
-}
-
 // The board by crews over so many cells.
 pub(super) fn check_board<R: Threads + Sync + AllocGlobal + Abort>(
     rt: &R,
@@ -26,9 +20,7 @@ pub(super) fn check_board<R: Threads + Sync + AllocGlobal + Abort>(
     cells: u32,
     scoring: Scoring,
 ) {
-    let Some(alone) = answered_alone(words, scoring) else {
-        panic!(rt; "no answer")
-    };
+    let alone = answer_of(rt, &board_of(rt, words), scoring);
     for workers in [2, 4, 16] {
         let found = solve(
             rt,

@@ -1,13 +1,13 @@
 //! What workers do between two calls of a gate, and what they leave behind them.
 
 use super::crews::{BOARDS, check_board};
+use super::fixtures::{answer_of, board_of, floor_of, table_of};
 use super::rows::ROWS;
 use super::view::TableView;
-use super::{A, board, solved};
-use oth_pool::{Floor, Frontier, Gate, Open, run_workers, solve};
+use super::{A, solved};
+use oth_pool::{Frontier, Gate, Open, run_workers, solve};
 use oth_rules::{Board, Scoring};
-use oth_search::solve_alone;
-use oth_table::{Look, SharedTable, TableCells};
+use oth_table::{Look, TableCells};
 use std::process::Abort;
 use std::sync::atomic::{AtomicU64, Ordering};
 use std::test::Fail;
@@ -16,14 +16,10 @@ use std::thread::Threads;
 
 #[test]
 fn the_floor_is_raised_to_the_value(rt: HostRuntime) -> Result<(), Fail> {
-    let Some(a) = board(A) else {
-        panic!(rt; "no board")
-    };
+    let a = board_of(&rt, A);
     for workers in [1, 2] {
         let frontier = Frontier::of(&a, 1);
-        let Ok((floor, mut seat)) = Floor::new(rt.alloc(), &a, Scoring::Winner) else {
-            panic!(rt; "no floor")
-        };
+        let (floor, mut seat) = floor_of(&rt, &a);
         let alloc = rt.alloc();
         let found = run_workers(
             &rt, alloc, &frontier, &floor, &mut seat, workers, &mut None, &Open,
@@ -36,12 +32,8 @@ fn the_floor_is_raised_to_the_value(rt: HostRuntime) -> Result<(), Fail> {
 
 // Whether the caller's seat finds something in the table of one cell, when two workers have searched these items.
 fn check_left<R: Threads + Sync + AllocGlobal + Abort>(rt: &R, root: &Board, frontier: &Frontier) {
-    let Ok((floor, mut seat)) = Floor::new(rt.alloc(), root, Scoring::Winner) else {
-        panic!(rt; "no floor")
-    };
-    let Ok((table, own)) = SharedTable::new(rt.alloc(), 1, Scoring::Winner) else {
-        panic!(rt; "no table")
-    };
+    let (floor, mut seat) = floor_of(rt, root);
+    let (table, own) = table_of(rt, 1);
     let mut access = Some(TableCells::of(&table, own));
     let alloc = rt.alloc();
     let found = run_workers(
@@ -65,9 +57,7 @@ fn check_left<R: Threads + Sync + AllocGlobal + Abort>(rt: &R, root: &Board, fro
 
 #[test]
 fn the_callers_seat_looks_at_what_workers_left(rt: HostRuntime) {
-    let Some(a) = board(A) else {
-        panic!(rt; "no board")
-    };
+    let a = board_of(&rt, A);
     check_left(&rt, &a, &Frontier::of(&a, 1));
     check_left(&rt, &a, &Frontier::of(&a, 2));
 }
@@ -125,16 +115,10 @@ impl<'t> Gate for Watching<'t> {
 
 #[test]
 fn nothing_is_searched_before_the_first_item_is_announced(rt: HostRuntime) -> Result<(), Fail> {
-    let Some(root) = board(BOARDS[0]) else {
-        panic!(rt; "no board")
-    };
+    let root = board_of(&rt, BOARDS[0]);
     let frontier = Frontier::of(&root, 2);
-    let Ok((floor, mut seat)) = Floor::new(rt.alloc(), &root, Scoring::Winner) else {
-        panic!(rt; "no floor")
-    };
-    let Ok((table, own)) = SharedTable::new(rt.alloc(), 4096, Scoring::Winner) else {
-        panic!(rt; "no table")
-    };
+    let (floor, mut seat) = floor_of(&rt, &root);
+    let (table, own) = table_of(&rt, 4096);
     let mut access = Some(TableCells::of(&table, own));
     let gate = Watching {
         view: TableView::of(rt.alloc(), &mut access, root),
@@ -185,12 +169,8 @@ impl Gate for Holding {
 }
 
 fn check_held<R: Threads + Sync + AllocGlobal + Abort>(rt: &R, cells: u32) {
-    let Ok(board) = Board::of(BOARDS[1][0], BOARDS[1][1]) else {
-        panic!(rt; "no board")
-    };
-    let Ok(alone) = solve_alone(&board, Scoring::Winner) else {
-        panic!(rt; "no answer")
-    };
+    let board = board_of(rt, BOARDS[1]);
+    let alone = answer_of(rt, &board, Scoring::Winner);
     let gate = Holding {
         ended: AtomicU64::new(0),
         given_up: AtomicU64::new(0),

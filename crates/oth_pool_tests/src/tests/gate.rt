@@ -1,10 +1,11 @@
 //! What a gate hears, and that two workers work at once.
 
 use super::crews::BOARDS;
+use super::fixtures::{answer_of, board_of};
 use super::{C, CORNERS};
 use oth_pool::{Gate, solve};
 use oth_rules::{Board, Scoring};
-use oth_search::{Solved, solve_alone};
+use oth_search::Solved;
 use std::alloc::Global;
 use std::process::Abort;
 use std::sync::atomic::{AtomicU64, Ordering};
@@ -217,9 +218,7 @@ fn followed<R: Threads + Sync + AllocGlobal + Abort>(
     cells: u32,
     gate: &Following,
 ) -> u64 {
-    let Ok(alone) = solve_alone(board, Scoring::Winner) else {
-        panic!(rt; "no answer")
-    };
+    let alone = answer_of(rt, board, Scoring::Winner);
     let score = alone.score;
     let alloc = rt.alloc();
     let found = solve(
@@ -238,9 +237,7 @@ fn followed<R: Threads + Sync + AllocGlobal + Abort>(
 
 #[test]
 fn one_worker_announces_each_move_and_then_searches_it(rt: HostRuntime) {
-    let Ok(board) = Board::of(BOARDS[1][0], BOARDS[1][1]) else {
-        panic!(rt; "no board")
-    };
+    let board = board_of(&rt, BOARDS[1]);
     let moves = u64::from(board.moves().count_ones());
     for cells in [0, 4096] {
         let gate = Following::new();
@@ -256,9 +253,7 @@ fn one_worker_announces_each_move_and_then_searches_it(rt: HostRuntime) {
 
 #[test]
 fn workers_tell_how_far_they_are(rt: HostRuntime) {
-    let Ok(board) = Board::of(BOARDS[1][0], BOARDS[1][1]) else {
-        panic!(rt; "no board")
-    };
+    let board = board_of(&rt, BOARDS[1]);
     let moves = u64::from(board.moves().count_ones());
     for cells in [0, 4096] {
         let gate = Following::new();
@@ -294,9 +289,7 @@ impl Gate for MeetingOfThree {
 
 #[test]
 fn three_workers_work_at_once(rt: HostRuntime) {
-    let Ok(board) = Board::of(BOARDS[1][0], BOARDS[1][1]) else {
-        panic!(rt; "no board")
-    };
+    let board = board_of(&rt, BOARDS[1]);
     for cells in [0, 4096] {
         let gate = MeetingOfThree {
             begun: AtomicU64::new(0),

@@ -6,7 +6,8 @@ ghost use Rattle.std.specs.Prelude.{◌≡◌, ◌<◌, ℕ, length, slice_index
 ghost use Rattle.oth_pieces.specs.Hands.{AreAllHands, IsHandOf, number_of};
 ghost use Rattle.oth_pieces.specs.Watch.{IsSeatOf};
 
-use super::{A, B, C, board};
+use super::fixtures::{board_of, floor_of, tasks_of};
+use super::{A, B, C};
 use oth_pieces::{Collector, Floor, FloorSeat, Frontier, Hand, Refusal, Reply, Tasks};
 use oth_rules::{Board, Scoring, Square};
 use oth_search::{NoCells, Solved};
@@ -49,15 +50,12 @@ fn check_refused(rt: &impl Abort, floor: &Floor, seat: &mut FloorSeat, told: &So
 
 #[test]
 fn a_floor_rises_to_the_best_move(rt: HostRuntime) -> Result<(), Fail> {
-    let (Some(a), Some(c)) = (board(A), board(C)) else {
-        panic!(rt; "no boards")
-    };
+    let a = board_of(&rt, A);
+    let c = board_of(&rt, C);
     let (Some(b1), Some(h1)) = (lifted(&a, 1), lifted(&a, 7)) else {
         panic!(rt; "no moves")
     };
-    let Ok((floor, mut seat)) = Floor::new(rt.alloc(), &a, Scoring::Winner) else {
-        panic!(rt; "no floor")
-    };
+    let (floor, mut seat) = floor_of(&rt, &a);
     let Ok(mut other) = floor.seat(rt.alloc(), &mut seat) else {
         panic!(rt; "no seat")
     };
@@ -90,9 +88,8 @@ fn has_two_items(frontier: &Frontier, first: Item, second: Item) -> bool {
 
 #[test]
 fn frontiers_put_passes_in(rt: HostRuntime) -> Result<(), Fail> {
-    let (Some(a), Some(b)) = (board(A), board(B)) else {
-        panic!(rt; "no boards")
-    };
+    let a = board_of(&rt, A);
+    let b = board_of(&rt, B);
     let below_b1 = (0xffff_ffff_ffff_ff70, 0x0e, false);
     let below_h1 = (0xf8, 0xffff_ffff_ffff_ff04, true);
     assert!(rt; has_two_items(&Frontier::of(&a, 1), below_b1, below_h1));
@@ -126,13 +123,9 @@ fn check_draw(rt: &impl Abort, tasks: &Tasks, hands: &mut Vec<Hand>, at: usize, 
 
 #[test]
 fn hands_steal_from_each_other(rt: HostRuntime) -> Result<(), Fail> {
-    let Some(a) = board(A) else {
-        panic!(rt; "no board")
-    };
+    let a = board_of(&rt, A);
     let frontier = Frontier::of(&a, 1);
-    let Ok((tasks, mut hands)) = Tasks::new(rt.alloc(), &frontier, 2) else {
-        panic!(rt; "no tasks")
-    };
+    let (tasks, mut hands) = tasks_of(&rt, &frontier, 2);
     check_draw(&rt, &tasks, &mut hands, 0, Some(0));
     check_draw(&rt, &tasks, &mut hands, 0, Some(1));
     check_draw(&rt, &tasks, &mut hands, 0, None);
@@ -148,13 +141,9 @@ fn hands_steal_from_each_other(rt: HostRuntime) -> Result<(), Fail> {
 
 #[test]
 fn the_second_hand_draws_first(rt: HostRuntime) -> Result<(), Fail> {
-    let Some(a) = board(A) else {
-        panic!(rt; "no board")
-    };
+    let a = board_of(&rt, A);
     let frontier = Frontier::of(&a, 1);
-    let Ok((tasks, mut hands)) = Tasks::new(rt.alloc(), &frontier, 2) else {
-        panic!(rt; "no tasks")
-    };
+    let (tasks, mut hands) = tasks_of(&rt, &frontier, 2);
     check_draw(&rt, &tasks, &mut hands, 1, Some(1));
     check_draw(&rt, &tasks, &mut hands, 1, Some(0));
     check_draw(&rt, &tasks, &mut hands, 1, None);
@@ -164,9 +153,7 @@ fn the_second_hand_draws_first(rt: HostRuntime) -> Result<(), Fail> {
 // Each hand draws the number of its own deque that has the least rank; one without a rank comes last.
 #[test]
 fn numbers_are_drawn_by_rank(rt: HostRuntime) -> Result<(), Fail> {
-    let Some(root) = board(MANY_ITEMS) else {
-        panic!(rt; "no board")
-    };
+    let root = board_of(&rt, MANY_ITEMS);
     let frontier = Frontier::of(&root, 1);
     assert!(rt; frontier.len() > 6);
     let Ok((tasks, mut hands)) = Tasks::by_rank(rt.alloc(), &frontier, &[9, 9, 0, 1, 5], 2) else {
@@ -209,15 +196,11 @@ fn draw_out_at(tasks: &Tasks, hands: &mut Vec<Hand>, at: usize)
 // A hand steals from each other one: what lies in its own deque is a third of all.
 #[test]
 fn one_of_three_hands_draws_all(rt: HostRuntime) -> Result<(), Fail> {
-    let Some(root) = board(MANY_ITEMS) else {
-        panic!(rt; "no board")
-    };
+    let root = board_of(&rt, MANY_ITEMS);
     let frontier = Frontier::of(&root, 2);
     assert!(rt; frontier.len() == 194);
     for place in 0..3 {
-        let Ok((tasks, mut hands)) = Tasks::new(rt.alloc(), &frontier, 3) else {
-            panic!(rt; "no tasks")
-        };
+        let (tasks, mut hands) = tasks_of(&rt, &frontier, 3);
         draw_out_at(&tasks, &mut hands, place);
         check_draw(&rt, &tasks, &mut hands, 0, None);
         check_draw(&rt, &tasks, &mut hands, 1, None);
@@ -260,14 +243,10 @@ fn draw_each<R: Threads + Sync>(rt: &R, tasks: &Tasks, hands: &mut [Hand])
 
 #[test]
 fn four_threads_draw_each_number_once(rt: HostRuntime) -> Result<(), Fail> {
-    let Some(root) = board(MANY_ITEMS) else {
-        panic!(rt; "no board")
-    };
+    let root = board_of(&rt, MANY_ITEMS);
     let frontier = Frontier::of(&root, 2);
     assert!(rt; frontier.len() == 194);
-    let Ok((tasks, mut hands)) = Tasks::new(rt.alloc(), &frontier, 4) else {
-        panic!(rt; "no tasks")
-    };
+    let (tasks, mut hands) = tasks_of(&rt, &frontier, 4);
     draw_all(&rt, &tasks, &mut hands);
     let closed = tasks.close(hands);
     let mut seen = [0u8; 194];
@@ -285,9 +264,7 @@ fn four_threads_draw_each_number_once(rt: HostRuntime) -> Result<(), Fail> {
 
 #[test]
 fn a_collector_takes_each_reply_once(rt: HostRuntime) -> Result<(), Fail> {
-    let Some(a) = board(A) else {
-        panic!(rt; "no board")
-    };
+    let a = board_of(&rt, A);
     let frontier = Frontier::of(&a, 1);
     let (Some(zero), Some(one)) = (frontier.item(0), frontier.item(1)) else {
         panic!(rt; "no items")

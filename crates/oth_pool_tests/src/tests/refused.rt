@@ -2,13 +2,13 @@
 //! runs each of them once for each request, thread starts among them.
 
 use super::crews::BOARDS;
+use super::fixtures::{answer_of, board_of};
 use super::gate::Hearing;
 use super::rows::ROWS;
 use super::scoring::check_scores;
-use super::{A, CORNERS, board, solved};
+use super::{A, CORNERS, solved};
 use oth_pool::{Open, solve};
 use oth_rules::{Board, Scoring, Square};
-use oth_search::solve_alone;
 use oth_table::{SharedTable, TableError};
 use std::process::Abort;
 use std::thread::Threads;
@@ -81,9 +81,7 @@ fn check_together<R: Threads + Sync + AllocGlobal + Abort>(rt: &R, cells: u32) {
         panic!(rt; "no board")
     };
     assert!(rt; board.empties() == 13);
-    let Ok(alone) = solve_alone(&board, Scoring::Winner) else {
-        panic!(rt; "no answer")
-    };
+    let alone = answer_of(rt, &board, Scoring::Winner);
     let alloc = rt.alloc();
     let found = solve(rt, alloc, &board, 2, cells, &Open, None, Scoring::Winner);
     assert!(rt; found == Ok(alone));
@@ -103,9 +101,7 @@ fn workers_together_over_64_cells(rt: HostRuntime) {
 #[test]
 fn each_item_is_heard(rt: HostRuntime) {
     let gate = Hearing::new();
-    let Ok(board) = Board::of(CORNERS[0], CORNERS[1]) else {
-        panic!(rt; "no board")
-    };
+    let board = board_of(&rt, CORNERS);
     let found = solve(&rt, rt.alloc(), &board, 2, 64, &gate, None, Scoring::Winner);
     assert!(rt; found.is_ok_and(|answer| answer.best == 0x8100_0000_0000_0081));
     assert!(rt; gate.heard_once(12));
@@ -114,8 +110,6 @@ fn each_item_is_heard(rt: HostRuntime) {
 // Each of the four moves has its score, whoever values the boards after them.
 #[test]
 fn scores_by_two_over_64_cells(rt: HostRuntime) {
-    let Some(root) = board(CORNERS) else {
-        panic!(rt; "no board")
-    };
+    let root = board_of(&rt, CORNERS);
     check_scores(&rt, &root, 2, 64, Scoring::Winner);
 }

@@ -1,6 +1,7 @@
 //! The scores of all moves by every crew and table.
 
 use super::crews::BOARDS;
+use super::fixtures::board_of;
 use super::{A, B, C, CORNERS, answered};
 use oth_pool::{Gate, Open, SolveError, scores};
 use oth_rules::samples::{after_least_moves, board};
@@ -44,9 +45,7 @@ pub(super) fn check_scores<R: Threads + Sync + AllocGlobal + Abort>(
 #[test]
 fn all_crews_score_each_move_of_the_rows(rt: HostRuntime) {
     for words in [A, B, C, CORNERS, PASSES, FULL] {
-        let Some(root) = board(words) else {
-            panic!(rt; "no board")
-        };
+        let root = board_of(&rt, words);
         for workers in [1, 2, 16] {
             for cells in [0, 1, 1024] {
                 check_scores(&rt, &root, workers, cells, Scoring::Winner);
@@ -145,9 +144,7 @@ impl Gate for Meeting {
 
 #[test]
 fn two_workers_value_boards_at_once(rt: HostRuntime) {
-    let Some(root) = board(BOARDS[0]) else {
-        panic!(rt; "no board")
-    };
+    let root = board_of(&rt, BOARDS[0]);
     for cells in [0, 4_096] {
         let gate = Meeting {
             first: AtomicU64::new(0),
@@ -165,9 +162,7 @@ fn two_workers_value_boards_at_once(rt: HostRuntime) {
 // A board of six moves: two workers value the boards after them each by itself, and sixteen together.
 #[test]
 fn crews_score_a_board_apart_and_together(rt: HostRuntime) {
-    let Some(root) = board(BOARDS[0]) else {
-        panic!(rt; "no board")
-    };
+    let root = board_of(&rt, BOARDS[0]);
     assert!(rt; root.moves().count_ones() == 6);
     check_scores(&rt, &root, 2, 4_096, Scoring::Discs);
     check_scores(&rt, &root, 16, 4_096, Scoring::Winner);

@@ -1,10 +1,11 @@
 //! That each of several workers searches what it announces, and that sixteen of them agree.
 
-use super::board;
 use super::crews::BOARDS;
+use super::fixtures::{board_of, floor_of, table_of};
 use super::rows::ROWS;
 use super::view::TableView;
 use oth_pool::{Floor, Frontier, Gate, Open, run_workers, worker_cells};
+use oth_rules::samples::board;
 use oth_rules::{Board, Scoring};
 use oth_search::{Answer, Kind, solve_with};
 use oth_table::{SharedTable, TableCells};
@@ -94,9 +95,7 @@ fn search_by_two<'t, R: Threads + Sync + AllocGlobal + Abort, G: Gate>(
     gate: &G,
 ) {
     let alloc = rt.alloc();
-    let Ok((floor, mut seat)) = Floor::new(alloc, root, Scoring::Winner) else {
-        panic!(rt; "no floor")
-    };
+    let (floor, mut seat) = floor_of(rt, root);
     let found = run_workers(rt, alloc, frontier, &floor, &mut seat, 2, access, gate);
     assert!(rt; found.drawn.left.is_empty());
     assert!(rt; found.replies.len() == frontier.len() as usize);
@@ -105,13 +104,9 @@ fn search_by_two<'t, R: Threads + Sync + AllocGlobal + Abort, G: Gate>(
 #[test]
 fn each_of_two_workers_searches_its_first_item(rt: HostRuntime) -> Result<(), Fail> {
     for words in BOARDS {
-        let Some(root) = board(words) else {
-            panic!(rt; "no board")
-        };
+        let root = board_of(&rt, words);
         let frontier = Frontier::of(&root, 2);
-        let Ok((table, own)) = SharedTable::new(rt.alloc(), 4_096, Scoring::Winner) else {
-            panic!(rt; "no table")
-        };
+        let (table, own) = table_of(&rt, 4_096);
         let mut access = Some(TableCells::of(&table, own));
         let view = TableView::of(rt.alloc(), &mut access, root);
         let gate = Beginning::of(view, &frontier);

@@ -1,9 +1,9 @@
 //! Moves of a root that one worker settles, and the hints that workers give each other.
 
-use super::board;
-use super::crews::{BOARDS, answered_alone};
-use oth_pieces::{Floor, Frontier};
-use oth_rules::{Board, Scoring, Square};
+use super::crews::BOARDS;
+use super::fixtures::{answer_of, board_of, floor_of};
+use oth_pieces::Frontier;
+use oth_rules::{Scoring, Square};
 use oth_search::{NoCells, order};
 use oth_walk::{
     HintSeat, Hints, MoveOrder, Open, RootBound, Search, Shape, Sharing, Worker, search_item,
@@ -31,15 +31,9 @@ const LOSING: [[u64; 2]; 3] = [
 // One worker that keeps nothing settles each move, and comes to the value. Where it would share what it finds it
 // searches the first item before, and so looks for a move that reaches what it guesses.
 fn check_settled<R: AllocGlobal + Abort>(rt: &R, words: [u64; 2], sharing: Sharing) {
-    let Some(answer) = answered_alone(words, Scoring::Winner) else {
-        panic!(rt; "no answer")
-    };
-    let Some(root) = board(words) else {
-        panic!(rt; "no board")
-    };
-    let Ok((floor, seat)) = Floor::new(rt.alloc(), &root, Scoring::Winner) else {
-        panic!(rt; "no floor")
-    };
+    let root = board_of(rt, words);
+    let answer = answer_of(rt, &root, Scoring::Winner);
+    let (floor, seat) = floor_of(rt, &root);
     let frontier = Frontier::of(&root, 1);
     let squares = order(&root);
     let shared = Search {
@@ -101,12 +95,8 @@ fn a_marked_board_is_searched_until_its_mark_is_gone(rt: HostRuntime) -> Result<
     let hints = Hints::new(rt.alloc(), 1);
     assert!(rt; hints.is_some());
     let (mut mine, mut theirs) = (HintSeat::of(&hints), HintSeat::of(&hints));
-    let (Ok(one), Ok(other)) = (
-        Board::of(BOARDS[0][0], BOARDS[0][1]),
-        Board::of(BOARDS[1][0], BOARDS[1][1]),
-    ) else {
-        panic!(rt; "no boards")
-    };
+    let one = board_of(&rt, BOARDS[0]);
+    let other = board_of(&rt, BOARDS[1]);
     assert!(rt; !theirs.is_searched(&one) && !theirs.is_searched(&other));
     mine.begin(&one);
     assert!(rt; theirs.is_searched(&one) && !theirs.is_searched(&other));
@@ -159,9 +149,7 @@ fn no_move_is_lost_that_is_settled_beside_another(rt: HostRuntime) {
 #[test]
 fn without_hints_nothing_is_told(rt: HostRuntime) -> Result<(), Fail> {
     let mut seat = HintSeat::none();
-    let Ok(board) = Board::of(BOARDS[0][0], BOARDS[0][1]) else {
-        panic!(rt; "no board")
-    };
+    let board = board_of(&rt, BOARDS[0]);
     let square = Square::numbered(3);
     seat.begin(&board);
     seat.settle(square);
@@ -177,12 +165,8 @@ fn an_order_is_kept_for_its_board(rt: HostRuntime) {
     let hints = Hints::new(rt.alloc(), 64);
     assert!(rt; hints.is_some());
     let (mut mine, mut theirs) = (HintSeat::of(&hints), HintSeat::of(&hints));
-    let (Ok(board), Ok(other)) = (
-        Board::of(BOARDS[0][0], BOARDS[0][1]),
-        Board::of(BOARDS[1][0], BOARDS[1][1]),
-    ) else {
-        panic!(rt; "no boards")
-    };
+    let board = board_of(&rt, BOARDS[0]);
+    let other = board_of(&rt, BOARDS[1]);
     let squares = order(&board);
     assert!(rt; theirs.order_of(&board).is_none());
     mine.keep_order(&board, MoveOrder::of(squares.as_slice()));

@@ -1,7 +1,8 @@
 //! Out of memory. Each of these tests holds whichever one of its requests for memory is refused; `hostile/refusals.py`
 //! runs each of them once for each request.
 
-use super::{A, board, drawn, lifted};
+use super::super::fixtures::board_of;
+use super::{A, drawn, lifted};
 use oth_pieces::{Floor, Frontier, Tasks};
 use oth_rules::Scoring;
 use std::test::Fail;
@@ -9,9 +10,7 @@ use std::test::Fail;
 // A floor that is refused a further seat answers the given one as before.
 #[test]
 fn a_refused_seat_leaves_the_floor(rt: HostRuntime) -> Result<(), Fail> {
-    let Some(a) = board(A) else {
-        panic!(rt; "no board")
-    };
+    let a = board_of(&rt, A);
     let Some(h1) = lifted(&a, 7) else {
         panic!(rt; "no move")
     };
@@ -30,9 +29,7 @@ fn a_refused_seat_leaves_the_floor(rt: HostRuntime) -> Result<(), Fail> {
 // Tasks that aren't refused hand out all that there is.
 #[test]
 fn tasks_are_refused_or_whole(rt: HostRuntime) -> Result<(), Fail> {
-    let Some(a) = board(A) else {
-        panic!(rt; "no board")
-    };
+    let a = board_of(&rt, A);
     let frontier = Frontier::of(&a, 1);
     assert!(rt; frontier.len() == 2);
     let Ok((tasks, mut hands)) = Tasks::new(rt.alloc(), &frontier, 2) else {
