@@ -4,10 +4,11 @@
     bench/answers.py CRATE LOG
 
 LOG is what `rt ci` or `rt must-fail CRATE` printed. A mutant that fails at a goal without an answer in `proofs/` is dear
-(docs/GATE.md). For each such goal of the crate that LOG tells, this adds `search rules` to the `Answers.antt` of its function.
-Then it checks the crate, and takes out again what the prover refuses: goals that are proved by other means, or that are there
-with the mutant alone. Goals of functions that call each other are left. It prints a line for each goal. Then `rt must-fail CRATE`
-must name no edit that is refused only because a proof file names what it took away: such an answer has to go.
+(docs/GATE.md). For each such goal of the crate that LOG tells, this adds `search rules` to the `Answers.antt` of its function or
+cycle, and checks the crate. Where the prover refuses that, it tries `grind (arith, common_steps)`, and takes the answer out again
+where it refuses that too: the goal is proved by other means, or is there with the mutant alone. Then see whether the edit can keep
+the names of the goals, as `a == a && b` does for `b` where the code has `a == c && b`. It prints a line for each goal. Then
+`rt must-fail CRATE` must name no edit that is refused only because a proof file names what it took away: such an answer has to go.
 """
 import pathlib
 import re
@@ -15,8 +16,12 @@ import subprocess
 import sys
 
 ROOT = pathlib.Path(__file__).resolve().parent.parent
-COMMON = r"^use Rattle\.std\.proofs\.Common\.\{([^}]*)\}$"
-CHECKS = 5
+# How an answer says to search, each tried where those before it are refused, and the names that it needs, by module.
+WAYS = {
+    "search rules": {"Rattle.std.proofs.Common": ["rules"]},
+    "grind (arith, common_steps)": {"Rattle.std.proofs.Common": ["arith"], "Rattle.std.proofs.lemmas.Grind": ["common_steps"]},
+}
+CHECKS = 6
 
 
 def inside(text, start):
@@ -38,28 +43,42 @@ def has_types(parameters):
     return any(part.strip() and not part.strip().startswith("'") for part in flat.split(","))
 
 
+def cycle_of(lines):
+    """The cycle that the last of the lines, the head of a function, is said to be of by the attributes above it."""
+    for line in reversed(lines[:-1]):
+        if found := re.match(r"\s*#\[cycle\((\w+)\)\]", line):
+            return found[1]
+        if not line.strip().startswith(("#[", "//")):
+            return None
+    return None
+
+
 def function_at(lines, number):
-    """The path in `proofs/` of the function that has the line of this number, and whether its goals are generic."""
+    """The folder in `proofs/` of the function that has the line of this number, or of its cycle, and what its goals are given."""
     for first in range(number - 1, -1, -1):
         if found := re.search(r"\bfn (\w+)", lines[first].split("//")[0]):
             break
     else:
         return None
     generic = has_types(inside(lines[first], found.end()))
+    folder = found[1]
     for line in reversed(lines[:first]):
         if line == "}":
-            return found[1], generic
+            break
         if line.startswith("impl"):
             parameters = inside(line, 4)
             head = line[4 + (len(parameters) + 2 if parameters else 0):].strip()
             of_trait = re.match(r"(\w+).* for (\w+)", head)
             owner = of_trait[2] + of_trait[1] if of_trait else re.match(r"\w+", head)[0]
-            return f"{owner}/{found[1]}", generic or has_types(parameters)
-    return found[1], generic
+            folder, generic = f"{owner}/{found[1]}", generic or has_types(parameters)
+            break
+    if cycle := cycle_of(lines[:first + 1]):
+        return f"+{cycle}", "g t c" if generic else "t c"
+    return folder, "g c" if generic else "c"
 
 
 def goals_without_answer(crate, log):
-    """The goals that the log tells: of each the folder in `proofs/`, its name, and whether it is generic."""
+    """The goals that the log tells: of each the folder in `proofs/`, its name, and what it is given."""
     told = re.compile(rf"must-fail {crate}/\S+\.edit: refused.*?: note: src/(\S+)\.rt:(\d+):\d+: .*?\(`([^`]+)`\)")
     for line in log.split("\n"):
         if found := told.search(line):
@@ -69,35 +88,49 @@ def goals_without_answer(crate, log):
                 yield f"{found[1]}/{function[0]}", found[3], function[1]
 
 
-def add(crate, folder, goal, generic):
-    """Adds the answer to the function's file. The path of the file, if it wasn't there before and can be."""
-    path = ROOT / "crates" / crate / "proofs" / folder / "Answers.antt"
-    module = f"Rattle.{crate}.proofs.{folder.replace('/', '.')}.Goals"
+def imports(module):
+    """A `use` line of this module."""
+    return re.compile(rf"^use {re.escape(module)}\.\{{([^}}]*)\}}\n", re.M)
+
+
+def with_names(text, needed):
+    """The file with these names imported."""
+    for module, names in needed.items():
+        found = imports(module).search(text)
+        had = found[1].split(", ") if found else []
+        line = f"use {module}.{{{', '.join(had + [name for name in names if name not in had])}}}\n"
+        text = text.replace(found[0], line) if found else line + text
+    return text
+
+
+def without_names(text, needed):
+    """The file without the imports of those of these names that it no longer uses."""
+    for module, names in needed.items():
+        found = imports(module).search(text)
+        rest = re.sub(r"^use .*\n", "", text, flags=re.M)
+        if found:
+            left = [name for name in found[1].split(", ") if name not in names or re.search(rf"\b{name}\b", rest)]
+            text = text.replace(found[0], f"use {module}.{{{', '.join(left)}}}\n" if left else "")
+    return text
+
+
+def add(path, module, goal, given, way):
+    """Adds the answer to the file, and says whether it could: the goal has no other one."""
     text = path.read_text(encoding="utf-8") if path.exists() else f"use {module} as goal\n"
     alias = re.search(rf"^use {re.escape(module)} as (\S+)$", text, re.M)
     if not alias or re.search(rf"^pub {re.escape(goal)} :", text, re.M):
-        return None
-    common = re.search(COMMON, text, re.M)
-    if not common:
-        text = "use Rattle.std.proofs.Common.{rules}\n" + text
-    elif "rules" not in common[1].split(", "):
-        text = text.replace(common[0], common[0][:-1] + ", rules}")
+        return False
     path.parent.mkdir(parents=True, exist_ok=True)
-    path.write_text(f"{text}\n{answer(alias[1], goal, generic)}", encoding="utf-8")
-    return path
+    answer = f"\npub {goal} : {alias[1]}.{goal}\n{goal} {given} = {way}\n"
+    path.write_text(with_names(text, WAYS[way]) + answer, encoding="utf-8")
+    return True
 
 
-def answer(alias, goal, generic):
-    """The lines of an answer."""
-    return f"pub {goal} : {alias}.{goal}\n{goal} {'g c' if generic else 'c'} = search rules\n"
-
-
-def take_out(path, goal):
+def take_out(path, goal, way):
     """Takes the answer out of the file, and what it alone needed."""
-    text = re.sub(rf"\npub {re.escape(goal)} : \S+\n{re.escape(goal)} (?:g )?c = search rules\n", "", path.read_text(encoding="utf-8"))
-    if "rules" not in re.sub(COMMON, "", text, flags=re.M):
-        text = re.sub(COMMON, lambda found: found[0].replace(", rules}", "}"), text, count=1, flags=re.M)
-        text = text.removeprefix("use Rattle.std.proofs.Common.{rules}\n")
+    text = path.read_text(encoding="utf-8")
+    text = re.sub(rf"\npub {re.escape(goal)} : \S+\n{re.escape(goal)} [gtc ]+ = {re.escape(way)}\n", "", text)
+    text = without_names(text, WAYS[way])
     if "pub " in text:
         path.write_text(text, encoding="utf-8")
     else:
@@ -106,24 +139,33 @@ def take_out(path, goal):
 
 def main():
     crate, log = sys.argv[1], pathlib.Path(sys.argv[2]).read_text(encoding="utf-8", errors="replace")
+    top = ROOT / "crates" / crate
+    # What was added: of each answer what `add` and `take_out` are given, and the ways that were not tried yet.
     added = {}
-    for folder, goal, generic in sorted(set(goals_without_answer(crate, log))):
-        if path := add(crate, folder, goal, generic):
-            added[str(path.relative_to(ROOT / "crates" / crate)), goal] = path
+
+    def attempt(place, goal, module, given, ways):
+        """Adds the answer by the first of the ways, if there is one."""
+        if ways and add(top / place, module, goal, given, ways[0]):
+            added[place, goal] = module, given, ways
         else:
-            print(f"left: {folder} {goal}")
+            print(f"left: {place} {goal}")
+
+    for folder, goal, given in sorted(set(goals_without_answer(crate, log))):
+        module = f"Rattle.{crate}.proofs.{folder.replace('/', '.')}.Goals"
+        attempt(f"proofs/{folder}/Answers.antt", goal, module, given, list(WAYS))
     for _ in range(CHECKS):
-        ran = subprocess.run(["rt", "check"], cwd=ROOT / "crates" / crate, stdout=subprocess.PIPE, stderr=subprocess.STDOUT, text=True)
+        ran = subprocess.run(["rt", "check"], cwd=top, stdout=subprocess.PIPE, stderr=subprocess.STDOUT, text=True)
         refused = set(re.findall(r"^\./(proofs/\S+):\d+:\d+: error: `([^`]+)`", ran.stdout, re.M)) & set(added)
         whole = set(re.findall(r"^\./(proofs/\S+): error:", ran.stdout, re.M))
         refused |= {one for one in added if one[0] in whole}
         for place, goal in sorted(refused):
-            take_out(added.pop((place, goal)), goal)
-            print(f"left: {place} {goal}")
+            module, given, ways = added.pop((place, goal))
+            take_out(top / place, goal, ways[0])
+            attempt(place, goal, module, given, ways[1:])
         if ran.returncode == 0 or not refused:
             break
-    for place, goal in sorted(added):
-        print(f"added: {place} {goal}")
+    for (place, goal), (_, _, ways) in sorted(added.items()):
+        print(f"added: {place} {goal}: {ways[0]}")
     if ran.returncode:
         print(f"rt check in crates/{crate} fails:\n{ran.stdout[-2000:]}")
     return ran.returncode
