@@ -21,6 +21,7 @@ WAYS = {
     "search rules": {"Rattle.std.proofs.Common": ["rules"]},
     "grind (arith, common_steps)": {"Rattle.std.proofs.Common": ["arith"], "Rattle.std.proofs.lemmas.Grind": ["common_steps"]},
 }
+# The crate is checked at most so often.
 CHECKS = 6
 
 
@@ -135,9 +136,15 @@ def take_out(path, goal, way):
         path.write_text(text, encoding="utf-8")
     else:
         path.unlink()
+        folder = path.parent
+        while not any(folder.iterdir()):
+            folder.rmdir()
+            folder = folder.parent
 
 
 def main():
+    if len(sys.argv) != 3:
+        sys.exit(__doc__)
     crate, log = sys.argv[1], pathlib.Path(sys.argv[2]).read_text(encoding="utf-8", errors="replace")
     top = ROOT / "crates" / crate
     # What was added: of each answer what `add` and `take_out` are given, and the ways that were not tried yet.
