@@ -18,6 +18,8 @@ import sys
 import threading
 import time
 
+import edits
+
 ROOT = pathlib.Path(__file__).resolve().parent.parent
 PARTS = ("proof", "tests", "second proof", "edits")
 TICKS = os.sysconf("SC_CLK_TCK")
@@ -71,18 +73,14 @@ class Seen:
 
 
 def edit_of(crate, folder):
-    """The must-fail edit that was made in this copy of the crate, if any."""
+    """The edit of either tier that was made in this copy of the crate, if any."""
     whole = ROOT / "crates" / crate
-    for edit in sorted((whole / "must-fail").glob("*.edit")):
+    for edit in edits.edits_of(whole):
         try:
-            lines = edit.read_text(encoding="utf-8").split("\n")
-            path = next(line for line in lines if line.startswith("file: ")).removeprefix("file: ").strip()
-            text = (whole / path).read_text(encoding="utf-8")
-            for old, new in zip([line for line in lines if line.startswith("old: ")], [line for line in lines if line.startswith("new:")]):
-                text = text.replace(old.removeprefix("old: "), new.removeprefix("new:").removeprefix(" "))
-            if text == pathlib.Path(folder, path).read_text(encoding="utf-8"):
+            texts, wrong = edits.applied(edit, whole)
+            if not wrong and all(pathlib.Path(folder, path).read_text(encoding="utf-8") == text for path, text in texts.items()):
                 return f"{crate}/{edit.stem}"
-        except (OSError, StopIteration):
+        except OSError:
             continue
     return None
 
@@ -130,9 +128,9 @@ def main():
         time.sleep(1)
     printing.join()
     show(seen.table())
-    edits = seen.dearest()
-    print(f"{len(edits)} edits, seconds of the dearest:")
-    for edit, seconds in edits[:DEAREST]:
+    dearest = seen.dearest()
+    print(f"{len(dearest)} edits, seconds of the dearest:")
+    for edit, seconds in dearest[:DEAREST]:
         print(f"{seconds:6.0f} {edit}")
     print(f"{' '.join(command)}: status {ran.returncode} after {(time.monotonic() - began) / 60:.1f} minutes")
     return ran.returncode

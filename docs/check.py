@@ -6,7 +6,7 @@
 
 It tests, in each document and, where it says so, in the code:
 - that each link leads to a file of this repository, and to a heading of it where it has one;
-- that each path of this repository stands in it, also one relative to a crate (`src/`, `specs/`, `proofs/`, `must-fail/`);
+- that each path of this repository stands in it, also one relative to a crate (`src/`, `specs/`, `proofs/`, `must-fail/`, `mutants/`);
   NAME and `*` stand for anything, and what lies in `out/` is made by `rt`;
 - that each `PATH:LINE` declares a name that stands beside it, and in a row `| `NAME` | `PATH:LINE` |` of a table just NAME;
 - that each heading `.. N definitions` has N rows with a definition of `specs/` below it, and each other `N definitions` is one of these
@@ -23,8 +23,11 @@ It tests, in each document and, where it says so, in the code:
 - that each lemma and each definition is named somewhere else than at its own statement, but those of `Examples`;
 - of docs/DECISIONS.md: that each number from 1 to the last is that of one entry, or of one row of its table;
 - of docs/TESTED.md: that each test stands in the crate and the module that are named with it;
-- of docs/WRONG_BODIES.md: that each `CRATE/NAME` is an edit of that crate's must-fail/, each name that follows it one too or a test of that
-  crate, and each other name with an underscore an edit, a function or a part of a crate;
+- of docs/WRONG_BODIES.md: that each `CRATE/NAME` is an edit of that crate, in must-fail/ where the column says that the gate tries it and in
+  mutants/ where it says that `./mutants` does, each name that follows it one too or a test of that crate, and each other name with an
+  underscore an edit, a function or a part of a crate;
+- of each edit of must-fail/ and mutants/: that each of its old texts stands just once in the file that it names, that it changes
+  something, and that no other edit of the crate has its name;
 - that the headline is word for word the same wherever it stands, and that the README has at most 110 lines;
 - of each file of code: that its first line is a head (`//!`), and that no line is longer than 120 characters; of `specs/`, that none is
   longer than 140, and of `proofs/`, than 200;
@@ -41,6 +44,10 @@ import subprocess
 import sys
 
 ROOT = pathlib.Path(__file__).resolve().parent.parent
+sys.path.insert(0, str(ROOT / "bench"))
+
+import edits
+
 WIDTH = 120
 LOGIC_WIDTHS = {"specs": 140, "proofs": 200}
 FOLDERS = r"crates|docs|bench|examples|hostile|completions|include|\.ci"
@@ -338,7 +345,8 @@ class Crate:
     """The edits of a crate, its functions, its tests by their module, and its files."""
 
     def __init__(self, path):
-        self.edits = {edit.stem for edit in path.glob("must-fail/*.edit")}
+        self.tiers = {tier: {edit.stem for edit in edits.edits_of(path, [tier])} for tier in edits.TIERS}
+        self.edits = set().union(*self.tiers.values())
         self.functions, self.modules, self.files = set(), {}, {path.name}
         for file in path.glob("src/**/*.rt"):
             text = file.read_text(encoding="utf-8")
@@ -353,21 +361,22 @@ def crates():
     return {path.name: Crate(path) for path in sorted((ROOT / "crates").iterdir()) if path.is_dir()}
 
 
-def last_cells(document, heading):
-    """The last cell of each row of the tables whose last column has this heading, with its line."""
-    inside = False
+def cells_below(document, heading):
+    """The cell below this heading of each row of the tables that have it, with its line."""
+    at = None
     for number, line in enumerate(lines_of(document), 1):
+        cells = [cell.strip() for cell in line.strip().strip("|").split(" |")]
         if not line.startswith("|"):
-            inside = False
-        elif line.rstrip(" |").endswith(f"| {heading}"):
-            inside = True
-        elif inside and not line.startswith("|---"):
-            yield number, line.rstrip(" |").split(" | ")[-1]
+            at = None
+        elif heading in cells:
+            at = cells.index(heading)
+        elif at is not None and not line.startswith("|---"):
+            yield number, cells[at]
 
 
 def test_tested(known):
     document = ROOT / "docs/TESTED.md"
-    for number, cell in last_cells(document, "Test"):
+    for number, cell in cells_below(document, "Test"):
         crate, module = None, None
         for name in re.findall(r"`([^`]+)`", cell):
             if name in known:
@@ -379,27 +388,46 @@ def test_tested(known):
                 test(there, f"{shown(document)}:{number}: no test {name} in the crate and module that are named before it")
 
 
+# The columns of docs/WRONG_BODIES.md, with the folder whose edits stand there.
+COLUMNS = {"Refused at each gate by": "must-fail", "Refused by `./mutants`": "mutants"}
+
+
 def test_wrong_bodies(known):
     document = ROOT / "docs/WRONG_BODIES.md"
-    refused = dict(last_cells(document, "Refused by"))
+    for heading, tier in COLUMNS.items():
+        for number, cell in cells_below(document, heading):
+            test_refusals(f"{shown(document)}:{number}", cell, tier, known)
     every = set().union(*(crate.edits | crate.functions | crate.files for crate in known.values()))
     for number, line in enumerate(lines_of(document), 1):
-        crate = None
-        for name in re.findall(r"`([^`]+)`", refused.get(number, "")):
-            owner, _, edit = name.rpartition("/")
-            if name in known:
-                crate = known[name]
-            elif owner in known:
-                crate = known[owner]
-                test(edit in crate.edits, f"{shown(document)}:{number}: no edit {edit} in {owner}")
-            elif crate and SNAKE.fullmatch(name):
-                test(name in crate.edits | crate.tests, f"{shown(document)}:{number}: no edit or test {name} in the crate named before it")
         for name in re.findall(r"`([^`/]+)`", line):
             if SNAKE.fullmatch(name):
                 test(name in every, f"{shown(document)}:{number}: no edit, function or part of a crate {name}")
         if "test" in line:
             for name, owner in re.findall(r"`([a-z]\w*_\w*)` of `(\w+)`", line):
                 test(owner in known and name in known[owner].tests, f"{shown(document)}:{number}: no test {name} in {owner}")
+
+
+def test_refusals(place, cell, tier, known):
+    """Whether each edit that this cell names is one of the tier, and each test one of its crate."""
+    crate = None
+    for name in re.findall(r"`([^`]+)`", cell):
+        owner, _, edit = name.rpartition("/")
+        if name in known:
+            crate = known[name]
+        elif owner in known:
+            crate = known[owner]
+            test(edit in crate.tiers[tier], f"{place}: no edit {edit} in {tier}/ of {owner}")
+        elif crate and SNAKE.fullmatch(name):
+            test(name in crate.tiers[tier] | crate.tests, f"{place}: no edit of {tier}/ and no test {name} in the crate named before it")
+
+
+def test_edits():
+    for crate in sorted(path for path in (ROOT / "crates").iterdir() if path.is_dir()):
+        found = edits.edits_of(crate)
+        for edit in found:
+            wrong = edits.applied(edit, crate)[1] if edits.NAME.fullmatch(edit.name) else "its name isn't one of small letters, digits and _ that ends in .edit"
+            test(not wrong, f"{shown(edit)}: {wrong}")
+            test(sum(other.name == edit.name for other in found) == 1, f"{shown(edit)}: another edit of the crate has this name")
 
 
 def test_decisions():
@@ -425,7 +453,7 @@ def test_lemmas():
                 if owner != crate:
                     used.setdefault(owner, set()).add(lemmas)
     listed = {}
-    for number, cell in last_cells(ROOT / "docs/ARCHITECTURE.md", "Lemmas"):
+    for number, cell in cells_below(ROOT / "docs/ARCHITECTURE.md", "Lemmas"):
         owner = re.match(r"\| `(\w+)`", lines_of(ROOT / "docs/ARCHITECTURE.md")[number - 1]).group(1)
         listed[owner] = set(re.findall(r"`(\w+)`", cell))
     for owner in used.keys() | listed.keys():
@@ -606,6 +634,7 @@ def main():
     test_phrases()
     test_lemmas()
     test_dead()
+    test_edits()
     test_decisions()
     test_theorem()
     test_code()
