@@ -23,7 +23,15 @@ SCORINGS = ("winner", "discs")
 
 
 def steps(program):
-    """A step for each scoring, number of workers and table: its name, and what is wrong with it, if anything."""
+    """A step for each scoring, number of workers and table, and then for boards that take longer: its name, and what is wrong with it, if anything."""
+    yield from small_steps(program)
+    yield from side_by_side(program)
+    yield from together(program)
+    yield from book_side_by_side(program)
+
+
+def small_steps(program):
+    """The steps of boards that take no time."""
     boards = minimax.boards(SEED, BOARDS, MOST_EMPTIES)
     lines = [minimax.board_line(*board) for board in boards]
     wanted = [minimax.reports(*board) for board in boards]
@@ -43,9 +51,6 @@ def steps(program):
         name = f"a book of {BOOKED} boards, added to, verified and asked: {scoring}"
         yield name, by_book(program, scoring, lines, [line[at] for line in wanted])
     yield moves_on_boards(program)
-    yield from side_by_side(program)
-    yield from together(program)
-    yield from book_side_by_side(program)
 
 
 def moves_on_boards(program):
