@@ -74,6 +74,8 @@ def plain(text, crate, crates):
     text = re.sub(r"(?<=[<,])( ?\w+): Drop\b|(: [^,>]*) \+ Drop\b", r"\1\2", text)
     text = re.sub(r"(#\[derive\([^)]*), Error\b", r"\1", text)
     text = re.sub(r"^use (?:std::marker::Model|thiserror::Error);\n", "", text, flags=re.M)
+    # What the kit's prelude of vectors has, and Rust's has not.
+    text = text.replace("use std::simd::prelude::*;\n", "use std::simd::Select;\nuse std::simd::prelude::*;\n")
     text = re.sub(r"\bcrate::", f"crate::{crate}::", text)
     text = re.sub(rf"^use {FROM_SHIM}", "use crate::shim::", text, flags=re.M)
     names = "|".join(crates + LIBRARIES)

@@ -26,3 +26,5 @@ pub mod LastMoves
 pub mod Shelters
 pub mod StableValues
 pub mod StableWords
+pub mod HalfTurns
+pub mod Twins

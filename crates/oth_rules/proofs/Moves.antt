@@ -15,6 +15,7 @@ use Rattle.oth_rules.proofs.Rays.{some_in-or, or_true}
 use Rattle.oth_rules.proofs.Legal.{outflanks-line}
 use Rattle.oth_rules.proofs.Positions.{is_mine-has, is_theirs-has, is_empty-has}
 use Rattle.oth_rules.proofs.Words.{is_on_line-same, legal_word}
+use Rattle.oth_rules.proofs.RowCarry.{past_east as past_east_at}
 use Rattle.oth_rules.proofs.Slides.{past_word, past_rising, past_falling}
 use Rattle.oth_rules.proofs.Table.{or_words8, or_words4}
 
@@ -145,7 +146,7 @@ module _ (set : ℕ → Bool) (by : ℕ) (d : Direction) (p : Position) (through
 -- ---- the eight directions
 
 -- what is known of a word past the lines of `through`, in each direction that it may be read in
-abbrev Past : Position → ℕ → (Direction → Type 0) → ℕ → Type 0
+abbrev pub Past : Position → ℕ → (Direction → Type 0) → ℕ → Type 0
 Past p through along moved = (e : Direction) → along e → moved ≡ word_of (is_next e (is_on_line 6 e (has p.own) (has through)))
 
 all_squares : (p : Position) (s : ℕ) → has p.opp s ≡ (has p.opp s && true)
@@ -154,11 +155,11 @@ all_squares p s = sym (and_true (has p.opp s))
 inner_squares : (p : Position) (s : ℕ) → has (bit_and p.opp INNER) s ≡ (has p.opp s && has INNER s)
 inner_squares p s = has-and p.opp INNER s
 
-past_north : (p : Position) (moved : ℕ) → IsBoard p → Past p p.opp (λ e. Rises e 8 (has p.opp)) moved → moved ≡ word_of (λ s. outflanks p s (record { columns = Stay; rows = Back }))
+pub past_north : (p : Position) (moved : ℕ) → IsBoard p → Past p p.opp (λ e. Rises e 8 (has p.opp)) moved → moved ≡ word_of (λ s. outflanks p s (record { columns = Stay; rows = Back }))
 unfolding covers in_or_first is_none rises_on rises_onto next stepped square_at
 past_north p moved b m = rising_past (λ _. true) 8 (record { columns = Stay; rows = Back }) p p.opp moved b refl (all_squares p) refl m
 
-past_north_east : (p : Position) (moved : ℕ) → IsBoard p → Past p (bit_and p.opp INNER) (λ e. Rises e 7 (has (bit_and p.opp INNER))) moved
+pub past_north_east : (p : Position) (moved : ℕ) → IsBoard p → Past p (bit_and p.opp INNER) (λ e. Rises e 7 (has (bit_and p.opp INNER))) moved
     → moved ≡ word_of (λ s. outflanks p s (record { columns = Forth; rows = Back }))
 unfolding covers in_or_first is_none rises_on rises_onto next stepped square_at has
 past_north_east p moved b m = rising_past (has INNER) 7 (record { columns = Forth; rows = Back }) p (bit_and p.opp INNER) moved b refl (inner_squares p) refl m
@@ -187,13 +188,14 @@ past_west : (p : Position) (moved : ℕ) → IsBoard p → Past p (bit_and p.opp
 unfolding covers in_or_first is_none rises_on rises_onto next stepped square_at has
 past_west p moved b m = rising_past (has INNER) 1 (record { columns = Back; rows = Stay }) p (bit_and p.opp INNER) moved b refl (inner_squares p) refl m
 
-past_north_west : (p : Position) (moved : ℕ) → IsBoard p → Past p (bit_and p.opp INNER) (λ e. Rises e 9 (has (bit_and p.opp INNER))) moved
+pub past_north_west : (p : Position) (moved : ℕ) → IsBoard p → Past p (bit_and p.opp INNER) (λ e. Rises e 9 (has (bit_and p.opp INNER))) moved
     → moved ≡ word_of (λ s. outflanks p s (record { columns = Back; rows = Back }))
 unfolding covers in_or_first is_none rises_on rises_onto next stepped square_at has
 past_north_west p moved b m = rising_past (has INNER) 9 (record { columns = Back; rows = Back }) p (bit_and p.opp INNER) moved b refl (inner_squares p) refl m
 
 -- a line to the east that begins beside a disc of mine: to its last square the mover outflanks to the west
-past_east_word : (p : Position) → IsBoard p → word_of (is_next east (is_on_line 6 east (has p.own) (has (bit_and p.opp INNER)))) ≡ word_of (λ s. outflanks p s (record { columns = Back; rows = Stay }))
+pub past_east_word : (p : Position) → IsBoard p → word_of (is_next east (is_on_line 6 east (has p.own) (has (bit_and p.opp INNER))))
+    ≡ word_of (λ s. outflanks p s (record { columns = Back; rows = Stay }))
 unfolding covers in_or_first is_none next stepped square_at has
 past_east_word p b =
     outflanking_past (has INNER) 1 (record { columns = Back; rows = Stay }) p (bit_and p.opp INNER)
@@ -324,3 +326,43 @@ pub falling_lanes : (p : Position) (own opp : ℕ) → IsBoard p → own ≡ p.o
     bit_or (bit_or (bit_or (past_falling_word 1 own (bit_and opp INNER)) (past_falling_word 9 own (bit_and opp INNER))) (past_falling_word 8 own opp)) (past_falling_word 7 own (bit_and opp INNER))
     ≡ word_of (λ s. list_any (outflanks p s) rising_directions)
 falling_lanes p own opp b e h = rw (e, h) (past_falling_four p b)
+
+-- ---- the four directions where numbers fall, by words past rising lines and the row by a sum
+
+row_first : (w ne n nw : Bool) → (((w || ne) || n) || nw) ≡ (n || (ne || (w || (nw || false))))
+row_first true true true nw = refl
+row_first true true false nw = refl
+row_first true false true nw = refl
+row_first true false false nw = refl
+row_first false true true nw = refl
+row_first false true false nw = refl
+row_first false false true nw = refl
+row_first false false false true = refl
+row_first false false false false = refl
+
+pub falling_by_sum : (p : Position) (row a b c : ℕ) → IsBoard p →
+    row ≡ bit_and p.opp INNER + bit_and (bit_and p.opp INNER) (p.own * 2 ^ 1 % 2 ^ 64) →
+    Past p (bit_and p.opp INNER) (λ x. Rises x 7 (has (bit_and p.opp INNER))) a → Past p p.opp (λ x. Rises x 8 (has p.opp)) b →
+    Past p (bit_and p.opp INNER) (λ x. Rises x 9 (has (bit_and p.opp INNER))) c →
+    (t : ℕ) → t < 64 → has p.opp t ≡ false → has (bit_or (bit_or (bit_or row a) b) c) t ≡ list_any (outflanks p t) falling_directions
+unfolding falling_directions
+falling_by_sum p row a b c board er ea eb ec t l free =
+    has-or (bit_or (bit_or row a) b) c t ∙ ap (λ x. x || has c t) (has-or (bit_or row a) b t ∙ ap (λ x. x || has b t) (has-or row a t))
+    ∙ ap (λ x. ((x || has a t) || has b t) || has c t) west
+    ∙ ap (λ x. ((outflanks p t (record { columns = Back; rows = Stay }) || x) || has b t) || has c t) (of_word a (record { columns = Forth; rows = Back }) (past_north_east p a board ea))
+    ∙ ap (λ x. ((outflanks p t (record { columns = Back; rows = Stay }) || outflanks p t (record { columns = Forth; rows = Back })) || x) || has c t)
+    (of_word b (record { columns = Stay; rows = Back }) (past_north p b board eb))
+    ∙ ap (λ x. ((outflanks p t (record { columns = Back; rows = Stay }) || outflanks p t (record { columns = Forth; rows = Back })) || outflanks p t (record { columns = Stay; rows = Back })) || x)
+    (of_word c (record { columns = Back; rows = Back }) (past_north_west p c board ec))
+    ∙ row_first (outflanks p t (record { columns = Back; rows = Stay })) (outflanks p t (record { columns = Forth; rows = Back }))
+    (outflanks p t (record { columns = Stay; rows = Back })) (outflanks p t (record { columns = Back; rows = Back }))
+  where
+    of_word : (w : ℕ) (d : Direction) → w ≡ word_of (λ s. outflanks p s d) → has w t ≡ outflanks p t d
+    of_word w d e = ap (λ x. has x t) e ∙ has-word_of (λ s. outflanks p s d) t l
+
+    west : has row t ≡ outflanks p t (record { columns = Back; rows = Stay })
+    west =
+        ap (λ x. has x t) er ∙ past_east_at p.own p.opp board.opp_fits t l free
+        ∙ sym (has-word_of (is_next east (is_on_line 6 east (has p.own) (has (bit_and p.opp INNER)))) t l)
+        ∙ ap (λ x. has x t) (past_east_word p board)
+        ∙ has-word_of (λ s. outflanks p s (record { columns = Back; rows = Stay })) t l

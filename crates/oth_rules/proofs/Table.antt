@@ -27,13 +27,13 @@ word_after_is i l = eqb-true (slice_index_or WORDS_AFTER i 0) (2 ^ (63 - i)) (ag
 
 -- ---- the rays
 
-same_line : List ℕ → List ℕ → Bool
+unfoldable pub same_line : List ℕ → List ℕ → Bool
 same_line [] [] = true
 same_line [] (y ∷ ys) = false
 same_line (x ∷ xs) [] = false
 same_line (x ∷ xs) (y ∷ ys) = (x == y) && same_line xs ys
 
-same_line-is : (xs ys : List ℕ) → same_line xs ys ≡ true → xs ≡ ys
+pub same_line-is : (xs ys : List ℕ) → same_line xs ys ≡ true → xs ≡ ys
 unfolding same_line
 same_line-is [] [] e = refl
 same_line-is [] (y ∷ ys) e = absurd (false≢true e)

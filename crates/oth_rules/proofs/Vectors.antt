@@ -1,8 +1,8 @@
 -- What one lane of a vector of rays computes: what is outflanked along its ray.
 use Rattle.std.proofs.Common.{◌≡◌, ℕ, ◌+◌, ◌-◌, ◌*◌, ◌/◌, ◌%◌, ◌^◌, ◌<◌, refl, sym, ap, ◌∙◌, inl, inr, arith}
-use Rattle.std.specs.Prelude.{bit_and, bit_or, nat_lt}
+use Rattle.std.specs.Prelude.{bit_and, bit_or, nat_lt, ◌==◌}
 use Rattle.std.specs.Int.{trailing_zeros, leading_zeros, w64}
-use Rattle.std.proofs.lemmas.Bool.{cases_eq, le-ltb}
+use Rattle.std.proofs.lemmas.Bool.{cases_eq, le-ltb, ne_eqb}
 use Rattle.std.proofs.lemmas.Nat.{and_le_l, and_le_r, pow-add, shl-shr}
 use mathlib.Core.Bool.{cond}
 use lib.Lanes.{top}
@@ -52,6 +52,31 @@ pub up_lane-is : (p : Position) (own opp ray : ℕ) → IsBoard p → own ≡ p.
 up_lane-is p own opp ray b e h l =
     rw (e, h)
     (ap (λ x. bit_and x ray) (lane_less_one-is (bit_and (lowest_word (free_word ray p.opp)) p.own) (omega (arith, and_le_r (lowest_word (free_word ray p.opp)) p.own, b.own_fits)))
+    ∙ outflanked_up p b ray (lowest_word (free_word ray p.opp)) l (lowest_word-none (free_word ray p.opp)) (lowest_word-some (free_word ray p.opp) (free_fits ray p.opp)))
+
+-- the same as it is computed from a comparison with 0
+abbrev masked_less_one : ℕ → ℕ
+masked_less_one x =
+    ((x + 18446744073709551615) % 18446744073709551616 + (18446744073709551616 - cond (top 63 (cond (x == 0) 18446744073709551615 0)) 18446744073709551615 0))
+    % 18446744073709551616
+
+masked_less_one-is : (x : ℕ) → x < 2 ^ 64 → masked_less_one x ≡ x - 1
+masked_less_one-is x l =
+    elim (cases_eq x 0) [
+      | inl z ↦ rw z refl
+      | inr n ↦ ap
+          (λ b. ((x + 18446744073709551615) % 18446744073709551616 + (18446744073709551616 - cond (top 63 (cond b 18446744073709551615 0)) 18446744073709551615 0)) % 18446744073709551616)
+          (ne_eqb x 0 n)
+          ∙ omega (arith, n, l)
+    ]
+
+abbrev pub masked_lane : ℕ → ℕ → ℕ → ℕ
+masked_lane own opp ray = bit_and (masked_less_one (bit_and (lowest_word (free_word ray opp)) own)) ray
+
+pub masked_lane-is : (p : Position) (own opp ray : ℕ) → IsBoard p → own ≡ p.own → opp ≡ p.opp → ray < 2 ^ 64 → masked_lane own opp ray ≡ word_of (is_in (outflanked p (rising ray)))
+masked_lane-is p own opp ray b e h l =
+    rw (e, h)
+    (ap (λ x. bit_and x ray) (masked_less_one-is (bit_and (lowest_word (free_word ray p.opp)) p.own) (omega (arith, and_le_r (lowest_word (free_word ray p.opp)) p.own, b.own_fits)))
     ∙ outflanked_up p b ray (lowest_word (free_word ray p.opp)) l (lowest_word-none (free_word ray p.opp)) (lowest_word-some (free_word ray p.opp) (free_fits ray p.opp)))
 
 -- ---- falling rays

@@ -9,3 +9,4 @@ pub mod Laws
 pub mod Exchange
 pub mod LastMove
 pub mod Stable
+pub mod HalfTurn

@@ -60,6 +60,14 @@ impl Board {
         Ok(Board { own, opp })
     }
 
+    // The board of two words that share no square.
+    pub(crate) fn of_words(own: u64, opp: u64) -> Board
+        requires { IsBoard (record { own = own; opp = opp }) }
+        ensures { result ≡ record { own = own; opp = opp } }
+    {
+        Board { own, opp }
+    }
+
     /// The mover's discs.
     pub fn own(&self) -> u64
         ensures value { result ≡ self.now.own }

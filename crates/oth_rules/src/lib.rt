@@ -16,6 +16,8 @@ mod square;
 mod square_words;
 mod stable;
 mod sym;
+mod twin;
+mod twin_rays;
 
 pub use board::{Board, Overlap};
 pub use direction::NOT_H;
@@ -23,3 +25,4 @@ pub use masks::INNER;
 pub use scoring::Scoring;
 pub use square::Square;
 pub use sym::{Sym, map, unmap};
+pub use twin::{Twin, TwinWord};

@@ -3,7 +3,7 @@
 
 mod forms;
 
-use oth_rules::{Board, Overlap, Scoring, Square, Sym};
+use oth_rules::{Board, Overlap, Scoring, Square, Sym, Twin};
 use std::collections::VecDeque;
 use std::process::Abort;
 
@@ -43,12 +43,18 @@ fn best(board: &Board, scoring: Scoring) -> u64 {
 
 // Each form of moves and flips gives the same on this board.
 fn check_forms(rt: &impl Abort, board: &Board) {
+    let twin = Twin::of(board);
     assert_eq!(rt; board.moves_by_lines(), board.moves());
     assert_eq!(rt; board.moves_by_shifts(), board.moves());
+    assert_eq!(rt; twin.moves(), board.moves());
+    assert_eq!(rt; twin.pass().moves(), board.pass().moves());
     for number in 0..64 {
         let square = Square::numbered(number);
         assert_eq!(rt; board.flips_by_rays(square), board.flips(square));
         assert_eq!(rt; board.flips_by_shifts(square), board.flips(square));
+        if let Some(child) = board.play(square) {
+            assert_eq!(rt; twin.play_legal(square).board(), child);
+        }
     }
 }
 

@@ -3,11 +3,11 @@ use Rattle.std.proofs.Common.{◌≡◌, ◌≢◌, ◌⊎◌, inl, inr, ⊎_eli
 use Rattle.std.specs.Int.{bit_not, bit_at}
 use Rattle.std.specs.Prelude.{◌==◌}
 use Rattle.std.proofs.lemmas.Nat.Bits.{bit_at_clear_same, bit_at_clear_other, bit_at_set_same, bit_at_set_other, bit_at-zero}
-use Rattle.std.proofs.lemmas.Nat.{and_le_l, pow_below}
+use Rattle.std.proofs.lemmas.Nat.{and_le_l, and_mask, le_or_l, le_or_r, pow_below}
 use Rattle.std.proofs.lemmas.List.{get_or_default}
-use Rattle.std.proofs.lemmas.Bool.{and_parts, false≢true, cases_eq, cases_lt, eq-eqb}
+use Rattle.std.proofs.lemmas.Bool.{and_parts, or_cases, false≢true, cases_eq, cases_lt, eq-eqb}
 use Rattle.oth_rules.specs.Square.{has}
-use Rattle.oth_rules.proofs.Bits.{has-and, has-pow}
+use Rattle.oth_rules.proofs.Bits.{has-and, has-or, has-pow}
 use Rattle.oth_search.specs.Squares.{In, Without, With}
 
 -- one square less is left
@@ -35,6 +35,27 @@ Without-place n k h = record {
 
 pub In-both : (set early s : ℕ) → s < 64 → has (bit_and set early) s ≡ true → In set s
 In-both set early s within member = record { on_board = within; member = (and_parts (has set s) (has early s) (sym (has-and set early s) ∙ member)).0 }
+
+-- of two parts of a set
+pub In-parts : (set a b s : ℕ) → s < 64 → has (bit_or (bit_and set a) (bit_and set b)) s ≡ true → In set s
+In-parts set a b s within member =
+    elim (or_cases (has (bit_and set a) s) (has (bit_and set b) s) (sym (has-or (bit_and set a) (bit_and set b) s) ∙ member)) [
+      | inl first ↦ In-both set a s within first
+      | inr second ↦ In-both set b s within second
+    ]
+
+-- where a set has none of the early squares, the other part is the whole set
+pub some_part : (set early flag : ℕ) → set < 2 ^ 64 → set ≢ 0 → (bit_and set early ≡ 0 → flag ≡ 0) →
+    bit_or (bit_and set early) (bit_and set ((flag + 18446744073709551615) % 18446744073709551616)) ≢ 0
+some_part set early flag fits some none e =
+    let rest = bit_and set ((flag + 18446744073709551615) % 18446744073709551616) in
+    let no_early : bit_and set early ≡ 0 = omega (arith, e, le_or_l (bit_and set early) rest) in
+    let no_rest : rest ≡ 0 = omega (arith, e, le_or_r (bit_and set early) rest) in
+    let all : rest ≡ set = ap (λ x. bit_and set ((x + 18446744073709551615) % 18446744073709551616)) (none no_early) ∙ and_mask set 64 ∙ whole set fits in
+    some (sym all ∙ no_rest)
+  where
+    whole : (x : ℕ) → x < 2 ^ 64 → x % 2 ^ 64 ≡ x
+    whole x l = omega (arith, l)
 
 -- a set that keeps the word of a square has the square
 pub In-word : (set k word : ℕ) → k < 64 → word ≡ 2 ^ k → bit_and set word ≡ word → In set k

@@ -13,7 +13,7 @@ ghost use Rattle.oth_search.specs.Lasts.{Leaves, GivesAt, MovesAt};
 use crate::interval::greater;
 use crate::quadrant::share_quadrant;
 use crate::squares::{flips_at, preferred, without};
-use oth_rules::{Board, Scoring, Square};
+use oth_rules::{Board, Scoring, Square, Twin};
 
 // Less than each score: there is no move.
 const NO_MOVE: i8 = -65;
@@ -49,20 +49,21 @@ pub fn nws_last(board: Board, odd: u64, alpha: i8, scoring: Scoring) -> Option<i
     if rest == 0 {
         return Some(last_one(board, alpha, a, scoring));
     }
+    let twin = Twin::of(&board);
     let b = preferred(rest, odd);
     let rest = without(rest, b);
     if rest == 0 {
-        return Some(last_two(board, alpha, a, b, scoring));
+        return Some(last_two(twin, alpha, a, b, scoring));
     }
     let c = preferred(rest, odd);
     let rest = without(rest, c);
     if rest == 0 {
-        return Some(last_three(board, alpha, a, b, c, scoring));
+        return Some(last_three(twin, alpha, a, b, c, scoring));
     }
     let d = preferred(rest, odd);
     if without(rest, d) == 0 {
         let squares = Four { a, b, c, d };
-        return Some(last_four(board, alpha, &squares, scoring));
+        return Some(last_four(twin, alpha, &squares, scoring));
     }
     None
 }
@@ -103,8 +104,9 @@ fn last_reply(board: &Board, a: Square) -> Option<i8>
     Some(half + half)
 }
 
-// The value of a board with these two empty squares, against `alpha`.
-fn last_two(board: Board, alpha: i8, a: Square, b: Square, scoring: Scoring) -> i8
+// The value of a board with these two empty squares, against `alpha`. Inline, since most of the time is spent here.
+#[inline(always)]
+fn last_two(board: Twin, alpha: i8, a: Square, b: Square, scoring: Scoring) -> i8
     requires threshold { IsThreshold alpha }
     requires a_on_board { a < 64 }
     requires b_on_board { b < 64 }
@@ -120,12 +122,12 @@ fn last_two(board: Board, alpha: i8, a: Square, b: Square, scoring: Scoring) -> 
     if found != NO_MOVE {
         return -found;
     }
-    board.final_score(scoring)
+    board.board().final_score(scoring)
 }
 
 // The best of the mover's moves to them, if there is a legal one.
 #[inline(always)]
-fn moves_two(board: Board, alpha: i8, a: Square, b: Square, scoring: Scoring) -> i8
+fn moves_two(board: Twin, alpha: i8, a: Square, b: Square, scoring: Scoring) -> i8
     requires threshold { IsThreshold alpha }
     requires a_on_board { a < 64 }
     requires b_on_board { b < 64 }
@@ -141,22 +143,27 @@ fn moves_two(board: Board, alpha: i8, a: Square, b: Square, scoring: Scoring) ->
 
 // A move to `square`, with one more empty square.
 #[inline(always)]
-fn reply_one(board: Board, alpha: i8, square: Square, a: Square, scoring: Scoring) -> i8
+fn reply_one(board: Twin, alpha: i8, square: Square, a: Square, scoring: Scoring) -> i8
     requires threshold { IsThreshold alpha }
     requires on_board { square < 64 }
     requires a_on_board { a < 64 }
     requires last { Leaves board (square ∷ a ∷ []) }
     ensures { GivesAt (score_of scoring) board square alpha result }
 {
-    let flips = flips_at(&board, square);
-    if flips == 0 {
+    let flips = flips_at(board, square);
+    if flips.word() == 0 {
         return NO_MOVE;
     }
-    -last_one(board.play_flipped(square, flips), -alpha - 1, a, scoring)
+    -last_one(
+        board.play_flipped(square, flips).board(),
+        -alpha - 1,
+        a,
+        scoring,
+    )
 }
 
 // The same, of three squares.
-fn last_three(board: Board, alpha: i8, a: Square, b: Square, c: Square, scoring: Scoring) -> i8
+fn last_three(board: Twin, alpha: i8, a: Square, b: Square, c: Square, scoring: Scoring) -> i8
     requires threshold { IsThreshold alpha }
     requires a_on_board { a < 64 }
     requires b_on_board { b < 64 }
@@ -173,12 +180,12 @@ fn last_three(board: Board, alpha: i8, a: Square, b: Square, c: Square, scoring:
     if found != NO_MOVE {
         return -found;
     }
-    board.final_score(scoring)
+    board.board().final_score(scoring)
 }
 
 // The same, where a square alone in its quadrant is tried first. Who moves there moves last there.
 #[inline(always)]
-fn last_three_by_quadrants(board: Board, alpha: i8, squares: Three, scoring: Scoring) -> i8
+fn last_three_by_quadrants(board: Twin, alpha: i8, squares: Three, scoring: Scoring) -> i8
     requires threshold { IsThreshold alpha }
     requires a_on_board { squares.a < 64 }
     requires b_on_board { squares.b < 64 }
@@ -198,7 +205,7 @@ fn last_three_by_quadrants(board: Board, alpha: i8, squares: Three, scoring: Sco
 
 // The best of the moves to three squares.
 #[inline(always)]
-fn moves_three(board: Board, alpha: i8, a: Square, b: Square, c: Square, scoring: Scoring) -> i8
+fn moves_three(board: Twin, alpha: i8, a: Square, b: Square, c: Square, scoring: Scoring) -> i8
     requires threshold { IsThreshold alpha }
     requires a_on_board { a < 64 }
     requires b_on_board { b < 64 }
@@ -219,7 +226,7 @@ fn moves_three(board: Board, alpha: i8, a: Square, b: Square, c: Square, scoring
 
 // A move to `square`, with two more empty squares.
 #[inline(always)]
-fn reply_two(board: Board, alpha: i8, square: Square, a: Square, b: Square, scoring: Scoring) -> i8
+fn reply_two(board: Twin, alpha: i8, square: Square, a: Square, b: Square, scoring: Scoring) -> i8
     requires threshold { IsThreshold alpha }
     requires on_board { square < 64 }
     requires a_on_board { a < 64 }
@@ -227,15 +234,15 @@ fn reply_two(board: Board, alpha: i8, square: Square, a: Square, b: Square, scor
     requires last { Leaves board (square ∷ a ∷ b ∷ []) }
     ensures { GivesAt (score_of scoring) board square alpha result }
 {
-    let flips = flips_at(&board, square);
-    if flips == 0 {
+    let flips = flips_at(board, square);
+    if flips.word() == 0 {
         return NO_MOVE;
     }
     -last_two(board.play_flipped(square, flips), -alpha - 1, a, b, scoring)
 }
 
 // The same, of four squares.
-fn last_four(board: Board, alpha: i8, squares: &Four, scoring: Scoring) -> i8
+fn last_four(board: Twin, alpha: i8, squares: &Four, scoring: Scoring) -> i8
     requires threshold { IsThreshold alpha }
     requires a_on_board { squares.now.a < 64 }
     requires b_on_board { squares.now.b < 64 }
@@ -253,12 +260,12 @@ fn last_four(board: Board, alpha: i8, squares: &Four, scoring: Scoring) -> i8
     if found != NO_MOVE {
         return -found;
     }
-    board.final_score(scoring)
+    board.board().final_score(scoring)
 }
 
 // The best of the moves to four squares.
 #[inline(always)]
-fn moves_four(board: Board, alpha: i8, squares: &Four, scoring: Scoring) -> i8
+fn moves_four(board: Twin, alpha: i8, squares: &Four, scoring: Scoring) -> i8
     requires threshold { IsThreshold alpha }
     requires a_on_board { squares.now.a < 64 }
     requires b_on_board { squares.now.b < 64 }
@@ -294,7 +301,7 @@ fn moves_four(board: Board, alpha: i8, squares: &Four, scoring: Scoring) -> i8
 
 // A move to `square`, with three more empty squares.
 #[inline(always)]
-fn reply_three(board: Board, alpha: i8, square: Square, rest: Three, scoring: Scoring) -> i8
+fn reply_three(board: Twin, alpha: i8, square: Square, rest: Three, scoring: Scoring) -> i8
     requires threshold { IsThreshold alpha }
     requires on_board { square < 64 }
     requires a_on_board { rest.a < 64 }
@@ -303,8 +310,8 @@ fn reply_three(board: Board, alpha: i8, square: Square, rest: Three, scoring: Sc
     requires last { Leaves board (square ∷ rest.a ∷ rest.b ∷ rest.c ∷ []) }
     ensures { GivesAt (score_of scoring) board square alpha result }
 {
-    let flips = flips_at(&board, square);
-    if flips == 0 {
+    let flips = flips_at(board, square);
+    if flips.word() == 0 {
         return NO_MOVE;
     }
     -last_three_by_quadrants(board.play_flipped(square, flips), -alpha - 1, rest, scoring)

@@ -6,7 +6,7 @@ ghost use Rattle.oth_rules.specs.Move.{is_flipped};
 ghost use Rattle.oth_rules.specs.Laws.{IsLegal};
 ghost use Rattle.oth_search.specs.Squares.{In, Without, With};
 
-use oth_rules::{Board, Square};
+use oth_rules::{Square, Twin, TwinWord};
 
 /// The least square of a set of squares.
 pub fn first(set: u64) -> Square
@@ -23,10 +23,8 @@ pub fn preferred(set: u64, early: u64) -> Square
     ensures { In set result }
 {
     let both = set & early;
-    if both != 0 {
-        return Square::first_of(both);
-    }
-    Square::first_of(set)
+    let all_or_none = u64::from(both != 0).wrapping_sub(1);
+    Square::first_of(both | set & all_or_none)
 }
 
 /// The quadrants of the board with an odd number of these squares. Who moves into such a quadrant tends to move last
@@ -71,11 +69,11 @@ pub fn with(set: u64, square: Square) -> u64
 
 /// What a move to an empty square flips: nothing exactly if it is not legal.
 #[inline(always)]
-pub fn flips_at(board: &Board, square: Square) -> u64
+pub fn flips_at(board: Twin, square: Square) -> TwinWord
     requires on_board { square < 64 }
-    requires empty { IsTrue (is_empty board.now square) }
-    ensures value { result ≡ word_of (is_flipped board.now square) }
-    ensures legal { (result ≢ 0) ↔ IsLegal board.now square }
+    requires empty { IsTrue (is_empty board square) }
+    ensures value { result ≡ word_of (is_flipped board square) }
+    ensures legal { (result ≢ 0) ↔ IsLegal board square }
 {
-    board.flips_of_empty(square)
+    board.flips(square)
 }

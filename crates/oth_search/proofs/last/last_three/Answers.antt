@@ -24,4 +24,4 @@ returns c =
     l.BoundsAt-ended c.args.scoring c.args.board c.pass-passed.result c.args.alpha _ c.moves_three-found.result c.moves_three-found-2.result _ c.pass-passed.ensures
     (l.MovesAt-at c.args.scoring c.args.board c.args.alpha _ c.moves_three-found.result (omega (arith, ints)) c.moves_three-found.ensures)
     (omega (arith, ints, c.if-found.false))
-    c.moves_three-found-2.ensures (omega (arith, ints, c.if-found-2.false)) (omega (arith, ints, c.final_score.ensures))
+    c.moves_three-found-2.ensures (omega (arith, ints, c.if-found-2.false)) (omega (arith, ints, rw c.board.ensures at c.final_score.ensures))

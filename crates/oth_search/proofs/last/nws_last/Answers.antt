@@ -35,7 +35,7 @@ last_two-requires-clause-last c =
     let but_b =
     l.LeavesBut-next p (first ∷ []) c.without-rest.result second c.without-rest-2.result but_a c.preferred-b.ensures
     c.without-rest-2.ensures.rest in
-    l.Leaves-all p (first ∷ second ∷ []) c.without-rest-2.result but_b c.if-rest-eq0-3.true
+    rw c.of-twin.ensures (l.Leaves-all p (first ∷ second ∷ []) c.without-rest-2.result but_b c.if-rest-eq0-3.true)
 
 pub last_three-requires-clause-last : goal.last_three-requires-clause-last
 last_three-requires-clause-last c =
@@ -53,7 +53,7 @@ last_three-requires-clause-last c =
     let but_c =
     l.LeavesBut-next p (first ∷ second ∷ []) c.without-rest-2.result third c.without-rest-3.result but_b c.preferred-c.ensures
     c.without-rest-3.ensures.rest in
-    l.Leaves-all p (first ∷ second ∷ third ∷ []) c.without-rest-3.result but_c c.if-rest-eq0-4.true
+    rw c.of-twin.ensures (l.Leaves-all p (first ∷ second ∷ third ∷ []) c.without-rest-3.result but_c c.if-rest-eq0-4.true)
 
 pub last_four-requires-clause-last : goal.last_four-requires-clause-last
 last_four-requires-clause-last c =
@@ -75,4 +75,4 @@ last_four-requires-clause-last c =
     let but_d =
     l.LeavesBut-next p (first ∷ second ∷ third ∷ []) c.without-rest-3.result fourth c.without.result but_c c.preferred-d.ensures
     c.without.ensures.rest in
-    l.Leaves-all p (first ∷ second ∷ third ∷ fourth ∷ []) c.without.result but_d c.if-without-eq0.true
+    rw c.of-twin.ensures (l.Leaves-all p (first ∷ second ∷ third ∷ fourth ∷ []) c.without.result but_d c.if-without-eq0.true)

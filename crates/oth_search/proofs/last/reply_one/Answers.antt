@@ -1,17 +1,18 @@
-use Rattle.std.proofs.Common.{◌∷◌, [], refl, arith}
+use Rattle.std.proofs.Common.{◌∷◌, [], refl, sym, ◌∙◌, arith}
 use Rattle.std.proofs.lemmas.Int.{ints}
 use Rattle.oth_search.proofs.Lasts as l
 use Rattle.oth_search.proofs.last.reply_one.Goals as goal
 
 pub last_one-requires-clause-last : goal.last_one-requires-clause-last
-last_one-requires-clause-last c = l.Leaves-after c.args.board c.play_flipped.result c.args.square (c.args.a ∷ []) c.requires.last c.play_flipped.ensures
+last_one-requires-clause-last c = l.Leaves-after c.args.board c.board.result c.args.square (c.args.a ∷ []) c.requires.last (c.board.ensures ∙ c.play_flipped.ensures)
 
-pub returns-then-flips-eq0 : goal.returns-then-flips-eq0
-returns-then-flips-eq0 c = l.GivesAt-none c.args.scoring c.args.board c.args.square c.args.alpha _ refl (λ h. c.flips_at-flips.ensures.legal.1 h c.if-flips-eq0.true)
+pub returns-then-word-eq0 : goal.returns-then-word-eq0
+returns-then-word-eq0 c = l.GivesAt-none c.args.scoring c.args.board c.args.square c.args.alpha _ refl (λ h. c.flips_at-flips.ensures.legal.1 h (sym c.word.ensures ∙ c.if-word-eq0.true))
 
 pub returns : goal.returns
 returns c =
-    l.GivesAt-reply c.args.scoring c.args.board c.play_flipped.result c.args.square c.args.alpha _ _ c.last_one.result c.play_flipped.ensures (c.flips_at-flips.ensures.legal.0 c.if-flips-eq0.false)
+    l.GivesAt-reply c.args.scoring c.args.board c.board.result c.args.square c.args.alpha _ _ c.last_one.result (c.board.ensures ∙ c.play_flipped.ensures)
+    (c.flips_at-flips.ensures.legal.0 (λ e. c.if-word-eq0.false (c.word.ensures ∙ e)))
     (omega (arith, ints)) (omega (arith, ints)) c.last_one.ensures
 
 pub flips_at-flips-requires-clause-empty : goal.flips_at-flips-requires-clause-empty

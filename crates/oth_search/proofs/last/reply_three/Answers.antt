@@ -1,4 +1,4 @@
-use Rattle.std.proofs.Common.{◌∷◌, [], refl, arith}
+use Rattle.std.proofs.Common.{◌∷◌, [], refl, sym, ◌∙◌, arith}
 use Rattle.std.proofs.lemmas.Int.{ints}
 use Rattle.oth_search.proofs.Lasts as l
 use Rattle.oth_search.proofs.last.reply_three.Goals as goal
@@ -7,13 +7,13 @@ pub last_three_by_quadrants-requires-clause-last : goal.last_three_by_quadrants-
 last_three_by_quadrants-requires-clause-last c =
     l.Leaves-after c.args.board c.play_flipped.result c.args.square (c.args.rest.a ∷ c.args.rest.b ∷ c.args.rest.c ∷ []) c.requires.last c.play_flipped.ensures
 
-pub returns-then-flips-eq0 : goal.returns-then-flips-eq0
-returns-then-flips-eq0 c = l.GivesAt-none c.args.scoring c.args.board c.args.square c.args.alpha _ refl (λ h. c.flips_at-flips.ensures.legal.1 h c.if-flips-eq0.true)
+pub returns-then-word-eq0 : goal.returns-then-word-eq0
+returns-then-word-eq0 c = l.GivesAt-none c.args.scoring c.args.board c.args.square c.args.alpha _ refl (λ h. c.flips_at-flips.ensures.legal.1 h (sym c.word.ensures ∙ c.if-word-eq0.true))
 
 pub returns : goal.returns
 returns c =
     l.GivesAt-reply c.args.scoring c.args.board c.play_flipped.result c.args.square c.args.alpha _ _ c.last_three_by_quadrants.result c.play_flipped.ensures
-    (c.flips_at-flips.ensures.legal.0 c.if-flips-eq0.false)
+    (c.flips_at-flips.ensures.legal.0 (λ e. c.if-word-eq0.false (c.word.ensures ∙ e)))
     (omega (arith, ints)) (omega (arith, ints)) c.last_three_by_quadrants.ensures
 
 pub flips_at-flips-requires-clause-empty : goal.flips_at-flips-requires-clause-empty

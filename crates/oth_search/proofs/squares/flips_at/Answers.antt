@@ -3,6 +3,6 @@ use Rattle.oth_search.proofs.squares.flips_at.Goals as goal
 
 pub returns-clause-legal : goal.returns-clause-legal
 returns-clause-legal c = (
-  flips-legal c.args.board.now c.args.square _ c.requires.on_board c.flips_of_empty.ensures,
-  legal-flips c.args.board.now c.args.square _ c.flips_of_empty.ensures,
+  flips-legal c.args.board c.args.square _ c.requires.on_board c.flips.ensures,
+  legal-flips c.args.board c.args.square _ c.flips.ensures,
 )
