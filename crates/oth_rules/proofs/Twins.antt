@@ -3,7 +3,7 @@ use Rattle.std.proofs.Common.{◌≡◌, ℕ, ◌+◌, ◌-◌, ◌*◌, ◌%◌
 use Rattle.std.specs.Prelude.{bit_and, bit_or, slice_index_or}
 use Rattle.std.specs.List.{list_any}
 use Rattle.std.proofs.lemmas.Bool.{agree_below, agree_below_at, false≢true}
-use Rattle.std.proofs.lemmas.Nat.{or_comm, or_lt, and_le_l, and_le_r}
+use Rattle.std.proofs.lemmas.Nat.{or_comm, or_lt, and_le_l, and_le_r, le_or_l, le_or_r}
 use Rattle.oth_rules.specs.Square.{Direction, Back, Stay, Forth, has, word_below, word_of, next, stepped, square_at, squares, directions, ray_from, ray, is_in}
 use Rattle.oth_rules.specs.Position.{Position, IsBoard, is_empty}
 use Rattle.oth_rules.specs.Move.{outflanked, flipped_along, is_flipped, is_legal}
@@ -168,6 +168,25 @@ pub flips_of_parts : (p : Position) (s part turned : ℕ) → s < 64 → is_empt
 flips_of_parts p s part turned l at_s e f =
     flipped_of_empty p s (bit_or part (half_turned turned)) at_s
     (senses_word (λ d. is_in (flipped_along p s d)) part (half_turned turned) e (turned_part p s turned l f))
+
+first_none : (a b : ℕ) → bit_or a b ≡ 0 → a ≡ 0
+first_none a b e = omega (arith, le_or_l a b, e)
+
+second_none : (a b : ℕ) → bit_or a b ≡ 0 → b ≡ 0
+second_none a b e = omega (arith, le_or_r a b, e)
+
+half_none : half_turned 0 ≡ 0
+unfolding half_turned map_word word_of word_below has unmap_square turned_if
+half_none = refl
+
+-- two words, the second turned, are together empty just where both are
+pub none_of_parts : (a b : ℕ) → bit_or a b ≡ 0 → bit_or a (half_turned b) ≡ 0
+none_of_parts a b e = ap (λ x. bit_or x (half_turned b)) (first_none a b e) ∙ ap (bit_or 0) (ap half_turned (second_none a b e) ∙ half_none)
+
+pub parts_of_none : (a b : ℕ) → b < 2 ^ 64 → bit_or a (half_turned b) ≡ 0 → bit_or a b ≡ 0
+parts_of_none a b l e =
+    ap (λ x. bit_or x b) (first_none a (half_turned b) e)
+    ∙ ap (bit_or 0) (sym (half-twice b l) ∙ ap half_turned (second_none a (half_turned b) e) ∙ half_none)
 
 -- two words, each with the other turned: twins of each other
 pub twins_of_parts : (a b : ℕ) → a < 2 ^ 64 → b < 2 ^ 64 → ◌≡◌ {A = List ℕ} (bit_or a (half_turned b) ∷ bit_or b (half_turned a) ∷ []) (twin (bit_or a (half_turned b)))

@@ -1,6 +1,7 @@
 //! Words of squares beside themselves turned by half a turn, a lane for each: a ray along which square numbers fall is
 //! in the other lane one along which they rise.
-ghost use Rattle.std.specs.Prelude.{◌≡◌, ◌<◌, ◌*◌, ◌%◌, ◌^◌, ℕ, IsTrue, bit_and, length, map, slice_index_or, [], ◌∷◌};
+ghost use Rattle.std.specs.Prelude.{◌≡◌, ◌<◌, ◌*◌, ◌%◌, ◌^◌, ◌↔◌, ℕ, IsTrue, IfSome, IsSome};
+ghost use Rattle.std.specs.Prelude.{bit_and, bit_or, length, map, slice_index_or, [], ◌∷◌};
 ghost use Rattle.oth_rules.specs.Square.{Direction, has, word_of, is_in};
 ghost use Rattle.oth_rules.specs.Position.{is_empty, pass};
 ghost use Rattle.oth_rules.specs.Move.{outflanked, is_flipped, is_legal, after};
@@ -63,6 +64,14 @@ impl TwinWord {
         ensures { result ≡ slice_index_or lanes 0 0 }
     {
         TwinWord { lanes }
+    }
+
+    // The squares of the first lane, and those of the second, turned.
+    #[inline(always)]
+    fn joined(lanes: u64x2) -> TwinWord
+        ensures { result ≡ bit_or (slice_index_or lanes 0 0) (half_turned (slice_index_or lanes 1 0)) }
+    {
+        TwinWord::of_lanes(lanes | turned(lanes))
     }
 }
 
@@ -130,12 +139,22 @@ impl Twin {
         requires { IsTrue (is_empty self square) }
         ensures { result ≡ word_of (is_flipped self square) }
     {
-        let [east, south_east, south, south_west] = TWIN_RAYS[square.number() as usize];
-        let part = self.outflanked(u64x2::from_array(east))
-            | self.outflanked(u64x2::from_array(south_east))
-            | self.outflanked(u64x2::from_array(south))
-            | self.outflanked(u64x2::from_array(south_west));
-        TwinWord::of_lanes(part | turned(part))
+        TwinWord::joined(self.risen(square))
+    }
+
+    /// The discs that a move to an empty square flips, if the move is legal.
+    #[inline(always)]
+    pub fn legal_flips(self, square: Square) -> Option<TwinWord>
+        requires { IsTrue (is_empty self square) }
+        ensures flips { IfSome result (λ f. f ≡ word_of (is_flipped self square)) }
+        ensures legal { IsSome result ↔ IsLegal self square }
+    {
+        let risen = self.risen(square);
+        let [first, second] = risen.to_array();
+        if first | second == 0 {
+            return None;
+        }
+        Some(TwinWord::joined(risen))
     }
 
     /// The board after the roles change, as after a pass.
@@ -170,6 +189,22 @@ impl Twin {
         ensures { result ≡ after self square }
     {
         self.play_flipped(square, self.flips(square))
+    }
+
+    // What a move to an empty square flips along rays of rising squares: on the board, and on the turned one.
+    #[inline(always)]
+    fn risen(self, square: Square) -> u64x2
+        requires { IsTrue (is_empty self square) }
+        ensures on_board { square < 64 }
+        ensures fits { slice_index_or result 1 0 < 2 ^ 64 }
+        ensures flips { bit_or (slice_index_or result 0 0) (half_turned (slice_index_or result 1 0))
+            ≡ word_of (is_flipped self square) }
+    {
+        let [east, south_east, south, south_west] = TWIN_RAYS[square.number() as usize];
+        self.outflanked(u64x2::from_array(east))
+            | self.outflanked(u64x2::from_array(south_east))
+            | self.outflanked(u64x2::from_array(south))
+            | self.outflanked(u64x2::from_array(south_west))
     }
 
     // What is outflanked along these rays of rising squares: on the board, and on the turned one.

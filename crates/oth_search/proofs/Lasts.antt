@@ -1,8 +1,10 @@
 -- The last few empty squares, one after another.
-use Rattle.std.proofs.Common.{◌≡◌, ◌≢◌, ◌⊎◌, inl, inr, ⊎_elim, ℕ, ◌<◌, Bool, true, false, not, ◌&&◌, refl, sym, ap, subst, ◌∙◌, arith, List, [], ◌∷◌, ◌++◌}
+use Rattle.std.proofs.Common.{◌≡◌, ◌≢◌, ◌⊎◌, inl, inr, ⊎_elim, ℕ, ◌<◌, ◌^◌, Bool, true, false, not, ◌&&◌, refl, sym, ap, subst, ◌∙◌, arith, List, [], ◌∷◌, ◌++◌}
 use Rattle.std.specs.Prelude.{◌==◌, ℤ, pos, neg_ℤ, ◌-ℤ◌, ◌≤ℤ◌, ◌<ℤ◌}
 use Rattle.std.proofs.lemmas.Int.{ints, by_lt_z}
-use Rattle.std.proofs.lemmas.Bool.{cases_Bool, false≢true, ne_eqb}
+use Rattle.std.proofs.lemmas.Bool.{cases_Bool, cases_eq, false≢true, eq-eqb, ne_eqb}
+use Rattle.std.proofs.Math.Bool.{and-true, and-false}
+use Rattle.oth_rules.proofs.Bits.{is_word_of, word_of-same}
 use Rattle.oth_rules.specs.declared.scoring.Scoring.{Scoring}
 use Rattle.oth_rules.specs.Square.{squares, word_of, has}
 use Rattle.oth_rules.proofs.Counts as counts
@@ -154,6 +156,23 @@ Leaves-all p xs set l e = record {
   only = λ s within h. ⊎_elim (λ old. old) (λ here. absurd (In-none set e s here)) (l.only s within h);
   each = l.each;
 }
+
+-- the empty squares after a move, and after a pass
+pub empties-after : (p q : Position) (s set rest : ℕ) → q ≡ after p s → set ≡ word_of (is_empty p) → Without set s rest → rest < 2 ^ 64 → rest ≡ word_of (is_empty q)
+empties-after p q s set rest is e w fits =
+    is_word_of rest (is_empty q) fits
+    (λ t l. ⊎_elim
+    (λ same. ap (has rest) same ∙ w.taken ∙ sym (taken t same l))
+    (λ other. w.others t l other ∙ empty-word p set e t l ∙ sym (kept t other l))
+    (cases_eq t s))
+  where
+    taken : (t : ℕ) → t ≡ s → t < 64 → is_empty q t ≡ false
+    taken t same l = ap (λ x. is_empty x t) is ∙ counts.empty_after p s t l ∙ ap (λ b. is_empty p t && not b) (eq-eqb t s same) ∙ and-false (is_empty p t)
+    kept : (t : ℕ) → t ≢ s → t < 64 → is_empty q t ≡ is_empty p t
+    kept t other l = ap (λ x. is_empty x t) is ∙ counts.empty_after p s t l ∙ ap (λ b. is_empty p t && not b) (ne_eqb t s other) ∙ and-true (is_empty p t)
+
+pub empties-pass : (p q : Position) (set : ℕ) → q ≡ pass p → set ≡ word_of (is_empty p) → set ≡ word_of (is_empty q)
+empties-pass p q set is e = e ∙ word_of-same (is_empty p) (is_empty q) (λ t l. sym (ap (λ x. is_empty x t) is ∙ counts.empty-pass p t l))
 
 -- ---- the moves to these squares, one after another
 

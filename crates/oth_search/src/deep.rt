@@ -12,9 +12,8 @@ use crate::cells::Cells;
 use crate::child::Child;
 use crate::children::{children, looked_at, next_child};
 use crate::entry::Entry;
-use crate::few::nws_few;
 use crate::node::Node;
-use crate::nws::nws;
+use crate::nws::{nws, nws_few};
 use crate::solved::Solved;
 use crate::squares::without;
 use crate::tuning::{

@@ -10,9 +10,10 @@ ghost use Rattle.oth_rules.specs.Value.{value};
 ghost use Rattle.oth_search.specs.Interval.{BoundsAt, IsThreshold};
 ghost use Rattle.oth_search.specs.Lasts.{Leaves, GivesAt, MovesAt};
 
+use crate::empties::Empties;
 use crate::interval::greater;
 use crate::quadrant::share_quadrant;
-use crate::squares::{flips_at, preferred, without};
+use crate::squares::{preferred, without};
 use oth_rules::{Board, Scoring, Square, Twin};
 
 // Less than each score: there is no move.
@@ -35,58 +36,51 @@ struct Four {
     d: Square,
 }
 
-/// A bound of the value, where at most four squares are empty. Those in `odd` are tried first.
-pub fn nws_last(board: Board, odd: u64, alpha: i8, scoring: Scoring) -> Option<i8>
-    requires { IsThreshold alpha }
+/// A bound of the value, where at most four squares are empty. Those in an odd quadrant are tried first.
+pub fn nws_last(board: Twin, empties: Empties, alpha: i8, scoring: Scoring) -> Option<i8>
+    requires threshold { IsThreshold alpha }
+    requires empties { empties.all ≡ word_of (is_empty board) }
     ensures { IfSome result (λ r. BoundsAt (value (score_of scoring) board) alpha r) }
 {
-    let rest = board.empty_squares();
+    let Empties { all: rest, odd } = empties;
     if rest == 0 {
-        return Some(board.final_score(scoring));
+        return Some(board.board().final_score(scoring));
     }
     let a = preferred(rest, odd);
     let rest = without(rest, a);
     if rest == 0 {
-        return Some(last_one(board, alpha, a, scoring));
+        return Some(last_one(board.board(), a, scoring));
     }
-    let twin = Twin::of(&board);
     let b = preferred(rest, odd);
     let rest = without(rest, b);
     if rest == 0 {
-        return Some(last_two(twin, alpha, a, b, scoring));
+        return Some(last_two(board, alpha, a, b, scoring));
     }
     let c = preferred(rest, odd);
     let rest = without(rest, c);
     if rest == 0 {
-        return Some(last_three(twin, alpha, a, b, c, scoring));
+        return Some(last_three(board, alpha, a, b, c, scoring));
     }
     let d = preferred(rest, odd);
     if without(rest, d) == 0 {
-        let squares = Four { a, b, c, d };
-        return Some(last_four(twin, alpha, &squares, scoring));
+        return Some(last_four(board, alpha, &Four { a, b, c, d }, scoring));
     }
     None
 }
 
-// Where the mover has no move, the score of the board as it is bounds the value from above: the opponent may still have
-// one.
+// The value of a board with one empty square.
 #[inline(always)]
-fn last_one(board: Board, alpha: i8, a: Square, scoring: Scoring) -> i8
-    requires on_board { a < 64 }
-    requires last { Leaves board (a ∷ []) }
-    ensures { BoundsAt (value (score_of scoring) board) alpha result }
+fn last_one(board: Board, a: Square, scoring: Scoring) -> i8
+    requires { Leaves board (a ∷ []) }
+    ensures { result ≡ value (score_of scoring) board }
 {
     if let Some(score) = last_reply(&board, a) {
         return score;
     }
-    let rest = board.final_score(scoring);
-    if rest <= alpha {
-        return rest;
-    }
     if let Some(score) = last_reply(&board.pass(), a) {
         return -score;
     }
-    rest
+    board.final_score(scoring)
 }
 
 // What a move to the only empty square comes to, which is the same under each scoring; none where it is illegal.
@@ -108,8 +102,6 @@ fn last_reply(board: &Board, a: Square) -> Option<i8>
 #[inline(always)]
 fn last_two(board: Twin, alpha: i8, a: Square, b: Square, scoring: Scoring) -> i8
     requires threshold { IsThreshold alpha }
-    requires a_on_board { a < 64 }
-    requires b_on_board { b < 64 }
     requires last { Leaves board (a ∷ b ∷ []) }
     ensures { BoundsAt (value (score_of scoring) board) alpha result }
 {
@@ -129,8 +121,6 @@ fn last_two(board: Twin, alpha: i8, a: Square, b: Square, scoring: Scoring) -> i
 #[inline(always)]
 fn moves_two(board: Twin, alpha: i8, a: Square, b: Square, scoring: Scoring) -> i8
     requires threshold { IsThreshold alpha }
-    requires a_on_board { a < 64 }
-    requires b_on_board { b < 64 }
     requires last { Leaves board (a ∷ b ∷ []) }
     ensures { MovesAt (score_of scoring) board alpha result }
 {
@@ -145,29 +135,18 @@ fn moves_two(board: Twin, alpha: i8, a: Square, b: Square, scoring: Scoring) -> 
 #[inline(always)]
 fn reply_one(board: Twin, alpha: i8, square: Square, a: Square, scoring: Scoring) -> i8
     requires threshold { IsThreshold alpha }
-    requires on_board { square < 64 }
-    requires a_on_board { a < 64 }
     requires last { Leaves board (square ∷ a ∷ []) }
     ensures { GivesAt (score_of scoring) board square alpha result }
 {
-    let flips = flips_at(board, square);
-    if flips.word() == 0 {
+    let Some(flips) = board.legal_flips(square) else {
         return NO_MOVE;
-    }
-    -last_one(
-        board.play_flipped(square, flips).board(),
-        -alpha - 1,
-        a,
-        scoring,
-    )
+    };
+    -last_one(board.play_flipped(square, flips).board(), a, scoring)
 }
 
 // The same, of three squares.
 fn last_three(board: Twin, alpha: i8, a: Square, b: Square, c: Square, scoring: Scoring) -> i8
     requires threshold { IsThreshold alpha }
-    requires a_on_board { a < 64 }
-    requires b_on_board { b < 64 }
-    requires c_on_board { c < 64 }
     requires last { Leaves board (a ∷ b ∷ c ∷ []) }
     ensures { BoundsAt (value (score_of scoring) board) alpha result }
 {
@@ -187,9 +166,6 @@ fn last_three(board: Twin, alpha: i8, a: Square, b: Square, c: Square, scoring: 
 #[inline(always)]
 fn last_three_by_quadrants(board: Twin, alpha: i8, squares: Three, scoring: Scoring) -> i8
     requires threshold { IsThreshold alpha }
-    requires a_on_board { squares.a < 64 }
-    requires b_on_board { squares.b < 64 }
-    requires c_on_board { squares.c < 64 }
     requires last { Leaves board (squares.a ∷ squares.b ∷ squares.c ∷ []) }
     ensures { BoundsAt (value (score_of scoring) board) alpha result }
 {
@@ -207,9 +183,6 @@ fn last_three_by_quadrants(board: Twin, alpha: i8, squares: Three, scoring: Scor
 #[inline(always)]
 fn moves_three(board: Twin, alpha: i8, a: Square, b: Square, c: Square, scoring: Scoring) -> i8
     requires threshold { IsThreshold alpha }
-    requires a_on_board { a < 64 }
-    requires b_on_board { b < 64 }
-    requires c_on_board { c < 64 }
     requires last { Leaves board (a ∷ b ∷ c ∷ []) }
     ensures { MovesAt (score_of scoring) board alpha result }
 {
@@ -228,26 +201,18 @@ fn moves_three(board: Twin, alpha: i8, a: Square, b: Square, c: Square, scoring:
 #[inline(always)]
 fn reply_two(board: Twin, alpha: i8, square: Square, a: Square, b: Square, scoring: Scoring) -> i8
     requires threshold { IsThreshold alpha }
-    requires on_board { square < 64 }
-    requires a_on_board { a < 64 }
-    requires b_on_board { b < 64 }
     requires last { Leaves board (square ∷ a ∷ b ∷ []) }
     ensures { GivesAt (score_of scoring) board square alpha result }
 {
-    let flips = flips_at(board, square);
-    if flips.word() == 0 {
+    let Some(flips) = board.legal_flips(square) else {
         return NO_MOVE;
-    }
+    };
     -last_two(board.play_flipped(square, flips), -alpha - 1, a, b, scoring)
 }
 
 // The same, of four squares.
 fn last_four(board: Twin, alpha: i8, squares: &Four, scoring: Scoring) -> i8
     requires threshold { IsThreshold alpha }
-    requires a_on_board { squares.now.a < 64 }
-    requires b_on_board { squares.now.b < 64 }
-    requires c_on_board { squares.now.c < 64 }
-    requires d_on_board { squares.now.d < 64 }
     requires last { Leaves board (squares.now.a ∷ squares.now.b ∷ squares.now.c ∷ squares.now.d ∷ []) }
     ensures { BoundsAt (value (score_of scoring) board) alpha result }
 {
@@ -267,10 +232,6 @@ fn last_four(board: Twin, alpha: i8, squares: &Four, scoring: Scoring) -> i8
 #[inline(always)]
 fn moves_four(board: Twin, alpha: i8, squares: &Four, scoring: Scoring) -> i8
     requires threshold { IsThreshold alpha }
-    requires a_on_board { squares.now.a < 64 }
-    requires b_on_board { squares.now.b < 64 }
-    requires c_on_board { squares.now.c < 64 }
-    requires d_on_board { squares.now.d < 64 }
     requires last { Leaves board (squares.now.a ∷ squares.now.b ∷ squares.now.c ∷ squares.now.d ∷ []) }
     ensures { MovesAt (score_of scoring) board alpha result }
 {
@@ -303,16 +264,11 @@ fn moves_four(board: Twin, alpha: i8, squares: &Four, scoring: Scoring) -> i8
 #[inline(always)]
 fn reply_three(board: Twin, alpha: i8, square: Square, rest: Three, scoring: Scoring) -> i8
     requires threshold { IsThreshold alpha }
-    requires on_board { square < 64 }
-    requires a_on_board { rest.a < 64 }
-    requires b_on_board { rest.b < 64 }
-    requires c_on_board { rest.c < 64 }
     requires last { Leaves board (square ∷ rest.a ∷ rest.b ∷ rest.c ∷ []) }
     ensures { GivesAt (score_of scoring) board square alpha result }
 {
-    let flips = flips_at(board, square);
-    if flips.word() == 0 {
+    let Some(flips) = board.legal_flips(square) else {
         return NO_MOVE;
-    }
+    };
     -last_three_by_quadrants(board.play_flipped(square, flips), -alpha - 1, rest, scoring)
 }

@@ -1,63 +1,77 @@
 //! Null-window searches of boards with few empty squares: odd quadrants first, no rank, no cells.
 ghost use Rattle.std.specs.Prelude.{◌≡◌, ℕ, ◌<◌, neg_ℤ, pos, true};
 ghost use Rattle.oth_rules.specs.Square.{word_of};
+ghost use Rattle.oth_rules.specs.Position.{is_empty};
 ghost use Rattle.oth_rules.specs.Move.{is_legal, can_move};
 ghost use Rattle.oth_rules.specs.Score.{score_of};
 ghost use Rattle.oth_rules.specs.Value.{value};
 ghost use Rattle.oth_search.specs.Interval.{BoundsAt, IsThreshold};
 
+use crate::empties::Empties;
 use crate::last::nws_last;
-use crate::quadrant::quadrant_of;
-use crate::squares::{odd_quadrants, preferred, without};
+use crate::node::Node;
+use crate::squares::{preferred, without};
 use crate::tuning::MOST_EMPTIES_LAST;
-use oth_rules::{Board, Scoring};
+use oth_rules::{Board, Scoring, Twin};
 
 /// Whether the value of the board is above `alpha`: a bound of the value on its side of `alpha`.
 pub fn nws(board: Board, alpha: i8, scoring: Scoring) -> i8
     requires { IsThreshold alpha }
     ensures { BoundsAt (value (score_of scoring) board) alpha result }
 {
-    nws_with_odd(board, odd_quadrants(board.empty_squares()), alpha, scoring)
+    nws_at(Twin::of(&board), Empties::of(&board), alpha, scoring)
 }
 
-// The same, where moves to the squares of `odd` are tried first: the quadrants with an odd number of empty squares.
+/// As `nws`, of a board whose moves are known, where there is one.
+pub fn nws_few(node: Node, alpha: i8, scoring: Scoring) -> i8
+    requires threshold { IsThreshold alpha }
+    requires some { can_move node.board ≡ true }
+    ensures { BoundsAt (value (score_of scoring) node.board) alpha result }
+{
+    let board = &node.board;
+    nws_moves(Twin::of(board), node.moves, Empties::of(board), alpha, scoring)
+}
+
+// As `nws`, of a twin whose empty squares are known.
 #[cycle(nws)]
-fn nws_with_odd(board: Board, odd: u64, alpha: i8, scoring: Scoring) -> i8
-    requires { IsThreshold alpha }
+fn nws_at(board: Twin, empties: Empties, alpha: i8, scoring: Scoring) -> i8
+    requires threshold { IsThreshold alpha }
+    requires empties { empties.all ≡ word_of (is_empty board) }
     ensures { BoundsAt (value (score_of scoring) board) alpha result }
 {
-    if board.empties() <= MOST_EMPTIES_LAST {
-        if let Some(found) = nws_last(board, odd, alpha, scoring) {
+    if empties.all.count_ones() <= u32::from(MOST_EMPTIES_LAST) {
+        if let Some(found) = nws_last(board, empties, alpha, scoring) {
             return found;
         }
     }
-    let moves = board.moves_by_lines();
+    let moves = board.moves();
     if moves != 0 {
-        return nws_moves(board, moves, odd, alpha, scoring);
+        return nws_moves(board, moves, empties, alpha, scoring);
     }
     let passed = board.pass();
-    let replies = passed.moves_by_lines();
+    let replies = passed.moves();
     if replies != 0 {
-        return -nws_moves(passed, replies, odd, -alpha - 1, scoring);
+        return -nws_moves(passed, replies, empties, -alpha - 1, scoring);
     }
-    board.final_score(scoring)
+    board.board().final_score(scoring)
 }
 
-// The same, where the mover has the given moves.
+// As `nws_at`, where the mover has these moves.
 #[cycle(nws)]
-fn nws_moves(board: Board, moves: u64, odd: u64, alpha: i8, scoring: Scoring) -> i8
+fn nws_moves(board: Twin, moves: u64, empties: Empties, alpha: i8, scoring: Scoring) -> i8
     requires threshold { IsThreshold alpha }
     requires some { can_move board ≡ true }
     requires legal { moves ≡ word_of (is_legal board) }
+    requires empties { empties.all ≡ word_of (is_empty board) }
     ensures { BoundsAt (value (score_of scoring) board) alpha result }
 {
     let mut best = -64;
     let mut rest = moves;
     while rest != 0 {
-        let square = preferred(rest, odd);
+        let square = preferred(rest, empties.odd);
         rest = without(rest, square);
         let child = board.play_legal(square);
-        let reply = -nws_with_odd(child, odd ^ quadrant_of(square), -alpha - 1, scoring);
+        let reply = -nws_at(child, empties.without(square), -alpha - 1, scoring);
         if reply > alpha {
             return reply;
         }

@@ -1,12 +1,8 @@
 //! Sets of squares, as words.
-ghost use Rattle.std.specs.Prelude.{IsTrue, ◌≡◌, ◌≢◌, ◌↔◌, ℕ, ◌<◌, ◌≤◌, true, false};
-ghost use Rattle.oth_rules.specs.Square.{word_of};
-ghost use Rattle.oth_rules.specs.Position.{is_empty};
-ghost use Rattle.oth_rules.specs.Move.{is_flipped};
-ghost use Rattle.oth_rules.specs.Laws.{IsLegal};
+ghost use Rattle.std.specs.Prelude.{IsTrue, ◌≢◌, ℕ, ◌<◌, ◌≤◌};
 ghost use Rattle.oth_search.specs.Squares.{In, Without, With};
 
-use oth_rules::{Square, Twin, TwinWord};
+use oth_rules::Square;
 
 /// The least square of a set of squares.
 pub fn first(set: u64) -> Square
@@ -65,15 +61,4 @@ pub fn with(set: u64, square: Square) -> u64
     ensures { With set square result }
 {
     set | square.word()
-}
-
-/// What a move to an empty square flips: nothing exactly if it is not legal.
-#[inline(always)]
-pub fn flips_at(board: Twin, square: Square) -> TwinWord
-    requires on_board { square < 64 }
-    requires empty { IsTrue (is_empty board square) }
-    ensures value { result ≡ word_of (is_flipped board square) }
-    ensures legal { (result ≢ 0) ↔ IsLegal board square }
-{
-    board.flips(square)
 }

@@ -4,8 +4,8 @@ use Rattle.oth_search.specs.Squares.{In}
 use Rattle.oth_search.proofs.Replies.{ReplyLoop}
 use Rattle.oth_search.proofs.nws.+nws.Given as goal
 
-abbrev pub decreases-nws_with_odd : goal.decreases-nws_with_odd
-decreases-nws_with_odd l = 2 * empty_count l.board + 1
+abbrev pub decreases-nws_at : goal.decreases-nws_at
+decreases-nws_at l = 2 * empty_count l.board + 1
 
 abbrev pub decreases-nws_moves : goal.decreases-nws_moves
 decreases-nws_moves l = 2 * empty_count l.board
