@@ -75,11 +75,13 @@ def plain(text, crate, crates):
     text = re.sub(r"(#\[derive\([^)]*), Error\b", r"\1", text)
     text = re.sub(r"^use (?:std::marker::Model|thiserror::Error);\n", "", text, flags=re.M)
     # What the kit's prelude of vectors has, and Rust's has not.
-    text = text.replace("use std::simd::prelude::*;\n", "use std::simd::Select;\nuse std::simd::prelude::*;\n")
+    text = text.replace("use std::simd::prelude::*;\n", "use std::simd::{Select, ToBytes};\nuse std::simd::prelude::*;\n")
     text = re.sub(r"\bcrate::", f"crate::{crate}::", text)
     text = re.sub(rf"^use {FROM_SHIM}", "use crate::shim::", text, flags=re.M)
     names = "|".join(crates + LIBRARIES)
     text = re.sub(rf"(?<!::)\b({names})::", r"crate::\1::", text)
+    if ".swizzle_dyn(" in text:
+        text = "use crate::shim::LookUp;\n" + text.replace(".swizzle_dyn(", ".looked_up(")
     needed = [name for name in ("Box", "Vec", "vec") if re.search(rf"\b{name}(?:<|::|!)", text)]
     if needed:
         text = f"use crate::shim::{{{', '.join(needed)}}};\n" + text

@@ -1,15 +1,14 @@
 -- Words and positions turned by half a turn.
-use Rattle.std.proofs.Common.{◌≡◌, ℕ, zero, suc, ◌-◌, ◌^◌, ◌<◌, Bool, true, false, not, ◌&&◌, ◌||◌, List, [], ◌∷◌, length, map, Fits, w64, refl, sym, ap, ◌∙◌, arith}
+use Rattle.std.proofs.Common.{◌≡◌, ℕ, zero, suc, ◌-◌, ◌^◌, ◌<◌, Bool, not, ◌&&◌, ◌||◌, List, [], ◌∷◌, length, Fits, w64, refl, sym, ap, ◌∙◌, arith}
 use lib.Lanes.{Each1}
 use Rattle.std.specs.Prelude.{bit_and, bit_or, slice_index_or}
 use Rattle.std.proofs.lemmas.Nat.{and_le_l, or_lt}
 use Rattle.oth_rules.specs.Square.{has, word_of}
 use Rattle.oth_rules.specs.Symmetry.{map_word, unmap_word, map_square, unmap_square, turned_if}
 use Rattle.oth_rules.specs.HalfTurn.{half_turned}
-use Rattle.oth_rules.specs.Exchange.{exchanged_square, mirrored_square, flipped_square}
 use Rattle.oth_rules.proofs.Bits.{has-and, has-or, has-not, has-word_of, is_word_of, word_of-lt, same_word}
 use Rattle.oth_rules.proofs.Symmetries.{carries}
-use Rattle.oth_rules.proofs.Exchanges.{mirrored_word, flipped_word, unmap_map, map_is, kept_if}
+use Rattle.oth_rules.proofs.Exchanges.{unmap_map}
 
 -- where half a turn carries a square
 abbrev pub half : ℕ → ℕ
@@ -60,11 +59,6 @@ half-not a la =
     has-half (2 ^ 64 - 1 - a) q l ∙ has-not a (half q) la (half_within q l) ∙ ap not (sym (has-half a q l))
     ∙ sym (has-not (half_turned a) q (half-lt a) l))
 
--- the columns turned round, and then the rows
-pub half_by_parts : (w b r : ℕ) → w < 2 ^ 64 → b ≡ word_of (λ q. has w (mirrored_square q)) → r ≡ word_of (λ q. has b (flipped_square q)) → r ≡ half_turned w
-unfolding half_turned has
-half_by_parts w b r l eb er = map_is 3 w w b r false true true (omega arith) refl refl refl (kept_if w false (λ q. q) refl l) eb er
-
 -- ---- two lanes
 
 pub record TwoLanes (lanes : List ℕ) : Type 0 where
@@ -82,35 +76,6 @@ two_lanes (x ∷ y ∷ z ∷ zs) e f = absurd (omega (arith, e))
 
 pub same_lanes : (a b c d : ℕ) → a ≡ c → b ≡ d → ◌≡◌ {A = List ℕ} (a ∷ b ∷ []) (c ∷ d ∷ [])
 same_lanes a b c d e f = ap (λ x. x ∷ b ∷ []) e ∙ ap (λ y. c ∷ y ∷ []) f
-
-abbrev exchange : ℕ → ℕ → ℕ → ℕ
-exchange m k w = word_of (λ q. has w (exchanged_square m k q))
-
-half_by_exchanges : (w : ℕ) → w < 2 ^ 64 →
-    exchange 0x0000_0000_ffff_ffff 32 (exchange 0x0000_ffff_0000_ffff 16 (exchange 0x00ff_00ff_00ff_00ff 8
-    (exchange 0x0f0f_0f0f_0f0f_0f0f 4 (exchange 0x3333_3333_3333_3333 2 (exchange 0x5555_5555_5555_5555 1 w)))))
-    ≡ half_turned w
-half_by_exchanges w l =
-    let a = exchange 0x5555_5555_5555_5555 1 w in
-    let b = exchange 0x3333_3333_3333_3333 2 a in
-    let m = exchange 0x0f0f_0f0f_0f0f_0f0f 4 b in
-    let d = exchange 0x00ff_00ff_00ff_00ff 8 m in
-    let e = exchange 0x0000_ffff_0000_ffff 16 d in
-    let f = exchange 0x0000_0000_ffff_ffff 32 e in
-    half_by_parts w m f l (mirrored_word w a b m refl refl refl) (flipped_word m d e f refl refl refl)
-
--- both lanes by six exchanges
-pub turned_lanes : (lanes a b m d e f : List ℕ) (two : TwoLanes lanes) →
-    a ≡ map (exchange 0x5555_5555_5555_5555 1) lanes → b ≡ map (exchange 0x3333_3333_3333_3333 2) a → m ≡ map (exchange 0x0f0f_0f0f_0f0f_0f0f 4) b →
-    d ≡ map (exchange 0x00ff_00ff_00ff_00ff 8) m → e ≡ map (exchange 0x0000_ffff_0000_ffff 16) d → f ≡ map (exchange 0x0000_0000_ffff_ffff 32) e →
-    f ≡ half_turned two.first ∷ half_turned two.second ∷ []
-turned_lanes lanes a b m d e f two ea eb em ed ee ef =
-    ef
-    ∙ ap (map (exchange 0x0000_0000_ffff_ffff 32))
-    (ee ∙ ap (map (exchange 0x0000_ffff_0000_ffff 16))
-    (ed ∙ ap (map (exchange 0x00ff_00ff_00ff_00ff 8))
-    (em ∙ ap (map (exchange 0x0f0f_0f0f_0f0f_0f0f 4)) (eb ∙ ap (map (exchange 0x3333_3333_3333_3333 2)) (ea ∙ ap (map (exchange 0x5555_5555_5555_5555 1)) two.are)))))
-    ∙ same_lanes _ _ _ _ (half_by_exchanges two.first two.first_fits) (half_by_exchanges two.second two.second_fits)
 
 pub each_lane : (P : ℕ → Type 0) → P 0 → P 1 → (i : ℕ) → i < 2 → P i
 each_lane P a b zero l = a

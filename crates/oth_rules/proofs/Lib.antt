@@ -27,4 +27,5 @@ pub mod Shelters
 pub mod StableValues
 pub mod StableWords
 pub mod HalfTurns
+pub mod Rows
 pub mod Twins
