@@ -3,21 +3,20 @@ use Rattle.std.proofs.Common.{◌≡◌, ℕ, zero, suc, ◌+◌, ◌-◌, ◌*�
 use Rattle.std.specs.Prelude.{bit_and, bit_or, nat_lt, IfSome}
 use Rattle.std.proofs.lemmas.Bool.{and_parts, or_cases, cases_lt, agree_below, agree_below_at, lt-ltb}
 use Rattle.std.specs.List.{list_any}
-use Rattle.std.proofs.lemmas.Nat.{and_le_l, and_le_r}
-use Rattle.oth_rules.specs.Square.{has, word_of, Direction, Back, Stay, Forth, next, stepped, square_at, directions}
-use Rattle.oth_rules.specs.Position.{Position, IsBoard, is_mine, is_theirs, is_empty}
-use Rattle.oth_rules.specs.Move.{is_legal}
+use Rattle.std.proofs.lemmas.Nat.{and_le_l}
+use Rattle.oth_rules.specs.Square.{has, word_of, Direction, Back, Stay, Forth, next, stepped, square_at}
+use Rattle.oth_rules.specs.Position.{Position, IsBoard, is_mine, is_theirs}
 use Rattle.oth_rules.specs.Line.{reversed, east, rising_directions, falling_directions, some_in, is_next, is_on_line, outflanks, rises_onto, falls_onto, Rises, Falls}
 use Rattle.oth_rules.specs.declared.masks.TheConstants.{INNER}
-use Rattle.oth_rules.proofs.Bits.{has-and, has-or, has-word_of, same_word, word_of-lt, word_of-same}
+use Rattle.oth_rules.proofs.Bits.{has-and, has-or, has-word_of, word_of-same}
 use Rattle.oth_rules.proofs.Lines.{next_lt, is_next-same, and_turn}
 use Rattle.oth_rules.proofs.Rays.{some_in-or, or_true}
 use Rattle.oth_rules.proofs.Legal.{outflanks-line}
-use Rattle.oth_rules.proofs.Positions.{is_mine-has, is_theirs-has, is_empty-has}
-use Rattle.oth_rules.proofs.Words.{is_on_line-same, legal_word}
+use Rattle.oth_rules.proofs.Positions.{is_mine-has, is_theirs-has}
+use Rattle.oth_rules.proofs.Words.{is_on_line-same}
 use Rattle.oth_rules.proofs.RowCarry.{past_east as past_east_at}
 use Rattle.oth_rules.proofs.Slides.{past_word, past_rising, past_falling}
-use Rattle.oth_rules.proofs.Table.{or_words8, or_words4}
+use Rattle.oth_rules.proofs.Table.{or_words4}
 
 -- ---- a line may leave out each square that no step leads to
 
@@ -200,79 +199,6 @@ unfolding covers in_or_first is_none next stepped square_at has
 past_east_word p b =
     outflanking_past (has INNER) 1 (record { columns = Back; rows = Stay }) p (bit_and p.opp INNER)
     (word_of (is_next east (is_on_line 6 east (has p.own) (has (bit_and p.opp INNER))))) b refl (inner_squares p) refl
-
--- a word beside others may be another one, if it has the same square
-other_word : (six g k h s : ℕ) → has g s ≡ has k s → has (bit_or (bit_or six g) h) s ≡ has (bit_or (bit_or six k) h) s
-other_word six g k h s e =
-    has-or (bit_or six g) h s
-    ∙ ap (λ b. b || has h s) (has-or six g s ∙ ap (λ b. has six s || b) e ∙ sym (has-or six k s))
-    ∙ sym (has-or (bit_or six k) h s)
-
-abbrev west_word : Position → ℕ
-west_word p = word_of (is_next east (is_on_line 6 east (has p.own) (has (bit_and p.opp INNER))))
-
-no_opp : (x y : Bool) → not (x || y) ≡ true → y ≡ false
-no_opp true y n = absurd (cc)
-no_opp false true n = absurd (cc)
-no_opp false false n = refl
-
-when_empty : (x y z : Bool) → (z ≡ true → x ≡ y) → (x && z) ≡ (y && z)
-when_empty x y true k = ap (λ b. b && true) (k refl)
-when_empty x y false k = and_turn x false ∙ sym (and_turn y false)
-
--- of the word to the west only the empty squares count
-west_of_empty : (p : Position) (six g h empty : ℕ) → empty ≡ word_of (is_empty p) →
-    ((t : ℕ) → t < 64 → has p.opp t ≡ false → has g t ≡ is_next east (is_on_line 6 east (has p.own) (has (bit_and p.opp INNER))) t) →
-    bit_and (bit_or (bit_or six g) h) empty ≡ bit_and (bit_or (bit_or six (west_word p)) h) empty
-west_of_empty p six g h empty free eg =
-    same_word (bit_and (bit_or (bit_or six g) h) empty) (bit_and (bit_or (bit_or six (west_word p)) h) empty)
-    (empty_fits (bit_or (bit_or six g) h)) (empty_fits (bit_or (bit_or six (west_word p)) h)) each
-  where
-    empty_fits : (w : ℕ) → bit_and w empty < 2 ^ 64
-    empty_fits w = omega (arith, and_le_r w empty, free, word_of-lt (is_empty p))
-
-    each : (t : ℕ) → t < 64 → has (bit_and (bit_or (bit_or six g) h) empty) t ≡ has (bit_and (bit_or (bit_or six (west_word p)) h) empty) t
-    each t l =
-        has-and (bit_or (bit_or six g) h) empty t
-        ∙ when_empty (has (bit_or (bit_or six g) h) t) (has (bit_or (bit_or six (west_word p)) h) t) (has empty t)
-        (λ m. other_word six g (west_word p) h t
-        (eg t l (no_opp (has p.own t) (has p.opp t) (sym (is_empty-has p t) ∙ sym (has-word_of (is_empty p) t l) ∙ ap (λ w. has w t) (sym free) ∙ m))
-        ∙ sym (has-word_of (is_next east (is_on_line 6 east (has p.own) (has (bit_and p.opp INNER)))) t l)))
-        ∙ sym (has-and (bit_or (bit_or six (west_word p)) h) empty t)
-
-pub past_all : (p : Position) (a b c d e f g h empty : ℕ) → IsBoard p →
-    Past p p.opp (λ x. Rises x 8 (has p.opp)) a →
-    Past p (bit_and p.opp INNER) (λ x. Rises x 7 (has (bit_and p.opp INNER))) b →
-    Past p (bit_and p.opp INNER) (λ x. Falls x 1 (has (bit_and p.opp INNER))) c →
-    Past p (bit_and p.opp INNER) (λ x. Falls x 9 (has (bit_and p.opp INNER))) d →
-    Past p p.opp (λ x. Falls x 8 (has p.opp)) e →
-    Past p (bit_and p.opp INNER) (λ x. Falls x 7 (has (bit_and p.opp INNER))) f →
-    ((t : ℕ) → t < 64 → has p.opp t ≡ false → has g t ≡ is_next east (is_on_line 6 east (has p.own) (has (bit_and p.opp INNER))) t) →
-    Past p (bit_and p.opp INNER) (λ x. Rises x 9 (has (bit_and p.opp INNER))) h →
-    empty ≡ word_of (is_empty p) →
-    bit_and (bit_or (bit_or (bit_or (bit_or (bit_or (bit_or (bit_or a b) c) d) e) f) g) h) empty ≡ word_of (is_legal p)
-unfolding directions
-past_all p a b c d e f g h empty board ea eb ec ed ee ef eg eh free =
-    west_of_empty p (bit_or (bit_or (bit_or (bit_or (bit_or a b) c) d) e) f) g h empty free eg
-    ∙ legal_word p (bit_or (bit_or (bit_or (bit_or (bit_or (bit_or (bit_or a b) c) d) e) f) (west_word p)) h) empty
-    (or_words8 a b c d e f (west_word p) h
-    (λ s. outflanks p s (record { columns = Stay; rows = Back }))
-    (λ s. outflanks p s (record { columns = Forth; rows = Back }))
-    (λ s. outflanks p s (record { columns = Forth; rows = Stay }))
-    (λ s. outflanks p s (record { columns = Forth; rows = Forth }))
-    (λ s. outflanks p s (record { columns = Stay; rows = Forth }))
-    (λ s. outflanks p s (record { columns = Back; rows = Forth }))
-    (λ s. outflanks p s (record { columns = Back; rows = Stay }))
-    (λ s. outflanks p s (record { columns = Back; rows = Back }))
-    (past_north p a board ea)
-    (past_north_east p b board eb)
-    (past_east p c board ec)
-    (past_south_east p d board ed)
-    (past_south p e board ee)
-    (past_south_west p f board ef)
-    (past_east_word p board)
-    (past_north_west p h board eh))
-    free
 
 -- ---- four directions of one sense
 

@@ -1,5 +1,5 @@
 -- The tables of rays: the squares of each mask, in the ray's order, are the ray. The tables are computed.
-use Rattle.std.proofs.Common.{◌≡◌, ℕ, ◌<◌, ◌-◌, ◌^◌, Bool, true, false, ◌&&◌, ◌||◌, List, [], ◌∷◌, refl, ap, ◌∙◌}
+use Rattle.std.proofs.Common.{◌≡◌, ℕ, ◌<◌, ◌^◌, Bool, true, false, ◌&&◌, ◌||◌, List, [], ◌∷◌, refl, ap, ◌∙◌}
 use Rattle.std.specs.Prelude.{bit_or, ◌==◌, nat_lt, slice_index_or}
 use Rattle.std.specs.List.{list_any}
 use Rattle.std.proofs.lemmas.Bool.{eqb-true, ltb-true, and_parts, agree_below, agree_below_at, false≢true}
@@ -8,22 +8,8 @@ use Rattle.oth_rules.specs.Position.{Position}
 use Rattle.oth_rules.specs.Move.{outflanked, flipped_along}
 use Rattle.oth_rules.specs.Line.{rising, falling_below, falling, rising_directions, falling_directions}
 use Rattle.oth_rules.specs.declared.masks.TheConstants.{RISING, FALLING}
-use Rattle.oth_rules.specs.declared.square_words.TheConstants.{WORDS_AFTER}
 use Rattle.oth_rules.proofs.Bits.{word_of-same}
 use Rattle.oth_rules.proofs.Words.{or_word}
-
--- ---- the words of single squares
-
-is_word_after : ℕ → Bool
-is_word_after i = slice_index_or WORDS_AFTER i 0 == 2 ^ (63 - i)
-
-words_after : agree_below is_word_after (λ _. true) 64 ≡ true
-unfolding is_word_after
-words_after = refl
-
-pub word_after_is : (i : ℕ) → i < 64 → slice_index_or WORDS_AFTER i 0 ≡ 2 ^ (63 - i)
-unfolding is_word_after
-word_after_is i l = eqb-true (slice_index_or WORDS_AFTER i 0) (2 ^ (63 - i)) (agree_below_at is_word_after (λ _. true) 64 i words_after l)
 
 -- ---- the rays
 
@@ -86,61 +72,6 @@ west = refl
 north_west : agree_below (is_ray falling FALLING 3 (record { columns = Back; rows = Back })) (λ _. true) 64 ≡ true
 unfolding is_ray same_line rising falling falling_below has squares ray ray_from next stepped square_at
 north_west = refl
-
-or_eight : (a b c d e f g h : Bool) → (((((((a || b) || c) || d) || e) || f) || g) || h) ≡ (a || (b || (c || (d || (e || (f || (g || (h || false))))))))
-or_eight true b c d e f g h = refl
-or_eight false true c d e f g h = refl
-or_eight false false true d e f g h = refl
-or_eight false false false true e f g h = refl
-or_eight false false false false true f g h = refl
-or_eight false false false false false true g h = refl
-or_eight false false false false false false true h = refl
-or_eight false false false false false false false true = refl
-or_eight false false false false false false false false = refl
-
-pub or_words8 : (a b c d e f g h : ℕ) (A B C D E F G H : ℕ → Bool) → a ≡ word_of A → b ≡ word_of B → c ≡ word_of C → d ≡ word_of D → e ≡ word_of E → f ≡ word_of F → g ≡ word_of G → h ≡ word_of H →
-    bit_or (bit_or (bit_or (bit_or (bit_or (bit_or (bit_or a b) c) d) e) f) g) h ≡ word_of (λ q. A q || (B q || (C q || (D q || (E q || (F q || (G q || (H q || false))))))))
-or_words8 a b c d e f g h A B C D E F G H ea eb ec ed ee ef eg eh =
-    or_word (bit_or (bit_or (bit_or (bit_or (bit_or (bit_or a b) c) d) e) f) g) h (λ q. (((((A q || B q) || C q) || D q) || E q) || F q) || G q) H
-    (or_word (bit_or (bit_or (bit_or (bit_or (bit_or a b) c) d) e) f) g (λ q. ((((A q || B q) || C q) || D q) || E q) || F q) G
-    (or_word (bit_or (bit_or (bit_or (bit_or a b) c) d) e) f (λ q. (((A q || B q) || C q) || D q) || E q) F
-    (or_word (bit_or (bit_or (bit_or a b) c) d) e (λ q. ((A q || B q) || C q) || D q) E
-    (or_word (bit_or (bit_or a b) c) d (λ q. (A q || B q) || C q) D
-    (or_word (bit_or a b) c (λ q. A q || B q) C (or_word a b A B ea eb) ec) ed) ee) ef) eg) eh
-    ∙ word_of-same (λ q. ((((((A q || B q) || C q) || D q) || E q) || F q) || G q) || H q)
-    (λ q. A q || (B q || (C q || (D q || (E q || (F q || (G q || (H q || false))))))))
-    (λ q _. or_eight (A q) (B q) (C q) (D q) (E q) (F q) (G q) (H q))
-
--- what is outflanked along the eight rays together
-pub all_rays : (p : Position) (s : ℕ) (up down : List ℕ) (a b c d e f g h : ℕ) → s < 64 → up ≡ slice_index_or RISING s [] → down ≡ slice_index_or FALLING s [] →
-    a ≡ word_of (is_in (outflanked p (falling (slice_index_or down 0 0)))) →
-    b ≡ word_of (is_in (outflanked p (falling (slice_index_or down 1 0)))) →
-    c ≡ word_of (is_in (outflanked p (rising (slice_index_or up 0 0)))) →
-    d ≡ word_of (is_in (outflanked p (rising (slice_index_or up 1 0)))) →
-    e ≡ word_of (is_in (outflanked p (rising (slice_index_or up 2 0)))) →
-    f ≡ word_of (is_in (outflanked p (rising (slice_index_or up 3 0)))) →
-    g ≡ word_of (is_in (outflanked p (falling (slice_index_or down 2 0)))) →
-    h ≡ word_of (is_in (outflanked p (falling (slice_index_or down 3 0)))) →
-    bit_or (bit_or (bit_or (bit_or (bit_or (bit_or (bit_or a b) c) d) e) f) g) h ≡ word_of (λ q. list_any (λ d. is_in (flipped_along p s d) q) directions)
-unfolding directions
-all_rays p s up down a b c d e f g h l u w ea eb ec ed ee ef eg eh =
-    or_words8 a b c d e f g h
-    (is_in (flipped_along p s (record { columns = Stay; rows = Back })))
-    (is_in (flipped_along p s (record { columns = Forth; rows = Back })))
-    (is_in (flipped_along p s (record { columns = Forth; rows = Stay })))
-    (is_in (flipped_along p s (record { columns = Forth; rows = Forth })))
-    (is_in (flipped_along p s (record { columns = Stay; rows = Forth })))
-    (is_in (flipped_along p s (record { columns = Back; rows = Forth })))
-    (is_in (flipped_along p s (record { columns = Back; rows = Stay })))
-    (is_in (flipped_along p s (record { columns = Back; rows = Back })))
-    (outflanked_by falling FALLING 0 (record { columns = Stay; rows = Back }) p s down a north l w ea)
-    (outflanked_by falling FALLING 1 (record { columns = Forth; rows = Back }) p s down b north_east l w eb)
-    (outflanked_by rising RISING 0 (record { columns = Forth; rows = Stay }) p s up c east l u ec)
-    (outflanked_by rising RISING 1 (record { columns = Forth; rows = Forth }) p s up d south_east l u ed)
-    (outflanked_by rising RISING 2 (record { columns = Stay; rows = Forth }) p s up e south l u ee)
-    (outflanked_by rising RISING 3 (record { columns = Back; rows = Forth }) p s up f south_west l u ef)
-    (outflanked_by falling FALLING 2 (record { columns = Back; rows = Stay }) p s down g west l w eg)
-    (outflanked_by falling FALLING 3 (record { columns = Back; rows = Back }) p s down h north_west l w eh)
 
 -- ---- four directions of one sense
 

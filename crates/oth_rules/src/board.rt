@@ -2,21 +2,19 @@
 ghost use Rattle.std.specs.Prelude.{◌≡◌, ◌<◌, ◌≤◌, ◌↔◌, bit_and, IsErr, IfOk, IsTrue, SomeIff, false};
 ghost use Rattle.oth_rules.specs.Square.{word_of, is_in};
 ghost use Rattle.oth_rules.specs.Position.{Position, IsBoard, empty_count, is_empty, pass};
-ghost use Rattle.oth_rules.specs.Move.{outflanked, flipped_along, is_flipped, is_legal, can_move, is_over, after};
+ghost use Rattle.oth_rules.specs.Move.{flipped_along, is_flipped, is_legal, can_move, is_over, after};
 ghost use Rattle.oth_rules.specs.Score.{winner_score, disc_difference, score_of};
 ghost use Rattle.oth_rules.specs.Value.{value, is_best};
 ghost use Rattle.oth_rules.specs.Symmetry.{image, map_word, is_below, canonical, IsLeastImage};
 ghost use Rattle.oth_rules.specs.Laws.{IsLegal};
 ghost use Rattle.oth_rules.specs.declared.scoring.Scoring.{Scoring as ScoringBy};
-ghost use Rattle.oth_rules.specs.Line.{direction_of, outflanks, rising, falling};
+ghost use Rattle.oth_rules.specs.Line.{direction_of, outflanks};
 
 use crate::direction::Compass;
-use crate::masks::INNER;
 use crate::scoring::Scoring;
-use crate::sliding::{past_lines, past_row_lines};
 use crate::square::Square;
-use crate::square_words::{highest, less_one, lowest};
 use crate::sym::{Sym, map};
+use crate::twin::Twin;
 use std::marker::Model;
 use thiserror::Error;
 
@@ -109,19 +107,13 @@ impl Board {
         }
     }
 
-    /// The same as [`Board::moves`], by plain shifts along lines: the fastest form, for inner loops.
+    /// The same as [`Board::moves`], by lines on the board and on the same turned by half a turn: the fastest form for
+    /// one board, for inner loops. A chain of moves makes its [`Twin`] once.
     #[inline(always)]
     pub fn moves_by_lines(&self) -> u64
         ensures { result ≡ word_of (is_legal self.now) }
     {
-        let inner = self.opp & INNER;
-        let (north, south) = past_lines(self.own, self.opp, 8);
-        let (north_east, south_west) = past_lines(self.own, inner, 7);
-        let (north_west, south_east) = past_lines(self.own, inner, 9);
-        let (west, east) = past_row_lines(self.own, self.opp);
-        let reached = north | north_east | east | south_east;
-        let reached = reached | south | south_west | west | north_west;
-        reached & self.empty_squares()
+        Twin::of(self).moves()
     }
 
     /// The same as [`Board::moves`], a step at a time along each of the eight directions: to compare the others with.
@@ -154,40 +146,14 @@ impl Board {
         self.flips_of_empty(square)
     }
 
-    /// The discs that a move to an empty square flips, by its eight rays; 0 where the move is illegal. The fastest
-    /// form, for inner loops.
+    /// The discs that a move to an empty square flips, by its rays on the board and on the same turned by half a turn;
+    /// 0 where the move is illegal. The fastest form for one move, for inner loops.
     #[inline(always)]
     pub fn flips_of_empty(&self, square: Square) -> u64
         requires { IsTrue (is_empty self.now square) }
         ensures { result ≡ word_of (is_flipped self.now square) }
     {
-        let [east, south_east, south, south_west] = *square.rising_rays();
-        let [north, north_east, west, north_west] = *square.falling_rays();
-        self.outflanked_down(north)
-            | self.outflanked_down(north_east)
-            | self.outflanked_up(east)
-            | self.outflanked_up(south_east)
-            | self.outflanked_up(south)
-            | self.outflanked_up(south_west)
-            | self.outflanked_down(west)
-            | self.outflanked_down(north_west)
-    }
-
-    // What is outflanked along a ray of rising squares. Where no disc of the mover closes the line, the word
-    // before it is empty.
-    fn outflanked_up(&self, ray: u64) -> u64
-        ensures { result ≡ word_of (is_in (outflanked self.now (rising ray))) }
-    {
-        let closing = lowest(ray & !self.opp) & self.own;
-        less_one(closing) & ray
-    }
-
-    // What is outflanked along a ray of falling squares.
-    fn outflanked_down(&self, ray: u64) -> u64
-        ensures { result ≡ word_of (is_in (outflanked self.now (falling ray))) }
-    {
-        let closing = highest(ray & !self.opp) & self.own;
-        (closing << 1).wrapping_neg() & ray
+        Twin::of(self).flips(square).word()
     }
 
     /// The same as [`Board::flips`], a step at a time along each of the eight directions: to compare the others with.

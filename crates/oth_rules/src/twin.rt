@@ -1,6 +1,7 @@
 //! Words of squares beside themselves turned by half a turn, a lane for each: a ray along which square numbers fall is
 //! in the other lane one along which they rise.
-ghost use Rattle.std.specs.Prelude.{◌≡◌, ◌<◌, ◌↔◌, ℕ, IsTrue, IfSome, IsSome, bit_or, length, map, slice_index_or, [], ◌∷◌};
+ghost use Rattle.std.specs.Prelude.{◌≡◌, ◌<◌, ◌^◌, ◌↔◌, ℕ, IsTrue, IfSome, IsSome};
+ghost use Rattle.std.specs.Prelude.{bit_or, length, map, slice_index_or, [], ◌∷◌};
 ghost use Rattle.oth_rules.specs.Square.{Direction, has, word_of, is_in};
 ghost use Rattle.oth_rules.specs.Position.{is_empty, pass};
 ghost use Rattle.oth_rules.specs.Move.{outflanked, is_flipped, is_legal, after};
