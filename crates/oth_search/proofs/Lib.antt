@@ -11,3 +11,4 @@ pub mod RootSearch
 pub mod LastBounds
 pub mod KindLemmas
 pub mod Scored
+pub mod KeyLemmas

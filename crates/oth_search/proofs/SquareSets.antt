@@ -1,5 +1,5 @@
 -- Lemmas on sets of squares.
-use Rattle.std.proofs.Common.{◌≡◌, ◌≢◌, ◌⊎◌, inl, inr, ⊎_elim, ℕ, ◌+◌, ◌*◌, ◌%◌, ◌^◌, ◌<◌, ◌≤◌, List, length, get_or, true, false, bit_and, bit_or, arith, refl, ap, sym, ◌∙◌, w64}
+use Rattle.std.proofs.Common.{◌≡◌, ◌≢◌, ◌⊎◌, inl, inr, ⊎_elim, ℕ, ◌+◌, ◌*◌, ◌%◌, ◌^◌, ◌<◌, ◌≤◌, List, length, get_or, true, false, bit_and, bit_or, arith, refl, ap, sym, subst, ◌∙◌, w64}
 use Rattle.std.specs.Int.{bit_not, bit_at}
 use Rattle.std.specs.Prelude.{◌==◌}
 use Rattle.std.proofs.lemmas.Nat.Bits.{bit_at_clear_same, bit_at_clear_other, bit_at_set_same, bit_at_set_other, bit_at-zero}
@@ -89,6 +89,10 @@ Takes-without set square rest h w = record {
       (cases_eq s square);
   split = λ s r. ⊎_elim inl (λ other. inr (record { on_board = r.on_board; member = w.others s r.on_board other ∙ r.member })) (cases_eq s square);
 }
+
+-- the same of a square that is equal to the one that was taken
+pub Takes-same : (set square taken rest : ℕ) → taken ≡ square → In set square → Without set taken rest → Takes (In set) square (In rest)
+Takes-same set square taken rest e h w = Takes-without set square rest h (subst (λ s. Without set s rest) e w)
 
 -- what is left of some squares is among what is left of more, if one of them is taken from both
 pub still-among : (left rest left' rest' square : ℕ) → ((s : ℕ) → In rest s → In left s) → In rest square → Without left square left' → Without rest square rest' → (s : ℕ) → In rest' s → In left' s

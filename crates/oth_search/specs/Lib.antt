@@ -6,5 +6,6 @@ pub mod Replies
 pub mod Entry
 pub mod Lasts
 pub mod Full
+pub mod Keys
 pub mod Children
 pub mod Scores

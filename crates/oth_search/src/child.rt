@@ -1,11 +1,30 @@
 //! The board after a move, as a search by rank wants it.
+ghost use Rattle.std.specs.Prelude.{◌≡◌};
+ghost use Rattle.oth_search.specs.Keys.{key_square};
+
+use crate::key::Key;
 use oth_rules::{Board, Square};
 
-/// A move with the board after it, the replies to it, and its rank: the least is tried first.
+/// A move by its key, with the board after it and the replies to it: four words, with no padding between them.
 #[derive(Clone, Copy, Default)]
 pub struct Child {
-    pub rank: u16,
-    pub square: Square,
+    pub key: Key,
     pub board: Board,
     pub moves: u64,
+}
+
+impl Child {
+    /// The square of the move.
+    #[inline(always)]
+    pub fn square(&self) -> Square
+        ensures { result ≡ key_square self.now.key }
+    {
+        self.key.square()
+    }
+
+    /// The rank of the move: the least is tried first.
+    #[inline(always)]
+    pub fn rank(&self) -> u16 {
+        self.key.rank()
+    }
 }

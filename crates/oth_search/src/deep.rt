@@ -227,7 +227,7 @@ fn nws_children<C: Cells>(
     let mut left = node.moves;
     while left != 0 {
         let child = next_child(&node.board, children, left);
-        left = without(left, child.square);
+        left = without(left, child.square());
         let next = Node {
             board: child.board,
             moves: child.moves,

@@ -227,11 +227,11 @@ fn glance_at_all_moves<C: Cells, O: Observer<C>>(
         let mut rest = left;
         while rest != 0 {
             let child = next_child(&node.board, ranked.as_slice(), rest);
-            rest = without(rest, child.square);
+            rest = without(rest, child.square());
             if turn == 0 && observer.is_left(&child.board) {
                 continue;
             }
-            left = without(left, child.square);
+            left = without(left, child.square());
             let reply = -glance_after_reply(child.board, -alpha - 1, cells, observer, scoring);
             if reply > alpha {
                 return reply;
@@ -353,7 +353,7 @@ fn glance_at_moves<C: Cells>(
             break;
         }
         let child = next_child(&node.board, ranked.as_slice(), left);
-        left = without(left, child.square);
+        left = without(left, child.square());
         let next = Node {
             board: child.board,
             moves: child.moves,

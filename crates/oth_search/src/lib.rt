@@ -17,6 +17,7 @@ mod evaluation;
 mod guess;
 mod hash;
 mod interval;
+mod key;
 mod kind;
 mod last;
 mod limited;

@@ -67,7 +67,7 @@ fn look_at_moves(node: Node, plies: u8, span: Span) -> Evaluation {
     let mut left = node.moves;
     while left != 0 {
         let child = next_child(&node.board, list.as_slice(), left);
-        left = without(left, child.square);
+        left = without(left, child.square());
         let next = Node {
             board: child.board,
             moves: child.moves,

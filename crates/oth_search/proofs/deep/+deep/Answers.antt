@@ -1,7 +1,8 @@
 use Rattle.std.proofs.Common.{refl, ◌∙◌, arith}
 use Rattle.std.specs.Prelude.{ℤ, neg_ℤ}
 use Rattle.std.proofs.lemmas.Int.{ints}
-use Rattle.oth_search.proofs.SquareSets.{Takes-without, In-none}
+use Rattle.oth_search.specs.Keys.{key_square}
+use Rattle.oth_search.proofs.SquareSets.{Takes-same, In-none}
 use Rattle.oth_search.proofs.Enclosing.{BoundsAt-lower, BoundsAt-upper, BoundsAt-same, Encloses-known, Encloses-same, value-known, IsCanonical-canonical}
 use Rattle.oth_search.proofs.Replies.{BoundsAt-reply, BoundsAt-cut, BoundsAt-pass, BoundsAt-over, ReplyLoop-start, ReplyLoop-keeps, ReplyLoop-takes}
 use Rattle.oth_search.proofs.Replies.{ReplyLoop-end, NoneAbove-moves, can_move-from_moves, can_move-from_none, fewer_after, same_after_pass}
@@ -81,8 +82,8 @@ nws_children-nws_node-reply-requires g t c =
 pub nws_children-returns-then-reply-alpha-clause-value : goal.nws_children-returns-then-reply-alpha-clause-value
 nws_children-returns-then-reply-alpha-clause-value g t c =
     let made = c.next_child-child.ensures.child in
-    BoundsAt-cut c.args.scoring c.args.node.board c.next_child-child.result.square c.args.alpha _ made.legal
-    (BoundsAt-reply c.args.scoring c.args.node.board c.next_child-child.result.board c.next_child-child.result.square c.args.alpha _ _ c.nws_node-reply.result made.board
+    BoundsAt-cut c.args.scoring c.args.node.board (key_square c.next_child-child.result.key) c.args.alpha _ made.legal
+    (BoundsAt-reply c.args.scoring c.args.node.board c.next_child-child.result.board (key_square c.next_child-child.result.key) c.args.alpha _ _ c.nws_node-reply.result made.board
     (omega (arith, ints)) (omega (arith, ints)) c.nws_node-reply.ensures.value)
     (omega (arith, ints, c.if-reply-alpha.true))
 
@@ -91,9 +92,9 @@ nws_children-loop-left-preserved g t c =
     let child = c.next_child-child.result in
     let made = c.next_child-child.ensures.child in
     let r : ℤ = neg_ℤ c.nws_node-reply.result in (
-      ReplyLoop-keeps c.args.scoring c.args.node.board _ _ child.square _ _ r c.loop-left.invariant.0
-          (Takes-without _ _ _ c.next_child-child.ensures.member c.without-left.ensures.rest)
-          (BoundsAt-reply c.args.scoring c.args.node.board child.board child.square _ _ r c.nws_node-reply.result made.board (omega (arith, ints)) refl c.nws_node-reply.ensures.value)
+      ReplyLoop-keeps c.args.scoring c.args.node.board _ _ (key_square child.key) _ _ r c.loop-left.invariant.0
+          (Takes-same _ _ _ _ c.square.ensures c.next_child-child.ensures.member c.without-left.ensures.rest)
+          (BoundsAt-reply c.args.scoring c.args.node.board child.board (key_square child.key) _ _ r c.nws_node-reply.result made.board (omega (arith, ints)) refl c.nws_node-reply.ensures.value)
           (omega (arith, ints, c.if-reply-best.false)),
       c.nws_node-reply.ensures.fixed ∙ c.loop-left.invariant.1,
     )
@@ -102,9 +103,10 @@ pub nws_children-loop-left-preserved-then-reply-best : goal.nws_children-loop-le
 nws_children-loop-left-preserved-then-reply-best g t c =
     let child = c.next_child-child.result in
     let made = c.next_child-child.ensures.child in (
-      ReplyLoop-takes c.args.scoring c.args.node.board _ _ child.square _ _ _ c.loop-left.invariant.0
-          (Takes-without _ _ _ c.next_child-child.ensures.member c.without-left.ensures.rest)
-          (BoundsAt-reply c.args.scoring c.args.node.board child.board child.square _ _ _ c.nws_node-reply.result made.board (omega (arith, ints)) (omega (arith, ints)) c.nws_node-reply.ensures.value)
+      ReplyLoop-takes c.args.scoring c.args.node.board _ _ (key_square child.key) _ _ _ c.loop-left.invariant.0
+          (Takes-same _ _ _ _ c.square.ensures c.next_child-child.ensures.member c.without-left.ensures.rest)
+          (BoundsAt-reply c.args.scoring c.args.node.board child.board (key_square child.key) _ _ _ c.nws_node-reply.result made.board
+          (omega (arith, ints)) (omega (arith, ints)) c.nws_node-reply.ensures.value)
           (omega (arith, ints, c.if-reply-alpha.false))
           (omega (arith, ints, c.if-reply-best.true)),
       c.nws_node-reply.ensures.fixed ∙ c.loop-left.invariant.1,

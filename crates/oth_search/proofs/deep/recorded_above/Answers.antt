@@ -1,6 +1,7 @@
 use Rattle.std.proofs.Common.{sym, arith}
 use Rattle.std.proofs.lemmas.Int.{ints}
 use Rattle.std.proofs.lemmas.List.Elements.{All-contains}
+use Rattle.oth_search.specs.Keys.{key_square}
 use Rattle.oth_search.specs.Children.{IsChild}
 use Rattle.oth_search.proofs.Enclosing.{BoundsAt-child}
 use Rattle.oth_search.proofs.deep.recorded_above.Goals as goal
@@ -10,7 +11,7 @@ returns-then-reply-alpha-clause-value g c =
     let child = c.child-item.result in
     let k = c.recorded-recorded.result in
     let made = All-contains (IsChild c.args.parent.now) c.args.children.now child c.requires (c.loop-child.child-index, c.loop-child-test.true, sym c.child-item.is) in
-    BoundsAt-child c.args.scoring c.args.parent.now child.board child.square c.args.alpha k.interval.lower k.interval.upper _ made.legal made.board
+    BoundsAt-child c.args.scoring c.args.parent.now child.board (key_square child.key) c.args.alpha k.interval.lower k.interval.upper _ made.legal made.board
     k.interval.is_interval
     c.recorded-recorded.ensures.value
     (omega (arith, ints))

@@ -1,7 +1,7 @@
 use Rattle.std.proofs.Common.{refl, arith, ◌∙◌}
 use Rattle.std.specs.Prelude.{neg_ℤ}
 use Rattle.std.proofs.lemmas.Int.{ints}
-use Rattle.oth_search.proofs.SquareSets.{Takes-without}
+use Rattle.oth_search.proofs.SquareSets.{Takes-same}
 use Rattle.oth_search.proofs.Replies.{legal-moves}
 use Rattle.oth_search.proofs.Enclosing.{IsScore-over}
 use Rattle.oth_search.proofs.RootSearch.{IsScore-negated, IsScore-one}
@@ -23,5 +23,5 @@ glance_at_moves-loop-preserved g t c = record {
       (IsScore-negated _ _ (omega (arith, ints)) c.glance-reply.ensures.score)
       (omega (arith, ints)) (omega (arith, ints)) (omega (arith, ints)) c.greater-best.ensures.one;
   fixed = c.glance-reply.ensures.fixed ∙ c.loop.invariant.fixed;
-  legal = λ s h. c.loop.invariant.legal s ((Takes-without _ _ _ c.next_child-child.ensures.member c.without-left.ensures.rest).kept s h);
+  legal = λ s h. c.loop.invariant.legal s ((Takes-same _ _ _ _ c.square.ensures c.next_child-child.ensures.member c.without-left.ensures.rest).kept s h);
 }

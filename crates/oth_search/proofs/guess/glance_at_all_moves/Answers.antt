@@ -1,7 +1,8 @@
-use Rattle.std.proofs.Common.{refl, arith, ◌∙◌}
+use Rattle.std.proofs.Common.{refl, arith, subst, ◌∙◌}
 use Rattle.std.specs.Prelude.{neg_ℤ}
 use Rattle.std.proofs.lemmas.Int.{ints}
-use Rattle.oth_search.proofs.SquareSets.{Takes-without, still-among}
+use Rattle.oth_search.specs.Squares.{Without}
+use Rattle.oth_search.proofs.SquareSets.{Takes-same, still-among}
 use Rattle.oth_search.proofs.Replies.{legal-moves}
 use Rattle.oth_search.proofs.RootSearch.{IsScore-negated, IsScore-one}
 use Rattle.oth_search.proofs.guess.glance_at_all_moves.Goals as goal
@@ -22,6 +23,7 @@ loop-rest-preserved g c =
           (IsScore-negated _ _ (omega (arith, ints)) c.glance_after_reply-reply.ensures.score)
           (omega (arith, ints)) (omega (arith, ints)) (omega (arith, ints)) c.greater-best.ensures.one;
       fixed = c.glance_after_reply-reply.ensures.fixed ∙ before.fixed;
-      legal = λ s h. before.legal s ((Takes-without _ _ _ (before.among _ member) c.without-left.ensures.rest).kept s h);
-      among = still-among _ _ _ _ _ before.among member c.without-left.ensures.rest c.without-rest.ensures.rest;
+      legal = λ s h. before.legal s ((Takes-same _ _ _ _ c.square-in-loop-rest.ensures (before.among _ member) c.without-left.ensures.rest).kept s h);
+      among = still-among _ _ _ _ _ before.among member (subst (λ s. Without c.loop-rest.left s c.without-left.result) c.square-in-loop-rest.ensures c.without-left.ensures.rest)
+          (subst (λ s. Without c.loop-rest.rest s c.without-rest.result) c.square.ensures c.without-rest.ensures.rest);
     }
