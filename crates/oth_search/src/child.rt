@@ -21,10 +21,4 @@ impl Child {
     {
         self.key.square()
     }
-
-    /// The rank of the move: the least is tried first.
-    #[inline(always)]
-    pub fn rank(&self) -> u16 {
-        self.key.rank()
-    }
 }

@@ -10,7 +10,7 @@ ghost use Rattle.oth_search.specs.Children.{IsChild};
 
 use crate::cells::Cells;
 use crate::child::Child;
-use crate::children::{children, looked_at, next_child};
+use crate::children::{children, look_at, next_child};
 use crate::entry::Entry;
 use crate::node::Node;
 use crate::nws::{nws, nws_few};
@@ -131,8 +131,8 @@ fn nws_short<C: Cells>(node: Node, alpha: i8, cells: &mut C, scoring: Scoring) -
     ensures value { BoundsAt (value (score_of scoring) node.board) alpha result }
     ensures fixed { C.fixed cells.new ≡ C.fixed cells.old }
 {
-    let list: ArrayVec<Child, 7> = children(&node);
-    nws_children(node, list.as_slice(), alpha, cells, scoring)
+    let mut list: ArrayVec<Child, 7> = children(&node);
+    nws_children(node, list.as_mut_slice(), alpha, cells, scoring)
 }
 
 // The same, where few more are empty: the children are looked up, unless that takes an image of each.
@@ -144,13 +144,13 @@ fn nws_middle<C: Cells>(node: Node, alpha: i8, cells: &mut C, scoring: Scoring) 
     ensures value { BoundsAt (value (score_of scoring) node.board) alpha result }
     ensures fixed { C.fixed cells.new ≡ C.fixed cells.old }
 {
-    let list: ArrayVec<Child, 10> = children(&node);
+    let mut list: ArrayVec<Child, 10> = children(&node);
     if node.board.empties() <= FEWEST_EMPTIES_KEPT || is_remembered(&node.board, cells) {
         if let Some(found) = recorded_above(&node.board, list.as_slice(), alpha, cells, scoring) {
             return found;
         }
     }
-    nws_children(node, list.as_slice(), alpha, cells, scoring)
+    nws_children(node, list.as_mut_slice(), alpha, cells, scoring)
 }
 
 // The same, where many squares are empty: the children are looked up, and then looked at.
@@ -162,64 +162,26 @@ fn nws_long<C: Cells>(node: Node, alpha: i8, cells: &mut C, scoring: Scoring) ->
     ensures value { BoundsAt (value (score_of scoring) node.board) alpha result }
     ensures fixed { C.fixed cells.new ≡ C.fixed cells.old }
 {
-    let found = &looked_at_or_recorded(&node, alpha, cells, scoring);
-    nws_looked_at(node, found, alpha, cells, scoring)
-}
-
-// Searches the children that were looked at, unless there is a bound above `alpha` in their place.
-#[cycle(deep)]
-fn nws_looked_at<C: Cells>(
-    node: Node,
-    found: &Result<ArrayVec<Child, 32>, i8>,
-    alpha: i8,
-    cells: &mut C,
-    scoring: Scoring,
-) -> i8
-    requires threshold { IsThreshold alpha }
-    requires some { can_move node.board ≡ true }
-    requires children { IfOk found.now (λ list. All (IsChild node.board) list.items) }
-    requires bound { IfErr found.now (BoundsAt (value (score_of scoring) node.board) alpha) }
-    ensures value { BoundsAt (value (score_of scoring) node.board) alpha result }
-    ensures fixed { C.fixed cells.new ≡ C.fixed cells.old }
-{
-    match found {
-        Ok(list) => nws_children(node, list.as_slice(), alpha, cells, scoring),
-        Err(bound) => *bound,
+    let mut list: ArrayVec<Child, 32> = children(&node);
+    if let Some(found) = recorded_above(&node.board, list.as_slice(), alpha, cells, scoring) {
+        return found;
     }
-}
-
-// The children, looked at, or a bound above `alpha` that is recorded of the board. It stands apart, so that a search of
-// many plies has one list of each board on the stack.
-#[inline(never)]
-fn looked_at_or_recorded<C: Cells>(
-    node: &Node,
-    alpha: i8,
-    cells: &mut C,
-    scoring: Scoring,
-) -> Result<ArrayVec<Child, 32>, i8>
-    ensures children { IfOk result (λ list. All (IsChild node.now.board) list.items) }
-    ensures value { IfErr result (BoundsAt (value (score_of scoring) node.now.board) alpha) }
-    ensures fixed { C.fixed cells.new ≡ C.fixed cells.old }
-{
-    let list: ArrayVec<Child, 32> = children(node);
-    match recorded_above(&node.board, list.as_slice(), alpha, cells, scoring) {
-        Some(found) => Err(found),
-        None => Ok(looked_at(node, list.as_slice(), node.board.empties())),
-    }
+    look_at(list.as_mut_slice(), node.board.empties());
+    nws_children(node, list.as_mut_slice(), alpha, cells, scoring)
 }
 
 // Searches these children and any other, the best-ranked first.
 #[cycle(deep)]
 fn nws_children<C: Cells>(
     node: Node,
-    children: &[Child],
+    children: &mut [Child],
     alpha: i8,
     cells: &mut C,
     scoring: Scoring,
 ) -> i8
     requires threshold { IsThreshold alpha }
     requires some { can_move node.board ≡ true }
-    requires children { All (IsChild node.board) children.now }
+    requires children { All (IsChild node.board) children.old }
     ensures value { BoundsAt (value (score_of scoring) node.board) alpha result }
     ensures fixed { C.fixed cells.new ≡ C.fixed cells.old }
 {

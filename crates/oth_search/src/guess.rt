@@ -10,7 +10,7 @@ ghost use Rattle.oth_search.specs.Children.{IsChild};
 use crate::bracket::Bracket;
 use crate::cells::Cells;
 use crate::child::Child;
-use crate::children::{children, looked_at, next_child};
+use crate::children::{children, look_at, next_child, try_again};
 use crate::deep::nws_node;
 use crate::interval::{Interval, greater, lesser};
 use crate::node::Node;
@@ -220,13 +220,14 @@ fn glance_at_all_moves<C: Cells, O: Observer<C>>(
     ensures score { IsScore result }
     ensures fixed { C.fixed cells.new ≡ C.fixed cells.old }
 {
-    let ranked = ranked(&node);
+    let mut ranked = ranked(&node);
     let mut best = -64;
     let mut left = node.moves;
     for turn in 0..TURNS {
         let mut rest = left;
+        try_again(ranked.as_mut_slice(), left);
         while rest != 0 {
-            let child = next_child(&node.board, ranked.as_slice(), rest);
+            let child = next_child(&node.board, ranked.as_mut_slice(), rest);
             rest = without(rest, child.square());
             if turn == 0 && observer.is_left(&child.board) {
                 continue;
@@ -345,14 +346,14 @@ fn glance_at_moves<C: Cells>(
     ensures score { IsScore result }
     ensures fixed { C.fixed cells.new ≡ C.fixed cells.old }
 {
-    let ranked = ranked(&node);
+    let mut ranked = ranked(&node);
     let mut best = -64;
     let mut left = node.moves;
     for _ in 0..sight.width {
         if left == 0 {
             break;
         }
-        let child = next_child(&node.board, ranked.as_slice(), left);
+        let child = next_child(&node.board, ranked.as_mut_slice(), left);
         left = without(left, child.square());
         let next = Node {
             board: child.board,
@@ -371,14 +372,10 @@ fn glance_at_moves<C: Cells>(
 fn ranked(node: &Node) -> ArrayVec<Child, MOST_RANKED>
     ensures { All (IsChild node.now.board) result.items }
 {
-    let found = children(node);
+    let mut found = children(node);
     let empties = node.board.empties();
-    if empties < FEWEST_EMPTIES_GUESS_LOOKED {
-        return found;
+    if empties >= FEWEST_EMPTIES_GUESS_LOOKED {
+        look_at(found.as_mut_slice(), empties.min(MOST_EMPTIES_GUESS_LOOKED));
     }
-    looked_at(
-        node,
-        found.as_slice(),
-        empties.min(MOST_EMPTIES_GUESS_LOOKED),
-    )
+    found
 }

@@ -62,11 +62,11 @@ fn look_at_moves(node: Node, plies: u8, span: Span) -> Evaluation {
     if plies < 2 {
         return look_past_moves(&node.board, node.moves, span.enough);
     }
-    let list: ArrayVec<Child, MOST_LOOKED> = children(&node);
+    let mut list: ArrayVec<Child, MOST_LOOKED> = children(&node);
     let mut best = Evaluation::WORST;
     let mut left = node.moves;
     while left != 0 {
-        let child = next_child(&node.board, list.as_slice(), left);
+        let child = next_child(&node.board, list.as_mut_slice(), left);
         left = without(left, child.square());
         let next = Node {
             board: child.board,

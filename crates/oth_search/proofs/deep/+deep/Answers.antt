@@ -1,7 +1,10 @@
-use Rattle.std.proofs.Common.{refl, ◌∙◌, arith}
+use Rattle.std.proofs.Common.{refl, sym, subst, ◌∙◌, arith}
 use Rattle.std.specs.Prelude.{ℤ, neg_ℤ}
 use Rattle.std.proofs.lemmas.Int.{ints}
+use Rattle.std.specs.List.{All}
 use Rattle.oth_search.specs.Keys.{key_square}
+use Rattle.oth_search.specs.Children.{IsChild}
+use Rattle.oth_search.proofs.KeyLemmas.{All-refill}
 use Rattle.oth_search.proofs.SquareSets.{Takes-same, In-none}
 use Rattle.oth_search.proofs.Enclosing.{BoundsAt-lower, BoundsAt-upper, BoundsAt-same, Encloses-known, Encloses-same, value-known, IsCanonical-canonical}
 use Rattle.oth_search.proofs.Replies.{BoundsAt-reply, BoundsAt-cut, BoundsAt-pass, BoundsAt-over, ReplyLoop-start, ReplyLoop-keeps, ReplyLoop-takes}
@@ -59,14 +62,15 @@ nws_remembered-returns-then-recalled-alpha-2-clause-value g t c =
     (omega (arith, ints, c.if-recalled-alpha-2.true))
 
 pub nws_children-loop-left-init : goal.nws_children-loop-left-init
-nws_children-loop-left-init g t c = (
-  ReplyLoop-start c.args.scoring c.args.node.board _ _ _ refl (omega (arith, ints, c.requires.threshold.low))
-      (NoneAbove-moves c.args.scoring c.args.node.board c.args.node.moves _ c.args.node.legal),
-  refl,
-)
+nws_children-loop-left-init g t c = record {
+  loop = ReplyLoop-start c.args.scoring c.args.node.board _ _ _ refl (omega (arith, ints, c.requires.threshold.low))
+      (NoneAbove-moves c.args.scoring c.args.node.board c.args.node.moves _ c.args.node.legal);
+  fixed = refl;
+  each = c.requires.children;
+}
 
 pub nws_children-next_child-child-requires-clause-legal : goal.nws_children-next_child-child-requires-clause-legal
-nws_children-next_child-child-requires-clause-legal g t c = c.loop-left.invariant.0.replies.untried
+nws_children-next_child-child-requires-clause-legal g t c = c.loop-left.invariant.loop.replies.untried
 
 pub nws_children-nws_node-reply-requires : goal.nws_children-nws_node-reply-requires
 nws_children-nws_node-reply-requires g t c =
@@ -91,36 +95,40 @@ pub nws_children-loop-left-preserved : goal.nws_children-loop-left-preserved
 nws_children-loop-left-preserved g t c =
     let child = c.next_child-child.result in
     let made = c.next_child-child.ensures.child in
-    let r : ℤ = neg_ℤ c.nws_node-reply.result in (
-      ReplyLoop-keeps c.args.scoring c.args.node.board _ _ (key_square child.key) _ _ r c.loop-left.invariant.0
+    let r : ℤ = neg_ℤ c.nws_node-reply.result in
+    record {
+      loop = ReplyLoop-keeps c.args.scoring c.args.node.board _ _ (key_square child.key) _ _ r c.loop-left.invariant.loop
           (Takes-same _ _ _ _ c.square.ensures c.next_child-child.ensures.member c.without-left.ensures.rest)
           (BoundsAt-reply c.args.scoring c.args.node.board child.board (key_square child.key) _ _ r c.nws_node-reply.result made.board (omega (arith, ints)) refl c.nws_node-reply.ensures.value)
-          (omega (arith, ints, c.if-reply-best.false)),
-      c.nws_node-reply.ensures.fixed ∙ c.loop-left.invariant.1,
-    )
+          (omega (arith, ints, c.if-reply-best.false));
+      fixed = c.nws_node-reply.ensures.fixed ∙ c.loop-left.invariant.fixed;
+      each = c.next_child-child.ensures.children;
+    }
 
 pub nws_children-loop-left-preserved-then-reply-best : goal.nws_children-loop-left-preserved-then-reply-best
 nws_children-loop-left-preserved-then-reply-best g t c =
     let child = c.next_child-child.result in
-    let made = c.next_child-child.ensures.child in (
-      ReplyLoop-takes c.args.scoring c.args.node.board _ _ (key_square child.key) _ _ _ c.loop-left.invariant.0
+    let made = c.next_child-child.ensures.child in
+    record {
+      loop = ReplyLoop-takes c.args.scoring c.args.node.board _ _ (key_square child.key) _ _ _ c.loop-left.invariant.loop
           (Takes-same _ _ _ _ c.square.ensures c.next_child-child.ensures.member c.without-left.ensures.rest)
           (BoundsAt-reply c.args.scoring c.args.node.board child.board (key_square child.key) _ _ _ c.nws_node-reply.result made.board
           (omega (arith, ints)) (omega (arith, ints)) c.nws_node-reply.ensures.value)
           (omega (arith, ints, c.if-reply-alpha.false))
-          (omega (arith, ints, c.if-reply-best.true)),
-      c.nws_node-reply.ensures.fixed ∙ c.loop-left.invariant.1,
-    )
+          (omega (arith, ints, c.if-reply-best.true));
+      fixed = c.nws_node-reply.ensures.fixed ∙ c.loop-left.invariant.fixed;
+      each = c.next_child-child.ensures.children;
+    }
 
 pub nws_children-returns-clause-value : goal.nws_children-returns-clause-value
 nws_children-returns-clause-value g t c =
-    ReplyLoop-end c.args.scoring c.args.node.board c.args.alpha _ _ _ c.loop-left.invariant.0 (omega (arith, ints)) (In-none _ c.loop-left-test.false) c.requires.some
+    ReplyLoop-end c.args.scoring c.args.node.board c.args.alpha _ _ _ c.loop-left.invariant.loop (omega (arith, ints)) (In-none _ c.loop-left-test.false) c.requires.some
 
 pub nws_children-returns-then-reply-alpha-clause-fixed : goal.nws_children-returns-then-reply-alpha-clause-fixed
-nws_children-returns-then-reply-alpha-clause-fixed g t c = c.nws_node-reply.ensures.fixed ∙ c.loop-left.invariant.1
+nws_children-returns-then-reply-alpha-clause-fixed g t c = c.nws_node-reply.ensures.fixed ∙ c.loop-left.invariant.fixed
 
 pub nws_children-returns-clause-fixed : goal.nws_children-returns-clause-fixed
-nws_children-returns-clause-fixed g t c = c.loop-left.invariant.1
+nws_children-returns-clause-fixed g t c = c.loop-left.invariant.fixed
 
 pub nws_node-nws_kept-requires : goal.nws_node-nws_kept-requires
 nws_node-nws_kept-requires g t c =
@@ -168,3 +176,17 @@ nws_node-returns-clause-value g t c =
     (can_move-from_none c.args.node.board _ c.args.node.legal c.if-node-ne0.false)
     (can_move-from_none passed.board _ passed.legal c.if-passed-ne0.false)
     (omega (arith, ints, c.final_score.ensures))
+
+pub nws_long-nws_children-requires : goal.nws_long-nws_children-requires
+nws_long-nws_children-requires g t c κs within =
+    let P = IsChild c.args.node.board in
+    let looked = c.look_at.ensures c.args.node.board (subst (All P) (sym c.as_mut_slice.ensures.value) c.children-list.ensures) in (
+      omega (arith, c.decreases),
+      (
+        within,
+        (
+          record { low = omega (arith, ints, c.requires.threshold.low); high = omega (arith, ints, c.requires.threshold.high) },
+          (c.requires.some, subst (All P) (sym c.as_mut_slice-2.ensures.value) (All-refill P _ _ _ c.children-list.ensures looked)),
+        ),
+      ),
+    )

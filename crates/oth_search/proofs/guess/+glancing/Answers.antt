@@ -1,6 +1,8 @@
 use Rattle.std.proofs.Common.{refl, arith, ◌∙◌}
 use Rattle.std.specs.Prelude.{neg_ℤ}
 use Rattle.std.proofs.lemmas.Int.{ints}
+use Rattle.oth_search.specs.Children.{IsChild}
+use Rattle.oth_search.proofs.KeyLemmas.{All-refill}
 use Rattle.oth_search.proofs.SquareSets.{Takes-same}
 use Rattle.oth_search.proofs.Replies.{legal-moves}
 use Rattle.oth_search.proofs.Enclosing.{IsScore-over}
@@ -15,6 +17,7 @@ glance_at_moves-loop-init g t c = record {
   score = record { low = omega (arith, ints); high = omega (arith, ints) };
   fixed = refl;
   legal = legal-moves c.args.node.board c.args.node.moves c.args.node.legal;
+  each = c.ranked-ranked.ensures;
 }
 
 pub glance_at_moves-loop-preserved : goal.glance_at_moves-loop-preserved
@@ -24,4 +27,5 @@ glance_at_moves-loop-preserved g t c = record {
       (omega (arith, ints)) (omega (arith, ints)) (omega (arith, ints)) c.greater-best.ensures.one;
   fixed = c.glance-reply.ensures.fixed ∙ c.loop.invariant.fixed;
   legal = λ s h. c.loop.invariant.legal s ((Takes-same _ _ _ _ c.square.ensures c.next_child-child.ensures.member c.without-left.ensures.rest).kept s h);
+  each = All-refill (IsChild c.args.node.board) _ _ _ c.loop.invariant.each c.next_child-child.ensures.children;
 }
