@@ -10,7 +10,7 @@ ghost use Rattle.oth_search.specs.Children.{IsChild};
 
 use crate::cells::Cells;
 use crate::child::Child;
-use crate::children::{children, look_at, next_child};
+use crate::children::{add_children, look_at, next_child};
 use crate::entry::Entry;
 use crate::node::Node;
 use crate::nws::{nws, nws_few};
@@ -131,7 +131,8 @@ fn nws_short<C: Cells>(node: Node, alpha: i8, cells: &mut C, scoring: Scoring) -
     ensures value { BoundsAt (value (score_of scoring) node.board) alpha result }
     ensures fixed { C.fixed cells.new ≡ C.fixed cells.old }
 {
-    let mut list: ArrayVec<Child, 7> = children(&node);
+    let mut list: ArrayVec<Child, 7> = ArrayVec::new();
+    add_children(&node, &mut list);
     nws_children(node, list.as_mut_slice(), alpha, cells, scoring)
 }
 
@@ -144,7 +145,8 @@ fn nws_middle<C: Cells>(node: Node, alpha: i8, cells: &mut C, scoring: Scoring) 
     ensures value { BoundsAt (value (score_of scoring) node.board) alpha result }
     ensures fixed { C.fixed cells.new ≡ C.fixed cells.old }
 {
-    let mut list: ArrayVec<Child, 10> = children(&node);
+    let mut list: ArrayVec<Child, 10> = ArrayVec::new();
+    add_children(&node, &mut list);
     if node.board.empties() <= FEWEST_EMPTIES_KEPT || is_remembered(&node.board, cells) {
         if let Some(found) = recorded_above(&node.board, list.as_slice(), alpha, cells, scoring) {
             return found;
@@ -162,7 +164,8 @@ fn nws_long<C: Cells>(node: Node, alpha: i8, cells: &mut C, scoring: Scoring) ->
     ensures value { BoundsAt (value (score_of scoring) node.board) alpha result }
     ensures fixed { C.fixed cells.new ≡ C.fixed cells.old }
 {
-    let mut list: ArrayVec<Child, 32> = children(&node);
+    let mut list: ArrayVec<Child, 32> = ArrayVec::new();
+    add_children(&node, &mut list);
     if let Some(found) = recorded_above(&node.board, list.as_slice(), alpha, cells, scoring) {
         return found;
     }

@@ -10,7 +10,7 @@ ghost use Rattle.oth_search.specs.Children.{IsChild};
 use crate::bracket::Bracket;
 use crate::cells::Cells;
 use crate::child::Child;
-use crate::children::{children, look_at, next_child, try_again};
+use crate::children::{add_children, look_at, next_child, try_again};
 use crate::deep::nws_node;
 use crate::interval::{Interval, greater, lesser};
 use crate::node::Node;
@@ -372,7 +372,8 @@ fn glance_at_moves<C: Cells>(
 fn ranked(node: &Node) -> ArrayVec<Child, MOST_RANKED>
     ensures { All (IsChild node.now.board) result.items }
 {
-    let mut found = children(node);
+    let mut found = ArrayVec::new();
+    add_children(node, &mut found);
     let empties = node.board.empties();
     if empties >= FEWEST_EMPTIES_GUESS_LOOKED {
         look_at(found.as_mut_slice(), empties.min(MOST_EMPTIES_GUESS_LOOKED));

@@ -3,7 +3,7 @@
 ghost use Rattle.std.specs.Prelude.{◌≡◌, ◌<◌, false};
 
 use crate::child::Child;
-use crate::children::{children, next_child};
+use crate::children::{add_children, next_child};
 use crate::evaluation::{Evaluation, by_discs, look_past_moves};
 use crate::node::Node;
 use crate::squares::without;
@@ -62,7 +62,8 @@ fn look_at_moves(node: Node, plies: u8, span: Span) -> Evaluation {
     if plies < 2 {
         return look_past_moves(&node.board, node.moves, span.enough);
     }
-    let mut list: ArrayVec<Child, MOST_LOOKED> = children(&node);
+    let mut list: ArrayVec<Child, MOST_LOOKED> = ArrayVec::new();
+    add_children(&node, &mut list);
     let mut best = Evaluation::WORST;
     let mut left = node.moves;
     while left != 0 {

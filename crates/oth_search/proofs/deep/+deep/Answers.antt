@@ -1,6 +1,7 @@
 use Rattle.std.proofs.Common.{refl, sym, subst, ◌∙◌, arith}
 use Rattle.std.specs.Prelude.{ℤ, neg_ℤ}
 use Rattle.std.proofs.lemmas.Int.{ints}
+use Rattle.std.proofs.lemmas.List.Elements.{All-nil}
 use Rattle.std.specs.List.{All}
 use Rattle.oth_search.specs.Keys.{key_square}
 use Rattle.oth_search.specs.Children.{IsChild}
@@ -180,13 +181,14 @@ nws_node-returns-clause-value g t c =
 pub nws_long-nws_children-requires : goal.nws_long-nws_children-requires
 nws_long-nws_children-requires g t c κs within =
     let P = IsChild c.args.node.board in
-    let looked = c.look_at.ensures c.args.node.board (subst (All P) (sym c.as_mut_slice.ensures.value) c.children-list.ensures) in (
+    let made = c.add_children.ensures (subst (All P) (sym c.new-list.ensures) (All-nil P)) in
+    let looked = c.look_at.ensures c.args.node.board (subst (All P) (sym c.as_mut_slice.ensures.value) made) in (
       omega (arith, c.decreases),
       (
         within,
         (
           record { low = omega (arith, ints, c.requires.threshold.low); high = omega (arith, ints, c.requires.threshold.high) },
-          (c.requires.some, subst (All P) (sym c.as_mut_slice-2.ensures.value) (All-refill P _ _ _ c.children-list.ensures looked)),
+          (c.requires.some, subst (All P) (sym c.as_mut_slice-2.ensures.value) (All-refill P _ _ _ made looked)),
         ),
       ),
     )

@@ -1,5 +1,6 @@
 use Rattle.std.proofs.Common.{sym, subst}
 use Rattle.std.specs.List.{All}
+use Rattle.std.proofs.lemmas.List.Elements.{All-nil}
 use Rattle.oth_search.specs.Children.{IsChild}
 use Rattle.oth_search.proofs.KeyLemmas.{All-refill}
 use Rattle.oth_search.proofs.guess.ranked.Goals as goal
@@ -7,4 +8,5 @@ use Rattle.oth_search.proofs.guess.ranked.Goals as goal
 pub returns-then-empties-ge-FEWEST_EMPTIES_GUESS_LOOKED : goal.returns-then-empties-ge-FEWEST_EMPTIES_GUESS_LOOKED
 returns-then-empties-ge-FEWEST_EMPTIES_GUESS_LOOKED c =
     let P = IsChild c.args.node.now.board in
-    All-refill P _ _ _ c.children-found.ensures (c.look_at.ensures c.args.node.now.board (subst (All P) (sym c.as_mut_slice.ensures.value) c.children-found.ensures))
+    let made = c.add_children.ensures (subst (All P) (sym c.new-found.ensures) (All-nil P)) in
+    All-refill P _ _ _ made (c.look_at.ensures c.args.node.now.board (subst (All P) (sym c.as_mut_slice.ensures.value) made))
