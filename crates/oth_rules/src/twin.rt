@@ -1,6 +1,6 @@
 //! Words of squares beside themselves turned by half a turn, a lane for each: a ray along which square numbers fall is
 //! in the other lane one along which they rise.
-ghost use Rattle.std.specs.Prelude.{◌≡◌, ◌<◌, ◌^◌, ◌↔◌, ℕ, IsTrue, IfSome, IsSome};
+ghost use Rattle.std.specs.Prelude.{◌≡◌, ◌<◌, ◌^◌, ◌↔◌, ℕ, IsTrue, IfSome, IsSome, SomeIff};
 ghost use Rattle.std.specs.Prelude.{bit_or, length, map, slice_index_or, [], ◌∷◌};
 ghost use Rattle.oth_rules.specs.Square.{Direction, has, word_of, is_in};
 ghost use Rattle.oth_rules.specs.Position.{is_empty, pass};
@@ -176,6 +176,18 @@ impl Twin {
             own: self.opp,
             opp: self.own,
         }
+    }
+
+    /// The board after a move, seen by the other side; `None` exactly if the move is illegal.
+    #[inline(always)]
+    pub fn play(self, square: Square) -> Option<Twin>
+        ensures { SomeIff result (IsTrue (is_legal self square)) (after self square) }
+    {
+        if square.word() & self.board().empty_squares() == 0 {
+            return None;
+        }
+        let flips = self.legal_flips(square)?;
+        Some(self.play_flipped(square, flips))
     }
 
     /// The board after a legal move whose flips are known, seen by the other side.

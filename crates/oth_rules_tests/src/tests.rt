@@ -52,6 +52,7 @@ fn check_forms(rt: &impl Abort, board: &Board) {
         let square = Square::numbered(number);
         assert_eq!(rt; board.flips_by_rays(square), board.flips(square));
         assert_eq!(rt; board.flips_by_shifts(square), board.flips(square));
+        assert_eq!(rt; twin.play(square).is_some(), board.flips(square) != 0);
         if let Some(child) = board.play(square) {
             assert_eq!(rt; twin.play_legal(square).board(), child);
         }

@@ -10,7 +10,7 @@ use crate::tuning::{
     FEWEST_EMPTIES_FOUR_AHEAD, FEWEST_EMPTIES_THREE_AHEAD, MARGIN, MOVE, OPEN_TO_MOVER,
     OPPOSING_X_SQUARE, STABLE_EDGE_DISC,
 };
-use oth_rules::{Board, NOT_H};
+use oth_rules::{Board, NOT_H, Twin};
 
 /// How well a board seems to stand for its mover, -6,400 to 6,400 points.
 #[derive(Clone, Copy)]
@@ -76,7 +76,7 @@ impl Evaluation {
 /// empty squares: after some plies, or for few as it stands. Less exact from `enough` on.
 pub fn evaluation_of(child: &Board, moves: u64, empties: u8, enough: Evaluation) -> Evaluation {
     match plies_ahead(empties) {
-        0 => standing(child, moves),
+        0 => standing(Twin::of(child), moves),
         1 => a_ply_ahead(child, moves, enough),
         plies => look(Node::of(*child), plies, Span::up_to(enough)),
     }
@@ -102,23 +102,24 @@ fn a_ply_ahead(child: &Board, moves: u64, enough: Evaluation) -> Evaluation {
     if moves != 0 {
         return look_past_moves(child, moves, enough);
     }
-    let passed = child.pass();
-    let replies = passed.moves_by_lines();
+    let passed = Twin::of(child).pass();
+    let replies = passed.moves();
     if replies != 0 {
-        return standing(&passed, replies).turned();
+        return standing(passed, replies).turned();
     }
     by_discs(child)
 }
 
 /// The best standing after a move, or one that is enough.
 pub fn look_past_moves(board: &Board, moves: u64, enough: Evaluation) -> Evaluation {
+    let twin = Twin::of(board);
     let mut best = Evaluation::WORST;
     let mut rest = moves;
     while rest != 0 {
         let square = first(rest);
         rest = without(rest, square);
-        if let Some(child) = board.play(square) {
-            best = best.better(standing(&child, child.moves_by_lines()).turned());
+        if let Some(child) = twin.play(square) {
+            best = best.better(standing(child, child.moves()).turned());
         }
         if best.reaches(enough) {
             return best;
@@ -135,15 +136,17 @@ pub fn by_discs(board: &Board) -> Evaluation {
 }
 
 // By the strength of the mover, who has these moves, and the opponent's.
-fn standing(board: &Board, moves: u64) -> Evaluation {
-    let passed = board.pass();
+fn standing(twin: Twin, moves: u64) -> Evaluation {
+    let passed = twin.pass();
     Evaluation {
-        points: strength(board, moves) as i16 - strength(&passed, passed.moves_by_lines()) as i16,
+        points: strength(&twin.board(), moves) as i16
+            - strength(&passed.board(), passed.moves()) as i16,
     }
 }
 
 // How strong the mover is: moves, corners among them, squares beside opposing discs, corners that are taken, discs that
 // are held along an edge, and opposing discs that give a corner away.
+#[inline(always)]
 fn strength(board: &Board, moves: u64) -> u16
     ensures { result ≤ 4800 }
 {
