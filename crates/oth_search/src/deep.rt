@@ -173,7 +173,8 @@ fn nws_long<C: Cells>(node: Node, alpha: i8, cells: &mut C, scoring: Scoring) ->
     nws_children(node, list.as_mut_slice(), alpha, cells, scoring)
 }
 
-// Searches these children and any other, the best-ranked first.
+// Searches these children and any other, the best-ranked first. Inline, so that the length of the list is known.
+#[inline(always)]
 #[cycle(deep)]
 fn nws_children<C: Cells>(
     node: Node,
