@@ -291,15 +291,23 @@ above r h other = ⊎_elim (λ k. k) (λ k. absurd (other (omega (arith, ints, k
 pub BoundsAt-moves : (g : Scoring) (p : Position) (alpha r t : ℤ) → r ≡ t → MovesAt (score_of g) p alpha t → t ≢ no_move → BoundsAt (value (score_of g) p) alpha r
 BoundsAt-moves g p alpha r t e m some = rw (e) (m.some (above t m.low some))
 
+pub BoundsAt-after_pass : (g : Scoring) (p q : Position) (alpha beta r t : ℤ) → q ≡ pass p → can_move p ≡ false → beta ≡ neg_ℤ alpha -ℤ pos 1
+    → r ≡ neg_ℤ t → MovesAt (score_of g) q beta t → t ≢ no_move → BoundsAt (value (score_of g) p) alpha r
+BoundsAt-after_pass g p q alpha beta r t is none f k n some =
+    let more = above t n.low some in
+    BoundsAt-pass g p q alpha beta r t is none (n.can more) f k (n.some more)
+
+pub BoundsAt-at_end : (g : Scoring) (p q : Position) (alpha beta none' r : ℤ) → q ≡ pass p → can_move p ≡ false → MovesAt (score_of g) q beta none'
+    → none' ≡ no_move → r ≡ score_of g p → BoundsAt (value (score_of g) p) alpha r
+BoundsAt-at_end g p q alpha beta none' r is none n f k = BoundsAt-over g p q alpha r is none (n.none f) k
+
 pub BoundsAt-passed : (g : Scoring) (p q : Position) (alpha beta none r t : ℤ) → q ≡ pass p → MovesAt (score_of g) p alpha none → none ≡ no_move → beta ≡ neg_ℤ alpha -ℤ pos 1
     → r ≡ neg_ℤ t → MovesAt (score_of g) q beta t → t ≢ no_move → BoundsAt (value (score_of g) p) alpha r
-BoundsAt-passed g p q alpha beta none r t is m e f k n some =
-    let more = above t n.low some in
-    BoundsAt-pass g p q alpha beta r t is (m.none e) (n.can more) f k (n.some more)
+BoundsAt-passed g p q alpha beta none r t is m e f k n some = BoundsAt-after_pass g p q alpha beta r t is (m.none e) f k n some
 
 pub BoundsAt-ended : (g : Scoring) (p q : Position) (alpha beta none none' r : ℤ) → q ≡ pass p → MovesAt (score_of g) p alpha none → none ≡ no_move → MovesAt (score_of g) q beta none'
     → none' ≡ no_move → r ≡ score_of g p → BoundsAt (value (score_of g) p) alpha r
-BoundsAt-ended g p q alpha beta none none' r is m e n f k = BoundsAt-over g p q alpha r is (m.none e) (n.none f) k
+BoundsAt-ended g p q alpha beta none none' r is m e n f k = BoundsAt-at_end g p q alpha beta none' r is (m.none e) n f k
 
 -- ---- a full board
 

@@ -1,8 +1,8 @@
 //! Searches of boards with at most four empty squares, square by square.
-ghost use Rattle.std.specs.Prelude.{◌≡◌, ◌<◌, ◌↔◌, ℕ, neg_ℤ, List, [], ◌∷◌, IfSome, IsSome};
+ghost use Rattle.std.specs.Prelude.{◌≡◌, ◌<◌, ◌↔◌, ℕ, neg_ℤ, false, List, [], ◌∷◌, IfSome, IsSome};
 ghost use Rattle.oth_rules.specs.Square.{word_of};
 ghost use Rattle.oth_rules.specs.Position.{is_empty};
-ghost use Rattle.oth_rules.specs.Move.{after};
+ghost use Rattle.oth_rules.specs.Move.{after, can_move};
 ghost use Rattle.oth_rules.specs.Laws.{IsLegal};
 ghost use Rattle.oth_rules.specs.Score.{score_of};
 ghost use Rattle.oth_rules.specs.declared.scoring.Scoring.{Scoring as ScoringBy};
@@ -98,7 +98,8 @@ fn last_reply(board: &Board, a: Square) -> Option<i8>
     Some(half + half)
 }
 
-// The value of a board with these two empty squares, against `alpha`. Inline, since most of the time is spent here.
+// The value of a board with these two empty squares, against `alpha`. Inline, since most of the time is spent here; the
+// pass stands apart, without which it would be too long for that.
 #[inline(always)]
 fn last_two(board: Twin, alpha: i8, a: Square, b: Square, scoring: Scoring) -> i8
     requires threshold { IsThreshold alpha }
@@ -109,6 +110,17 @@ fn last_two(board: Twin, alpha: i8, a: Square, b: Square, scoring: Scoring) -> i
     if found != NO_MOVE {
         return found;
     }
+    passed_two(board, alpha, a, b, scoring)
+}
+
+// As `last_two`, where the mover has no move.
+#[inline(never)]
+fn passed_two(board: Twin, alpha: i8, a: Square, b: Square, scoring: Scoring) -> i8
+    requires threshold { IsThreshold alpha }
+    requires last { Leaves board (a ∷ b ∷ []) }
+    requires none { can_move board ≡ false }
+    ensures { BoundsAt (value (score_of scoring) board) alpha result }
+{
     let passed = board.pass();
     let found = moves_two(passed, -alpha - 1, a, b, scoring);
     if found != NO_MOVE {

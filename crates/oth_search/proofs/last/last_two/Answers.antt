@@ -1,10 +1,7 @@
-use Rattle.std.proofs.Common.{◌∷◌, [], arith}
+use Rattle.std.proofs.Common.{arith}
 use Rattle.std.proofs.lemmas.Int.{ints}
 use Rattle.oth_search.proofs.Lasts as l
 use Rattle.oth_search.proofs.last.last_two.Goals as goal
-
-pub moves_two-found-requires-2-clause-last : goal.moves_two-found-requires-2-clause-last
-moves_two-found-requires-2-clause-last c = l.Leaves-pass c.args.board c.pass-passed.result (c.args.a ∷ c.args.b ∷ []) c.requires.last c.pass-passed.ensures
 
 pub returns-then-found : goal.returns-then-found
 returns-then-found c =
@@ -12,16 +9,5 @@ returns-then-found c =
     (l.MovesAt-at c.args.scoring c.args.board c.args.alpha _ c.moves_two-found.result (omega (arith, ints)) c.moves_two-found.ensures)
     (λ e. absurd (omega (arith, ints, e, c.if-found.true)))
 
-pub returns-then-found-2 : goal.returns-then-found-2
-returns-then-found-2 c =
-    l.BoundsAt-passed c.args.scoring c.args.board c.pass-passed.result c.args.alpha _ c.moves_two-found.result _ c.moves_two-found-2.result c.pass-passed.ensures
-    (l.MovesAt-at c.args.scoring c.args.board c.args.alpha _ c.moves_two-found.result (omega (arith, ints)) c.moves_two-found.ensures)
-    (omega (arith, ints, c.if-found.false))
-    (omega (arith, ints)) (omega (arith, ints)) c.moves_two-found-2.ensures (λ e. absurd (omega (arith, ints, e, c.if-found-2.true)))
-
-pub returns : goal.returns
-returns c =
-    l.BoundsAt-ended c.args.scoring c.args.board c.pass-passed.result c.args.alpha _ c.moves_two-found.result c.moves_two-found-2.result _ c.pass-passed.ensures
-    (l.MovesAt-at c.args.scoring c.args.board c.args.alpha _ c.moves_two-found.result (omega (arith, ints)) c.moves_two-found.ensures)
-    (omega (arith, ints, c.if-found.false))
-    c.moves_two-found-2.ensures (omega (arith, ints, c.if-found-2.false)) (omega (arith, ints, rw c.board.ensures at c.final_score.ensures))
+pub passed_two-requires-clause-none : goal.passed_two-requires-clause-none
+passed_two-requires-clause-none c = c.moves_two-found.ensures.none (omega (arith, ints, c.if-found.false))
