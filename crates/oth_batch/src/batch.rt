@@ -12,7 +12,7 @@ use oth_search::{Answer, Scores};
 use std::alloc::Global;
 use std::thread::Threads;
 
-/// What the boards of a batch are solved with. No answer depends on any of it but the scoring.
+/// What the boards of a batch are solved with. Answers depend on the scoring alone.
 #[derive(Clone, Copy)]
 pub struct Batch<'b, R, G> {
     /// Where the workers' threads come from.
@@ -23,18 +23,18 @@ pub struct Batch<'b, R, G> {
     pub gate: &'b G,
     /// Is asked for each board before it is searched.
     pub book: Option<&'b Book>,
-    /// At most so many boards are solved at once.
+    /// The most boards that are solved at once.
     pub workers: u8,
-    /// Each worker has a table of at most so many cells.
+    /// The most cells of each worker's table.
     pub cells: u32,
     /// The scoring of all boards.
     pub scoring: Scoring,
 }
 
 impl<'b, R: Threads + Sync, G: Gate> Batch<'b, R, G> {
-    /// Answers of boards that wait, solved side by side, each by one worker. It waits for its workers. Not each board
-    /// has an answer: left out are boards that are worth all workers, all boards where two workers don't pay, and those
-    /// for which there is no memory.
+    /// Solves boards that wait side by side, each by one worker, and returns their answers. Waits for its workers. Some
+    /// boards may have no answer: those that are worth all workers, all where two workers don't pay, and those for
+    /// which there is no memory.
     pub fn answers(&self, boards: &Boards) -> Vec<Answer>
         ensures boards { All (λ a. Contains boards.now a.board) result.items }
         ensures scoring { All (λ a. a.scoring ≡ self.now.scoring) result.items }

@@ -5,8 +5,8 @@ ghost use denote.Param.Send.{IsSync};
 
 use std::thread::{Threads, join_mut};
 
-/// Calls `work` in this thread, while so many other threads call `help`. Where a thread can't be made, its call of
-/// `help` comes when `work` has returned. It waits for all of them.
+/// Calls `work` in this thread, while `helpers` other threads call `help`. Where a thread can't be made, its call of
+/// `help` comes when `work` has returned. Waits for all of them.
 pub(crate) fn beside<R: Threads + Sync, H: Fn() + Sync, W: FnMut() -> X, X>(
     rt: &R,
     helpers: usize,

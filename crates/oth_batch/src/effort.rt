@@ -1,4 +1,4 @@
-//! How boards are shared out among workers, by how long they take to solve. No answer depends on it.
+//! How boards are shared out among workers, by how long they take to solve.
 
 ghost use Rattle.std.specs.Prelude.{◌≤◌};
 
@@ -25,7 +25,8 @@ pub struct Split {
 }
 
 impl Split {
-    /// As many workers as pay, at most as many as are asked for, and no more than there are boards for one worker.
+    /// Splits the boards among as many workers as pay: at most `workers`, and no more than there are boards for one
+    /// worker.
     pub fn of(asked: Asked, boards: &[Board], workers: u8) -> Split
         ensures { result.crew ≤ workers }
     {
@@ -49,7 +50,7 @@ impl Split {
     }
 }
 
-// How many of the boards take at most so long.
+// The number of boards whose effort is at most `most`.
 fn count_to(asked: Asked, boards: &[Board], most: u64) -> usize {
     let mut count = 0usize;
     for board in boards {

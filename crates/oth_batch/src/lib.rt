@@ -1,5 +1,5 @@
-//! Boards that wait together, solved or scored side by side: each by one worker; and claims of a book that are tested
-//! so.
+//! Boards that wait together, solved or scored side by side, each by one worker; and the claims of a book, tested so.
+//! How boards are shared out (`effort`, `tuning`) affects speed only: no answer depends on it.
 #![tactic(auto)]
 
 mod asked;

@@ -1,5 +1,5 @@
-//! The numbers that choose how boards are shared out among workers. No answer depends on one. What each was measured
-//! to bring stands in docs/TUNING.md.
+//! The numbers that choose how boards are shared out among workers. What each was measured to bring stands in
+//! docs/TUNING.md.
 
 /// Boards of a batch, at the most: enough that each of 16 workers has some, and so few that answers come soon.
 pub const MOST_BOARDS: usize = 1_024;
@@ -11,10 +11,10 @@ pub const MOST_EMPTIES_FOR_ONE: u8 = 18;
 /// Units of some 40 nanoseconds: the work that pays for a further thread, which takes some 0.3 milliseconds to start.
 pub(crate) const EFFORT_OF_A_THREAD: u64 = 1 << 13;
 
-/// Empty squares: the scores of all moves of a board take about as long as the answer of one with so many more.
+/// Empty squares: the scores of all moves of a board take about as long as the answer of a board with this many more.
 pub(crate) const EMPTIES_FOR_SCORES: u8 = 2;
 
-/// How long a board with so many empty squares takes, in units of some 40 nanoseconds: with two more 5.7 times as long.
+/// How long a board of `empties` empty squares takes, in units of some 40 nanoseconds: 5.7 times as long with two more.
 pub(crate) fn effort_of(empties: u8) -> u64 {
     1 << (u32::from(empties) * 5 / 4).min(40)
 }

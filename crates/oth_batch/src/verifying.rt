@@ -16,10 +16,10 @@ use oth_search::Answer;
 use std::alloc::Global;
 use std::thread::Threads;
 
-/// The book of claims that are all true, or the first that isn't, as [`oth_book::verify`] gives it. Boards that one
-/// worker is enough for are solved side by side, larger ones one after the other by all workers, over tables of at most
-/// so many cells each. It waits for its workers. Neither their number nor the tables' size changes the verdict, nor
-/// refused threads, nor refused memory once there is room for the book.
+/// Returns the book of the claims where all are true, else the first that isn't, or out of memory, as
+/// [`oth_book::verify`] does. Boards that one worker is enough for are solved side by side, larger ones one after the
+/// other by all workers, over tables of at most `cells` cells each. Waits for its workers. Neither their number nor the
+/// tables' size changes the verdict, nor refused threads, nor refused memory once there is room for the book.
 pub fn verify_by<R: Threads + Sync>(
     rt: &R,
     alloc: Global,
@@ -50,17 +50,17 @@ pub fn verify_by<R: Threads + Sync>(
     )
 }
 
-// Solves the boards of claims as they come, those of as many of them as make a batch at a time.
+// Solves the boards of claims as they come, a batch at a time.
 #[derive(Drop)]
 struct ClaimSolver<'b, R> {
     batch: Batch<'b, R, Open>,
     answers: Vec<Answer>,
-    // So many of the next claims were looked at.
+    // The number of next claims whose boards were gathered.
     claims: usize,
 }
 
 impl<'b, R: Threads + Sync> ClaimSolver<'b, R> {
-    // No claim was looked at.
+    // A solver that has gathered no claim.
     fn of(batch: Batch<'b, R, Open>) -> Self {
         let answers = Vec::new(batch.alloc);
         ClaimSolver {
@@ -89,7 +89,7 @@ impl<'b, R: Threads + Sync> ClaimSolver<'b, R> {
         solved.ok()
     }
 
-    // Solves the boards of as many of the first claims as make a batch, if there is memory for them.
+    // Solves the boards of the first claims, as many as make a batch, if there is memory for them.
     fn look_ahead(&mut self, claims: &[Claim]) {
         let Ok(mut boards) = Boards::new(self.batch.alloc) else {
             return;
@@ -98,8 +98,8 @@ impl<'b, R: Threads + Sync> ClaimSolver<'b, R> {
         self.answers = self.batch.answers(&boards);
     }
 
-    // The answer of the first claim's board, found before or now, where that pays. Where the claim wasn't looked at,
-    // the boards of as many of the claims as make a batch are solved side by side.
+    // Returns the answer of the first claim's board, found before or now; None where solving it here doesn't pay. If
+    // the last batch is used up, solves the boards of the first claims as a new one.
     fn next(&mut self, claims: &[Claim]) -> Option<Answer> {
         let first = claims.first()?;
         if self.claims == 0 {

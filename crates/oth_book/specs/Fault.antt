@@ -1,6 +1,6 @@
 -- The one fault of bytes that are no book's text, found from the left.
 --     stand v count rest      what the rest begins with, as the line after this many entries
---     IsLineFault v count last rest fault      the fault of the line after so many entries, the last of them this
+--     IsLineFault v count last rest fault      the fault of the line after `count` entries, the last of which is `last`
 --     last_of before      the last entry
 --     IsHeaderFault bytes fault      the fault of the header
 --     IsBookFault bytes fault      the fault of the bytes
@@ -58,7 +58,7 @@ last_of before = slice_get before (length before - 1)
 abbrev pub IsAboveLast : Option Claim → Claim → Type 0
 IsAboveLast last c = (d : Claim) → last ≡ Some d → IsBelow d.board c.board
 
--- the entry comes next, after so many
+-- the entry comes next, after `count` entries, the last of which is `last`
 pub record IsNext (v : Version) (count : ℕ) (last : Option Claim) (rest : List ℕ) (c : Claim) : Type 0 where
   pub room : count < 100000
   pub entry : IsEntryAt v rest c

@@ -50,7 +50,7 @@ shape_len (Header v) = header_len v
 shape_len (Entry v) = 83 + bounds_len v
 shape_len End = 11
 
--- 64 cells, a space, the bounds in so many bytes, a space, 16 digits of the word of best moves, and the line's end
+-- 64 cells, a space, the bounds in `bounds` bytes, a space, 16 digits of the word of best moves, and the line's end
 abbrev pub allows_in_entry : ℕ → ℕ → ℕ → Bool
 allows_in_entry bounds place b =
     if nat_lt place 64 then is_cell b

@@ -192,7 +192,7 @@ impl Book {
     }
 }
 
-// Whether both scorings are one.
+// Whether both scorings are the same.
 fn agree(a: Scoring, b: Scoring) -> bool
     ensures { IsTrue result ↔ (a ≡ b) }
 {
@@ -213,7 +213,7 @@ fn same_bounds(a: &Claim, b: &Claim) -> bool
     a.lower == b.lower && a.upper == b.upper
 }
 
-/// Whether a book takes boards of so many empty squares.
+/// Whether a book takes the board: whether it has at most 30 empty squares.
 pub fn has_few_empties(board: &Board) -> bool
     ensures { IsTrue result ↔ (empty_count board.now ≤ 30) }
 {

@@ -62,8 +62,8 @@ pub fn read_claims(alloc: Global, bytes: &[u8]) -> Result<Claims, BookFault>
     })
 }
 
-/// Whether the bytes are the text of a book, of version 1 or 2; else their one fault. It takes no memory, so that each
-/// list of bytes is seen to be a text or to have a fault.
+/// Tests whether the bytes are the text of a book, of version 1 or 2, and returns their one fault where they aren't. It
+/// takes no memory, so its contract shows that any bytes are a book's text or have a fault.
 pub fn check_text(bytes: &[u8]) -> Result<(), BookFault>
     ensures text { OnOk result ((said : Said) × IsText said bytes.now) }
     ensures fault { IfErr result (λ f. IsBookFault bytes.now f) }

@@ -81,7 +81,7 @@ fn read_bounds(text: &[u8], version: Version) -> Option<Interval>
     }
 }
 
-// So many bytes of the line, from this place on.
+// The `len` bytes of the line that begin at place `from`.
 fn part(line: &[u8], from: usize, len: usize) -> &[u8]
     requires { from + len ≤ length line.now }
     ensures { result.now ≡ take len (drop from line.now) }

@@ -39,7 +39,8 @@ pub fn read_entries(alloc: Global, bytes: &[u8], version: Version) -> Result<Vec
     Ok(claims)
 }
 
-/// Whether the lines after a header are a book's, told without memory.
+/// Tests whether the lines after a header are a book's, and returns their one fault where they aren't. It takes no
+/// memory.
 pub fn check_entries(bytes: &[u8], version: Version) -> Result<(), BookFault>
     requires { fit_of (Shape.Header version) bytes.now ≡ Fit.Whole }
     ensures text { OnOk result ((claims : List AnyClaim) × IsBookText version claims bytes.now) }
@@ -67,7 +68,7 @@ struct Place {
 }
 
 impl Place {
-    // Behind these entries.
+    // The place after these entries.
     fn after(before: &[Claim]) -> Self
         ensures count { result.count ≡ length before.now }
         ensures last { result.last ≡ last_of before.now }
@@ -79,7 +80,7 @@ impl Place {
     }
 }
 
-// What follows a line of this shape.
+// The bytes behind a first line of this shape.
 fn after_line(rest: &[u8], shape: Shape) -> &[u8]
     requires { shape_len shape ≤ length rest.now }
     ensures { result.now ≡ drop (shape_len shape) rest.now }

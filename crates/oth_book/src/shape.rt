@@ -87,7 +87,7 @@ fn is_allowed(shape: Shape, place: usize, byte: u8) -> bool
     }
 }
 
-// The same, of the header.
+// As `is_allowed`, of the header.
 fn is_allowed_in_header(version: Version, place: usize, byte: u8) -> bool
     requires { place < header_len version }
     ensures { result ≡ allows (Shape.Header version) place byte }
@@ -95,7 +95,7 @@ fn is_allowed_in_header(version: Version, place: usize, byte: u8) -> bool
     byte == header(version)[place]
 }
 
-// The same, of an entry line whose bounds have so many bytes.
+// As `is_allowed`, of an entry line whose bounds take `bounds` bytes.
 fn is_allowed_in_entry(bounds: usize, place: usize, byte: u8) -> bool
     requires { bounds ≤ 7 }
     ensures { result ≡ allows_in_entry bounds place byte }
@@ -115,7 +115,7 @@ fn is_allowed_in_entry(bounds: usize, place: usize, byte: u8) -> bool
     }
 }
 
-// The same, of the bounds, counted from their first byte.
+// Whether the byte may stand at this place of the bounds, counted from their first byte.
 fn is_allowed_in_bounds(place: usize, byte: u8) -> bool
     ensures { result ≡ allows_in_bounds place byte }
 {
@@ -128,7 +128,7 @@ fn is_allowed_in_bounds(place: usize, byte: u8) -> bool
     }
 }
 
-// The same, of the end line.
+// As `is_allowed`, of the end line.
 fn is_allowed_in_end(place: usize, byte: u8) -> bool
     requires { place < 11 }
     ensures { result ≡ allows Shape.End place byte }

@@ -16,9 +16,9 @@ use oth_rules::Scoring;
 use oth_search::{Answer, Interval, MemoCells, NoCells, search, solve_with};
 use std::alloc::Global;
 
-/// The book of claims that are all true, or the first that isn't. Each is solved anew. The claims are given up. Memory
-/// for the book is asked for once, before any is solved, and not where there are no claims; want of other memory costs
-/// time alone.
+/// Tests each claim anew, by a search of its board. Returns the book of the claims where all are true, else the first
+/// that isn't, or out of memory. The claims are given up. Memory for the book is asked for once, before any claim is
+/// tested, and not where there are no claims. Refused memory for anything else costs time alone.
 pub fn verify(alloc: Global, claims: Claims) -> Result<Book, Wrong>
     ensures same { IfOk result (λ book. book ≡ claims) }
     ensures holds { IfOk result (λ book. IsTrueBook book) }
@@ -27,9 +27,9 @@ pub fn verify(alloc: Global, claims: Claims) -> Result<Book, Wrong>
     verify_knowing(alloc, claims, |_: &[Claim]| None)
 }
 
-/// The same, where answers may be known. Before each claim is tested, `known` is asked with the claims that are left,
-/// and may tell an answer. One of the first claim's board under the claims' scoring decides that claim; another is
-/// passed over, and the board is solved anew. An answer can't be untrue, so which are told changes the time alone.
+/// As [`verify`], where answers may be known. Before each claim is tested, `known` is called with the claims that are
+/// left, and may return an answer. An answer of the first claim's board under the claims' scoring decides that claim;
+/// any other is ignored, and the board is searched. No answer can be untrue, so `known` affects speed only.
 pub fn verify_knowing<F: FnMut(&[Claim]) -> Option<Answer>>(
     alloc: Global,
     claims: Claims,
@@ -71,8 +71,8 @@ fn verified<F: FnMut(&[Claim]) -> Option<Answer>>(
     Ok(entries)
 }
 
-// Whether the claim is true, or the first cause for which it isn't: by the answer if it is that of the claim's board,
-// else by a search.
+// Tests the claim, by the answer if it is that of the claim's board under the scoring, else by a search. Returns the
+// first cause for which the claim isn't true, if there is one.
 fn check(
     alloc: Global,
     claim: &Claim,
@@ -100,7 +100,7 @@ fn check(
     Ok(())
 }
 
-// The same, of a claim whose board's answer is known.
+// As `check`, by the answer of the claim's board.
 fn check_by(claim: &Claim, answer: &Answer) -> Result<(), Cause>
     requires few { empty_count claim.now.board ≤ 30 }
     requires board { answer.now.board ≡ claim.now.board }
@@ -116,7 +116,7 @@ fn check_by(claim: &Claim, answer: &Answer) -> Result<(), Cause>
     Ok(())
 }
 
-// The same, of a claim whose bounds are one number.
+// As `check`, of a claim whose bounds are one number, by a search for the value and all best moves.
 fn check_exact(alloc: Global, claim: &Claim, scoring: Scoring) -> Result<(), Cause>
     requires few { empty_count claim.now.board ≤ 30 }
     ensures ok { OnOk result (IsTrueClaim scoring claim.now) }

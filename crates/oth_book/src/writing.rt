@@ -86,7 +86,7 @@ fn line_of(entry: &Claim) -> ArrayVec<u8, LINE_LEN>
     line
 }
 
-// The end line of so many entries.
+// The end line of a book of `count` entries.
 #[tactic(auto, unfolding(crate::specs::Text::end_line))]
 fn last_line(count: u64) -> ArrayVec<u8, LINE_LEN>
     ensures { result.items ≡ end_line count }
@@ -98,7 +98,7 @@ fn last_line(count: u64) -> ArrayVec<u8, LINE_LEN>
     line
 }
 
-// The cells of the board.
+// Appends the cells of the board.
 fn push_cells(line: &mut ArrayVec<u8, LINE_LEN>, board: &Board)
     requires { line.old.items ≡ [] }
     ensures cells { line.new.items ≡ cells board.now }
@@ -109,7 +109,7 @@ fn push_cells(line: &mut ArrayVec<u8, LINE_LEN>, board: &Board)
     }
 }
 
-// A sign and two digits.
+// Appends the bound as a sign and two digits.
 #[tactic(auto, unfolding(crate::specs::Text::signed))]
 fn push_bound(line: &mut ArrayVec<u8, LINE_LEN>, bound: i8)
     requires { array_vec_len line.old + 3 ≤ LINE_LEN }
@@ -120,7 +120,7 @@ fn push_bound(line: &mut ArrayVec<u8, LINE_LEN>, bound: i8)
     push_numeral::<2>(line, 10, u64::from(bound.unsigned_abs()));
 }
 
-// So many digits of the number.
+// Appends the number in `DIGITS` digits of the base.
 fn push_numeral<const DIGITS: usize>(line: &mut ArrayVec<u8, LINE_LEN>, base: u64, number: u64)
     requires room { array_vec_len line.old + DIGITS ≤ LINE_LEN }
     requires positive { 0 < base }

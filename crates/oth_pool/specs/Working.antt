@@ -1,7 +1,7 @@
 -- What workers found.
 --     IsReplyOf items scoring reply      the reply is of the board of its number's item, under the scoring
 --     CanWork items scoring tasks work      the hand is one of these tasks, and each reply is of a number that the hand drew, once
---     HasLists workers drawn      a list of drawn numbers for each of so many workers, or none at all
+--     HasLists workers drawn      a list of drawn numbers for each of the workers, or none at all
 --     AreGathered items scoring gathered      each number was drawn once or is left; each reply is of a drawn number, once, and of
 --                                             its item's board
 use Rattle.std.specs.Prelude.{◌≡◌, ℕ, ◌≤◌, ◌⊎◌, List, length, map, All, slice_get, sum_by, Some, option_map}

@@ -1,11 +1,11 @@
-//! What a gate hears of a search by one worker.
+//! Tells a gate of a search by one worker.
 
 use oth_pieces::Frontier;
 use oth_rules::{Board, Scoring, Square};
 use oth_search::{Cells, Observer, Solved, known_below};
 use oth_walk::{Gate, Search};
 
-// The items of a frontier by the root's moves, of which some were announced.
+// The items of a frontier, each below one of the root's moves, and the moves whose items were announced.
 #[derive(Drop)]
 struct Items<'s> {
     root: Board,
@@ -17,7 +17,7 @@ struct Items<'s> {
 }
 
 impl<'s> Items<'s> {
-    // None was announced.
+    // Items of which none was announced.
     fn of(shared: &Search<'s>) -> Items<'s> {
         Items {
             root: shared.root,
@@ -28,7 +28,7 @@ impl<'s> Items<'s> {
         }
     }
 
-    // Whether the item of this number is below the move.
+    // Whether item `number` is below the move.
     fn is_below(&self, number: u32, square: Square) -> bool {
         match self.frontier.entry(number) {
             Some(item) => item.square == square,
@@ -36,7 +36,8 @@ impl<'s> Items<'s> {
         }
     }
 
-    // The move of the root that leads to the board, if its items were not announced. From now on they are.
+    // Marks the items below the root's move to `child` as announced, and returns the move. None where no move leads
+    // there, or its items were announced before.
     fn announce(&mut self, child: &Board) -> Option<Square> {
         for square in self.squares {
             if self.announced & square.word() == 0 && self.root.play(*square) == Some(*child) {
@@ -47,7 +48,7 @@ impl<'s> Items<'s> {
         None
     }
 
-    // What is known of the root by what is known of the boards after its moves, and how many of them need no further
+    // Returns the bounds of the root, backed up from `replies`, its children, and how many of these need no further
     // search.
     fn known(&self, replies: &[Solved]) -> (Solved, u64) {
         let root = known_below(self.root, 1, replies, self.scoring);
@@ -61,8 +62,9 @@ impl<'s> Items<'s> {
     }
 }
 
-/// Tells a gate of the items of a frontier, those below a move round the first search of the board after it, and how
-/// far the search is.
+/// Tells a gate of each item of a frontier, before its search and after, and how far the search is. One worker searches
+/// the root's children, not the items: those below a move are announced before the first search of its child and after
+/// it.
 #[derive(Drop)]
 pub(crate) struct Announcer<'s, G> {
     items: Items<'s>,
@@ -72,7 +74,7 @@ pub(crate) struct Announcer<'s, G> {
 }
 
 impl<'s, G: Gate> Announcer<'s, G> {
-    /// No item was announced yet.
+    /// An announcer that has announced no item.
     pub fn of(shared: &Search<'s>, gate: &'s G) -> Announcer<'s, G> {
         Announcer {
             items: Items::of(shared),

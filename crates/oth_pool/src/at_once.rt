@@ -1,13 +1,13 @@
-//! Jobs that are worked on at once, each in a thread of its own.
+//! Works on jobs at once, each in a thread of its own.
 ghost use Rattle.std.specs.Prelude.{◌≤◌, length};
 ghost use denote.Param.Send.{IsSend, IsSync};
 ghost use Rattle.oth_pool.specs.AtOnce.{AcceptsEach, ChangesEach};
 
 use std::thread::{Threads, join_mut};
 
-/// Calls f at each job, in a thread of its own where one can be made; the last one in this thread. All threads are
-/// started by this one, and first one that does nothing: some systems let the first thread that a thread starts wait
-/// milliseconds for its processor, while others are idle.
+/// Calls `f` with each job: with the last in this thread, with each other in a thread of its own where one can be made.
+/// This thread starts all the others, and the first of these has no job: some systems let the first thread that a
+/// thread starts wait milliseconds for its processor while others are idle.
 pub(crate) fn for_each_at_once<R: Threads + Sync, T: Send, F: Fn(&mut T) + Sync>(
     rt: &R,
     f: &F,
@@ -24,7 +24,7 @@ pub(crate) fn for_each_at_once<R: Threads + Sync, T: Send, F: Fn(&mut T) + Sync>
     start_both(rt, f, none, all);
 }
 
-// The first job in a thread of its own and the others likewise, the last one in this thread.
+// Calls `f` with each job: with the last in this thread, with each other in a thread of its own where one can be made.
 #[cycle(starting)]
 fn start_from<R: Threads + Sync, T: Send, F: Fn(&mut T) + Sync>(rt: &R, f: &F, jobs: &mut [T])
     requires { AcceptsEach F.Fn f.now jobs.old }
@@ -41,7 +41,7 @@ fn start_from<R: Threads + Sync, T: Send, F: Fn(&mut T) + Sync>(rt: &R, f: &F, j
     start_both(rt, f, first, rest);
 }
 
-// The first jobs in a thread of their own, where one can be made, and the others in this one and further ones.
+// Works on `first` in a thread of its own, where one can be made, and on `rest` in this thread and further ones.
 #[cycle(starting)]
 fn start_both<R: Threads + Sync, T: Send, F: Fn(&mut T) + Sync>(
     rt: &R,

@@ -7,7 +7,8 @@ use oth_book::Book;
 use oth_rules::{Board, Scoring};
 use oth_search::{Answer, Solved};
 
-/// The answer of a book under this scoring, where it has the board with exact bounds.
+/// Returns the book's answer of `board`. None where there is no book, it is under another scoring, or it has no exact
+/// bounds of the board.
 pub(crate) fn answer_in(book: Option<&Book>, board: &Board, scoring: Scoring) -> Option<Answer>
     ensures board { IfSome result (λ a. a.board ≡ board.now) }
     ensures scoring { IfSome result (λ a. a.scoring ≡ scoring) }
@@ -19,7 +20,8 @@ pub(crate) fn answer_in(book: Option<&Book>, board: &Board, scoring: Scoring) ->
     book.find(board)
 }
 
-/// The bounds of a book under this scoring, or those of every value.
+/// Returns the book's bounds of `board`: -64 to 64 where there is no book, it is under another scoring, or it doesn't
+/// have the board.
 pub(crate) fn bounds_in(book: Option<&Book>, board: &Board, scoring: Scoring) -> Solved
     ensures board { result.board ≡ board.now }
     ensures scoring { result.scoring ≡ scoring }

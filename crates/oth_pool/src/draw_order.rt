@@ -1,15 +1,15 @@
-//! The order in which the items of a frontier are drawn: those whose search promises most come first.
+//! The order in which the items of a frontier are drawn: the most promising first.
 use arrayvec::ArrayVec;
 use oth_pieces::{MOST_ITEMS, awake};
 use oth_rules::{Board, Square};
 use oth_search::order;
 use oth_walk::Search;
 
-// A rank beyond the number of a board's moves.
+// More moves than a board has.
 const BEYOND: u32 = 64;
 
-/// The rank of each item of the frontier, the least first: all replies to the root's first move in their order, then
-/// the best reply to each other move, then the second ones, and so on. Nothing rests on it but time.
+/// Returns the rank of each item of the frontier; the least is drawn first. First come the replies to the root's first
+/// move in their order, then the best reply to each other move, then the second reply to each, up to the last.
 #[inline(never)]
 pub(crate) fn ranks(shared: &Search) -> ArrayVec<u32, MOST_ITEMS> {
     let mut ranks = ArrayVec::new();
@@ -30,7 +30,8 @@ pub(crate) fn ranks(shared: &Search) -> ArrayVec<u32, MOST_ITEMS> {
     ranks
 }
 
-// The rank of a reply by the place of the root's move and its own.
+// Returns the rank of a reply by two places: of the root's move among the root's moves, and of the reply among the
+// replies to it.
 fn rank_of(of_move: u32, of_reply: u32) -> u32 {
     if of_move == 0 {
         of_reply
@@ -39,8 +40,8 @@ fn rank_of(of_move: u32, of_reply: u32) -> u32 {
     }
 }
 
-// The boards after the replies to a move of the root, after a forced pass where there is one, in the order in which
-// they are searched.
+// Returns the boards after the replies to the root's move, in the order in which they are searched. A forced pass
+// before or after a reply is played too.
 fn replies_to(shared: &Search, square: Square) -> ArrayVec<Board, 64> {
     let mut replies = ArrayVec::new();
     if let Some(child) = shared.root.play(square) {
@@ -56,7 +57,7 @@ fn replies_to(shared: &Search, square: Square) -> ArrayVec<Board, 64> {
     replies
 }
 
-// The place of the value in the list, or beyond all places.
+// Returns the place of `value` in `list`, or `BEYOND` where it isn't among the first 64.
 fn place_of<T: PartialEq>(list: &[T], value: &T) -> u32 {
     let mut place = 0;
     for other in list {

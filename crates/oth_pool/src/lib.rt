@@ -1,5 +1,6 @@
 //! The search of one board by several workers: how they are started, in which order they draw its items, and the
-//! answer.
+//! answer. The order of the items and the numbers of `tuning` affect speed only: each answer is proved whatever they
+//! are.
 #![tactic(auto)]
 
 mod announcing;

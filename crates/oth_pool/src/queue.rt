@@ -1,4 +1,4 @@
-//! The boards after a board's moves, which workers value, each the next one that none has taken.
+//! The children of a board as a queue: each worker takes the next one that nobody has taken, and values it.
 ghost use Rattle.std.specs.Prelude.{◌≡◌, IfSome};
 ghost use Rattle.oth_pool.specs.Solving.{IsSolvable};
 
@@ -9,7 +9,7 @@ use oth_rules::{Board, Scoring};
 use oth_search::{MOST_EMPTIES, Solved, order};
 use std::sync::atomic::{AtomicU64, Ordering};
 
-/// Boards with what is known of them, and how many of them have been taken.
+/// Boards with their bounds, and the place of the next one to take.
 #[derive(Drop)]
 pub(crate) struct Queue {
     boards: ArrayVec<Solved, 64>,
@@ -17,8 +17,7 @@ pub(crate) struct Queue {
 }
 
 impl Queue {
-    /// The boards after the moves of a board, those first that leave the opponent little, with what the book tells of
-    /// them.
+    /// The children of `board` with the book's bounds of each, in the order in which they are searched.
     pub fn of(board: &Board, book: Option<&Book>, scoring: Scoring) -> Queue {
         Queue {
             boards: replies_by_book(board, book, scoring),
@@ -26,12 +25,13 @@ impl Queue {
         }
     }
 
-    /// How many boards there are, taken or not.
+    /// The number of boards, taken or not.
     pub fn len(&self) -> usize {
         self.boards.len()
     }
 
-    /// The next board that nobody has taken, which is then taken. It has at most 30 empty squares.
+    /// Takes the next board that nobody has taken. None where all are taken; no board of more than 30 empty squares is
+    /// returned.
     pub fn take(&self) -> Option<Solved>
         ensures few { IfSome result (λ s. IsSolvable s.board) }
     {
@@ -39,7 +39,7 @@ impl Queue {
         self.board(place as usize)
     }
 
-    // The board at this place.
+    // The board at `place`, if there is one and it has at most 30 empty squares.
     fn board(&self, place: usize) -> Option<Solved>
         ensures few { IfSome result (λ s. IsSolvable s.board) }
     {
@@ -51,7 +51,7 @@ impl Queue {
     }
 }
 
-// The boards after the moves of a board, in the order in which they are searched, with what the book tells of them.
+// Returns the children of `board` in the order in which they are searched, with the book's bounds of each.
 fn replies_by_book(board: &Board, book: Option<&Book>, scoring: Scoring) -> ArrayVec<Solved, 64> {
     let mut replies = ArrayVec::new();
     let squares = order(board);

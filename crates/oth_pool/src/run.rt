@@ -1,4 +1,4 @@
-//! Workers over all items of a frontier.
+//! Runs workers over all items of a frontier.
 ghost use Rattle.std.specs.Prelude.{◌≡◌, ◌≤◌, ℕ, IfSome, List, length, map, vec_len, vec_capacity, All, []};
 ghost use Rattle.oth_rules.specs.declared.scoring.Scoring.{Scoring};
 ghost use Rattle.oth_pieces.specs.declared.frontier.item.Item.{Item};
@@ -22,7 +22,7 @@ use oth_walk::{
 use std::alloc::Global;
 use std::thread::Threads;
 
-/// What the workers drew and found. Each reply belongs to a drawn number and is there once.
+/// What the workers drew and found: at most one reply to each drawn number, and none to others.
 #[derive(Drop)]
 pub struct Gathered {
     pub drawn: Drawn,
@@ -38,15 +38,15 @@ pub(crate) struct Means<'m, R, G> {
     pub workers: u8,
 }
 
-// How workers reach each other besides by the table.
+// What workers share besides the table.
 #[derive(Clone, Copy)]
 struct Links<'s> {
     floor: &'s Floor,
     hints: &'s Option<Hints>,
 }
 
-/// Lets so many workers, 1 to 16, search the items of the frontier, each over cells of the table where there is one and
-/// a seat of it can be had, with a window at the floor. It waits for them. The gate hears of each item that a worker
+/// Lets `workers` workers, 1 to 16, search the items of the frontier with a window at the floor, each over cells of the
+/// table where there is one and a seat of it can be had. Waits for them. The gate hears of each item that a worker
 /// takes. Refused memory or threads cost time alone: what no worker takes is left.
 pub fn run_workers<'t, R: Threads + Sync, G: Gate>(
     rt: &R,
@@ -78,7 +78,7 @@ pub fn run_workers<'t, R: Threads + Sync, G: Gate>(
     run(&means, &shared, floor, seat, table).0
 }
 
-/// The same, and what the workers found of the boards after the root's moves.
+/// As `run_workers`, for a prepared search. Returns also what the workers found of the root's children.
 #[inline(never)]
 pub(crate) fn run<'t, R: Threads + Sync, G: Gate>(
     means: &Means<R, G>,
@@ -102,7 +102,7 @@ pub(crate) fn run<'t, R: Threads + Sync, G: Gate>(
     run_linked(means, shared, links, seat, table)
 }
 
-// The same, by workers with these links.
+// As `run`, by workers that share `links`.
 fn run_linked<'w, 't, R: Threads + Sync, G: Gate>(
     means: &Means<R, G>,
     shared: &Search,
@@ -143,7 +143,7 @@ fn run_linked<'w, 't, R: Threads + Sync, G: Gate>(
     (Gathered { drawn, replies }, found)
 }
 
-// The hints of several workers; one worker needs none.
+// Makes the hints that several workers share. None where there is one worker, which needs none, or no memory.
 fn hints_for<R, G>(means: &Means<R, G>, shared: &Search) -> Option<Hints> {
     if means.workers == 1 {
         return None;
@@ -151,7 +151,7 @@ fn hints_for<R, G>(means: &Means<R, G>, shared: &Search) -> Option<Hints> {
     Hints::new(means.alloc, orders_for(shared.root.empties()))
 }
 
-// All is left.
+// What is gathered where nobody drew anything: all items are left.
 #[inline(never)]
 fn nothing(alloc: Global, shared: &Search) -> (Gathered, Vec<Solved>)
     ensures gathered { AreGathered shared.now.frontier.now shared.now.scoring result.0 }
@@ -164,7 +164,8 @@ fn nothing(alloc: Global, shared: &Search) -> (Gathered, Vec<Solved>)
     (gathered, Vec::new(alloc))
 }
 
-// The workers, which have searched nothing yet.
+// Makes the workers, which have searched nothing yet. None where there is no memory for them or for their seats of the
+// floor.
 fn workers_of<'w, 't, R, G>(
     means: &Means<R, G>,
     shared: &Search,
@@ -193,7 +194,7 @@ fn workers_of<'w, 't, R, G>(
     Some(workers)
 }
 
-// A job for each hand.
+// Makes a job of each hand and a worker. A job for whose replies there is no memory gets no room for them.
 fn jobs_of<'w, C: Drop>(
     alloc: Global,
     shared: &Search,
@@ -218,7 +219,7 @@ fn jobs_of<'w, C: Drop>(
     jobs
 }
 
-// The jobs, when each has searched until nothing was left.
+// Returns the jobs after each has searched until nothing was left.
 fn run_jobs<'w, R: Threads + Sync, G: Gate, C: Cells + Send + Drop>(
     means: &Means<R, G>,
     shared: &Search,
@@ -235,7 +236,7 @@ fn run_jobs<'w, R: Threads + Sync, G: Gate, C: Cells + Send + Drop>(
     jobs
 }
 
-/// Room for so many; none where there is no memory.
+/// Returns an empty list with room for `count` elements, or without room where there is no memory.
 pub(crate) fn room_for<T: Drop>(alloc: Global, count: u32) -> Vec<T>
     ensures { result.items ≡ [] }
 {
@@ -245,7 +246,7 @@ pub(crate) fn room_for<T: Drop>(alloc: Global, count: u32) -> Vec<T>
     }
 }
 
-// All replies of the jobs, as far as there is room for them.
+// Returns all replies of the jobs, as far as there is room for them.
 fn replies_of<'w, C>(jobs: &[Job<'w, C>], room: Vec<Reply>) -> Vec<Reply>
     requires { room.items ≡ [] }
     ensures replies { (items : List Item) (scoring : Scoring) → All (λ j. Holds items scoring j.work) jobs.now
@@ -260,7 +261,7 @@ fn replies_of<'w, C>(jobs: &[Job<'w, C>], room: Vec<Reply>) -> Vec<Reply>
     replies
 }
 
-// What the workers found of the boards after the root's moves.
+// Returns what the workers found of the root's children, as far as there is memory.
 fn found_by_workers<'w, C>(alloc: Global, jobs: &[Job<'w, C>]) -> Vec<Solved> {
     let mut found = Vec::new(alloc);
     for job in jobs {
@@ -269,7 +270,7 @@ fn found_by_workers<'w, C>(alloc: Global, jobs: &[Job<'w, C>]) -> Vec<Solved> {
     found
 }
 
-// The hands of the jobs, in the room.
+// Moves the hands of the jobs into `room`.
 fn hands_in<'w, C: Drop>(mut room: Vec<Hand>, jobs: Vec<Job<'w, C>>) -> Vec<Hand>
     requires { (vec_len room ≡ 0) × (vec_len jobs ≤ vec_capacity room) }
     ensures { result.items ≡ map (λ j. j.work.hand) jobs.entry.items }

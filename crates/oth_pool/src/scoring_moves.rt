@@ -20,14 +20,15 @@ use oth_walk::Gate;
 use std::alloc::Global;
 use std::thread::Threads;
 
-/// The score of every move of a board by full minimax, and its answer, with so many workers over a table of at most so
-/// many cells (0: none), which is kept from one move to the next. It waits for its workers. Neither their number nor
-/// the table's size nor the schedule changes the scores, nor refused memory or threads. A book of the same scoring is
-/// asked of each board after a move: an exact entry is its value, and the gate hears nothing of it; the bounds of
-/// another one narrow the search. Where there are as many moves as workers or more, each worker values the boards after
-/// them by itself, so that the gate hears of several boards at once: of each in one thread, its items as [`solve`] by
-/// one worker has them. Where there are fewer moves, all workers value one board behind another, as [`solve`] does.
-/// Where the mover has no move, it is [`solve`] that is asked.
+/// Returns the score of every move of a board by full minimax, and the board's answer, by `workers` workers over a
+/// table of at most `cells` cells (0: none), which is kept from one move to the next. Waits for its workers. Neither
+/// their number nor the table's size nor the schedule changes the scores, nor refused memory or threads.
+///
+/// A book of the same scoring is asked of each child: an exact entry is its value, and the gate hears nothing of the
+/// child; other bounds narrow the search. With at least as many moves as workers, each worker values children by
+/// itself, so the gate hears of several boards at once: of each in one thread, its items as [`solve`] by one worker has
+/// them. With fewer moves, all workers value one child after another, as [`solve`] does. Where the mover has no move,
+/// [`solve`] is asked.
 pub fn scores<R: Threads + Sync, G: Gate>(
     rt: &R,
     alloc: Global,
@@ -59,7 +60,7 @@ pub fn scores<R: Threads + Sync, G: Gate>(
     Ok(Scores::of(answer, replies.as_slice(), &mut NoCells))
 }
 
-// The boards after the moves of a board with their values, over a table where there is one.
+// Returns the children of `board` with their values, found over a table unless `cells` is 0 or memory is refused.
 fn replies_of<R: Threads + Sync, G: Gate>(
     means: &Means<R, G>,
     board: &Board,
@@ -80,7 +81,8 @@ fn replies_of<R: Threads + Sync, G: Gate>(
     }
 }
 
-// The same, by one worker or by several: each board by one of them where there is one for each, and else by all.
+// As `replies_of`, over the table at hand, if there is one: each worker values children by itself where there are at
+// least as many children as workers, else all workers value one child after another.
 fn replies_over<'t, R: Threads + Sync, G: Gate>(
     means: &Means<R, G>,
     board: &Board,

@@ -30,7 +30,7 @@ use thiserror::Error;
 /// Why a board isn't solved: the first of these that holds.
 #[derive(Clone, Copy, PartialEq, Eq, Debug, Error)]
 pub enum SolveError {
-    /// Refusal 1: so many squares are empty, more than 30.
+    /// Refusal 1: this many squares are empty, more than 30.
     #[error("the board has {0} empty squares, and at most 30 are solved")]
     TooManyEmpties(u8),
     /// Refusal 2: the workers aren't 1 to 16.
@@ -41,10 +41,11 @@ pub enum SolveError {
     Cells,
 }
 
-/// The score and all best moves of a board by full minimax, with so many workers over a table of at most so many cells
-/// (0: none). It waits for its workers. Neither their number nor the table's size nor the schedule changes the answer,
-/// nor refused memory or threads. A book of the same scoring is asked first: an exact entry is the answer, and the gate
-/// hears nothing; the bounds of another entry raise the floor before the workers start.
+/// Returns the score and all best moves of a board by full minimax, by `workers` workers over a table of at most
+/// `cells` cells (0: none). Waits for its workers. Neither their number nor the table's size nor the schedule changes
+/// the answer, nor refused memory or threads. A book of the same scoring is asked first: an exact entry is the answer,
+/// and the gate hears nothing; the bounds of another entry narrow the search, and several workers start with a floor at
+/// the lower one.
 pub fn solve<R: Threads + Sync, G: Gate>(
     rt: &R,
     alloc: Global,
@@ -73,7 +74,7 @@ pub fn solve<R: Threads + Sync, G: Gate>(
     Ok(answer(&means, &by_book, cells))
 }
 
-/// The first cause for which the board isn't solved, if there is one.
+/// Refuses by the first cause for which the board isn't solved, if there is one.
 pub(crate) fn accepted(board: &Board, workers: u8, cells: u32) -> Result<(), SolveError>
     ensures ok { IfOk result (λ nothing. Accepts board.now workers cells) }
     ensures err { IfErr result (Refuses board.now workers cells) }
@@ -91,7 +92,7 @@ pub(crate) fn accepted(board: &Board, workers: u8, cells: u32) -> Result<(), Sol
     Ok(())
 }
 
-/// So many of the workers as pay for a board with so many empty squares.
+/// Returns how many of `workers` workers pay for a board of `empties` empty squares.
 pub(crate) fn crew(workers: u8, empties: u8) -> u8
     requires { IsCrew workers }
     ensures { IsCrew result }
@@ -103,7 +104,7 @@ pub(crate) fn crew(workers: u8, empties: u8) -> u8
     }
 }
 
-// The answer of the board of which the book tells so much.
+// Returns the answer of `by_book`, a board with the book's bounds.
 fn answer<R: Threads + Sync, G: Gate>(means: &Means<R, G>, by_book: &Solved, cells: u32) -> Answer
     requires few { IsSolvable by_book.now.board }
     requires crew { IsCrew means.now.workers }
@@ -121,7 +122,7 @@ fn answer<R: Threads + Sync, G: Gate>(means: &Means<R, G>, by_book: &Solved, cel
     answer_moves(means, by_book, cells)
 }
 
-// The answer where the mover has a move, over a table where there is one.
+// As `answer`, of a board whose mover has a move, over a table unless `cells` is 0 or memory is refused.
 fn answer_moves<R: Threads + Sync, G: Gate>(
     means: &Means<R, G>,
     by_book: &Solved,
@@ -143,7 +144,8 @@ fn answer_moves<R: Threads + Sync, G: Gate>(
     }
 }
 
-/// The answer of the board of which the book tells so much, where the mover has a move, by the items of the frontier.
+/// Returns the answer of `by_book`, a board with the book's bounds whose mover has a move, by the items of its
+/// frontier.
 pub(crate) fn answer_over<'t, R: Threads + Sync, G: Gate>(
     means: &Means<R, G>,
     by_book: &Solved,
@@ -161,7 +163,7 @@ pub(crate) fn answer_over<'t, R: Threads + Sync, G: Gate>(
     }
 }
 
-/// The frontier of the board, on the heap: a search is to have room on the stack. None where there is no memory.
+/// Makes the frontier of the board on the heap, which leaves the stack to the search. None where there is no memory.
 #[inline(never)]
 pub(crate) fn frontier_of(alloc: Global, board: &Board) -> Option<Box<Frontier>>
     requires { IsSolvable board.now }
@@ -169,7 +171,7 @@ pub(crate) fn frontier_of(alloc: Global, board: &Board) -> Option<Box<Frontier>>
     Box::new(alloc, Frontier::of(board, 2)).ok()
 }
 
-// The same as `answer_over` does, with the frontier on the stack.
+// As `answer_over`, with the frontier on the stack.
 #[inline(never)]
 fn answer_without_room<'t, R: Threads + Sync, G: Gate>(
     means: &Means<R, G>,
@@ -185,7 +187,8 @@ fn answer_without_room<'t, R: Threads + Sync, G: Gate>(
     answer_by_items(means, by_book, &Frontier::of(&by_book.board, 2), access)
 }
 
-// The same by the items of this frontier, and then by what they left open.
+// As `answer_over`, by the items of this frontier: several workers search them first and the caller what they left
+// open; the caller searches alone where it is the only worker, or there is no memory for a floor.
 #[inline(never)]
 fn answer_by_items<'t, R: Threads + Sync, G: Gate>(
     means: &Means<R, G>,
@@ -216,7 +219,7 @@ fn answer_by_items<'t, R: Threads + Sync, G: Gate>(
     answer_alone(means, &shared, by_book, access)
 }
 
-// The answer by the caller alone, where it is the only worker or there is no memory for a floor.
+// Returns the answer by the caller's search alone.
 fn answer_alone<'t, R: Threads + Sync, G: Gate>(
     means: &Means<R, G>,
     shared: &Search,
@@ -234,8 +237,8 @@ fn answer_alone<'t, R: Threads + Sync, G: Gate>(
     answer
 }
 
-// The answer by what workers find of the items, and by the caller's search of what they left open; none where there is
-// no memory for a floor.
+// Returns the answer by what the workers find of the items and by the caller's search of what they left open. None
+// where there is no memory for a floor.
 fn answer_together<'t, R: Threads + Sync, G: Gate>(
     means: &Means<R, G>,
     shared: &Search,
@@ -261,7 +264,7 @@ fn answer_together<'t, R: Threads + Sync, G: Gate>(
     Some(solve_moves(root, known.as_slice(), &mut cells, &mut Unobserved))
 }
 
-// A floor of the board that is as high as what the book tells of it, and its first seat; none where there is no memory.
+// Makes a floor of the board as high as the book's lower bound, and its first seat. None where there is no memory.
 fn raised_floor(alloc: Global, by_book: &Solved) -> Option<(Floor, FloorSeat)>
     ensures home { IfSome result (λ made. IsSeatOf made.0 made.1) }
     ensures root { IfSome result (λ made. made.0.root.board ≡ by_book.now.board) }
@@ -273,7 +276,7 @@ fn raised_floor(alloc: Global, by_book: &Solved) -> Option<(Floor, FloorSeat)>
     Some((floor, seat))
 }
 
-// What the workers found of the items, and the caller of those that none took, as far as there is room for it.
+// Returns what the workers found of the items, and the caller of those that none took, as far as there is room for it.
 fn replies_of<R, G: Gate, C: Cells>(
     means: &Means<R, G>,
     shared: &Search,
@@ -292,7 +295,7 @@ fn replies_of<R, G: Gate, C: Cells>(
     replies
 }
 
-// Lets the caller's worker know what the others found of the boards after the root's moves. The floor rises by each.
+// Gives the caller's worker what the others found of the root's children. The floor rises by each.
 fn take_in<C: Cells>(shared: &Search, found: &[Solved], worker: &mut Worker<C>) {
     for child in found {
         if let Some(root_move) = RootMove::to(&*shared, &child.board) {
@@ -301,7 +304,7 @@ fn take_in<C: Cells>(shared: &Search, found: &[Solved], worker: &mut Worker<C>) 
     }
 }
 
-// The same of the items below them, where what is known of a board leaves something open.
+// Backs up what was found of the items to each child that isn't settled, and gives it to the caller's worker.
 fn take_in_items<C: Cells>(shared: &Search, items: &[Solved], worker: &mut Worker<C>) {
     for square in shared.squares {
         if let Some(root_move) = RootMove::of(&*shared, *square) {

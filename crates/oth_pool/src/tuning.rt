@@ -1,12 +1,12 @@
-//! The numbers that choose how many workers and cells a search uses of those that it is given. No answer depends on
-//! one. What each was measured to bring stands in docs/TUNING.md.
+//! The numbers that choose how many of its workers and cells a search uses. What each was measured to bring stands in
+//! docs/TUNING.md.
 
 /// Empty squares of the root: from here on all workers search. Below it two do, since a thread takes longer to start
 /// than the rest of the search.
 pub(crate) const FEWEST_EMPTIES_CREWED: u8 = 12;
 
-/// So many of the cells as a search of so many empty squares can use: a large table takes longer to make than a small
-/// search gains.
+/// Returns how many of `cells` cells a search of `empties` empty squares can use: a large table takes longer to make
+/// than a small search gains.
 pub(crate) fn cells_for(cells: u32, empties: u8) -> u32 {
     match empties {
         0..=9 => cells.min(1 << 6),

@@ -1,4 +1,4 @@
-//! Boards that workers value, each by itself or all together.
+//! Values the boards of a queue: each by one worker, or each by all workers.
 ghost use Rattle.std.specs.Prelude.{◌≡◌};
 ghost use Rattle.oth_pool.specs.Solving.{IsSolvable};
 ghost use Rattle.oth_pieces.specs.Hands.{IsCrew};
@@ -22,8 +22,8 @@ struct Valuer<'t> {
     valued: ArrayVec<Solved, 64>,
 }
 
-/// The boards of the queue, with so many empty squares and less, with their values, each by one worker: it takes the
-/// next board until there is none. What they leave where they are out of memory the caller values.
+/// Values the boards of the queue, children of a root of `empties` empty squares, each by one worker: it takes the next
+/// board until there is none. The caller values what the workers leave where they are out of memory.
 pub(crate) fn valued_apart<'t, R: Threads + Sync, G: Gate>(
     means: &Means<R, G>,
     queue: &Queue,
@@ -44,7 +44,7 @@ pub(crate) fn valued_apart<'t, R: Threads + Sync, G: Gate>(
     last.valued
 }
 
-/// The same by all workers, one board after another.
+/// Values the boards of the queue one after another, each by all workers.
 pub(crate) fn valued_together<'t, R: Threads + Sync, G: Gate>(
     means: &Means<R, G>,
     queue: &Queue,
@@ -62,7 +62,7 @@ pub(crate) fn valued_together<'t, R: Threads + Sync, G: Gate>(
     valued
 }
 
-// So many workers as there are, as far as there is memory for them.
+// Makes a valuer for each worker, as far as there is memory.
 fn valuers_of<'t, R, G>(
     means: &Means<R, G>,
     empties: u8,
@@ -79,7 +79,7 @@ fn valuers_of<'t, R, G>(
     valuers
 }
 
-// What a worker searches over that values boards after a root with so many empty squares.
+// Returns what a worker searches over that values children of a root of `empties` empty squares.
 fn cells_of<'t, R, G>(
     means: &Means<R, G>,
     empties: u8,
@@ -116,7 +116,8 @@ fn valued_by<'t>(valuers: &[Valuer<'t>]) -> ArrayVec<Solved, 64> {
     all
 }
 
-// The board of which the book tells so much, with its value, by one worker.
+// Values `by_book`, a board with the book's bounds, by one worker. `sibling` is the board that this worker valued
+// before, if there is one.
 fn value_alone<R, G: Gate, C: Cells>(
     means: &Means<R, G>,
     by_book: &Solved,
@@ -134,7 +135,7 @@ fn value_alone<R, G: Gate, C: Cells>(
     }
 }
 
-// The same, with the frontier on the stack.
+// As `value_alone`, with the frontier on the stack.
 #[inline(never)]
 fn value_without_room<R, G: Gate, C: Cells>(
     means: &Means<R, G>,
@@ -148,7 +149,7 @@ fn value_without_room<R, G: Gate, C: Cells>(
     value_by_items(means, by_book, sibling, &frontier, cells)
 }
 
-// The same, where the gate hears of the items of this frontier.
+// As `value_alone`, with this frontier: the gate hears of its items.
 #[inline(never)]
 fn value_by_items<R, G: Gate, C: Cells>(
     means: &Means<R, G>,
@@ -172,7 +173,7 @@ fn value_by_items<R, G: Gate, C: Cells>(
     valued
 }
 
-// The board of which the book tells so much, with its value, by all workers.
+// Values `by_book`, a board with the book's bounds, by all workers.
 fn value_together<'t, R: Threads + Sync, G: Gate>(
     means: &Means<R, G>,
     by_book: &Solved,

@@ -58,7 +58,7 @@ fn search_all<G: Gate, C: Cells>(
     settle_all(shared, gate, worker);
 }
 
-// Draws a number and searches its item. False where there is none.
+// Draws a number and searches its item. False where no number or no room for a reply is left.
 fn search_next<G: Gate, C: Cells>(
     shared: &Search,
     tasks: &Tasks,

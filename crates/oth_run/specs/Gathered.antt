@@ -13,7 +13,7 @@ abbrev pub Gathers : Option (List ℕ) → Option (List ℕ) → List ℕ → Li
 Gathers sink sink' waiting waiting' text = (before : Option (List ℕ)) (done : List ℕ)
     → IsGathered before sink waiting done → IsGathered before sink' waiting' (done ++ text)
 
--- the same without a text
+-- as `Gathers`, of a call that adds no text
 abbrev pub KeepsGathered : Option (List ℕ) → Option (List ℕ) → List ℕ → List ℕ → Type 0
 KeepsGathered sink sink' waiting waiting' = (before : Option (List ℕ)) (done : List ℕ)
     → IsGathered before sink waiting done → IsGathered before sink' waiting' done

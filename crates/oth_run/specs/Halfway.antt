@@ -1,7 +1,7 @@
 -- A run halfway. A sink held the bytes `before` when the run began and holds `sink`, or `sink'` after a call.
 --     IsUpTo, IsAt      the reports of the lines that ended are gathered, and the engine holds the line that has begun
 --     Takes, StopsWithin      what a call makes of further bytes of the input, and what is left where the sink fails
---     Answers, Ends, StopsInside      the same of the line that has begun, of which `told line` is written
+--     Answers, Ends, StopsInside      what a call makes of the line that has begun, of which `told line` is written, and what is left
 --     WritesEnded      a run over the lines that a byte 10 ends, by how it ended
 use Rattle.std.specs.Prelude.{ℕ, List, [], ◌++◌, Option, Result, Ok, Err}
 use Rattle.std.specs.Io.KnownBytes.{Appends}

@@ -2,7 +2,7 @@
 --     cut input      the lines that a byte 10 ends, without it, and the rest after the last byte 10
 --     lines_of input      these lines, and the rest unless it is empty
 --     ended_report reply input      what is written for the lines that a byte 10 ends: for each its reply, and byte 10
---     report reply input      the same for all lines, where a rest that is not empty counts as a line
+--     report reply input      what is written for all lines, where a rest that is not empty counts as a line
 use Rattle.std.specs.Prelude.{ℕ, ◌==◌, if◌then◌else◌, List, [], ◌∷◌, ◌++◌}
 use Rattle.std.specs.List.{flat_map}
 

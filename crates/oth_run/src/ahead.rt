@@ -19,12 +19,12 @@ use std::thread::Threads;
 #[derive(Drop)]
 pub struct Ahead {
     answers: Vec<Answer>,
-    /// So many of the next lines were looked at.
+    /// The number of next lines whose boards were gathered.
     lines: usize,
 }
 
 impl Ahead {
-    /// No line was looked at.
+    /// No line was gathered.
     pub fn nothing(alloc: Global) -> Self {
         Ahead {
             answers: Vec::new(alloc),
@@ -54,8 +54,9 @@ impl Ahead {
         }
     }
 
-    /// Passes the first of the lines in these bytes, which may be the rest of one. Where it wasn't looked at, the
-    /// boards of as many of the lines as make a batch are solved side by side.
+    /// Advances past the first line in `bytes`, which may be the rest of a line. If the last batch is used up, first
+    /// solves the boards of the next lines side by side, as a new batch. Does nothing unless the command is `Solve` and
+    /// there are two workers or more.
     pub fn pass<T: Threads + Sync, G: Gate>(
         &mut self,
         solver: &Solver<'_, T, G>,
@@ -72,7 +73,7 @@ impl Ahead {
         self.lines = self.lines.saturating_sub(1);
     }
 
-    // Solves the boards of as many of the lines in these bytes as make a batch, if there is memory for them.
+    // Solves the boards of the first lines in `bytes`, as many as make a batch, if there is memory for them.
     fn look<T: Threads + Sync, G: Gate>(
         &mut self,
         solver: &Solver<'_, T, G>,
@@ -96,8 +97,8 @@ pub(crate) fn asked_by(command: Command) -> Option<Asked> {
     }
 }
 
-/// The boards of the whole lines in these bytes as jobs of a batch; none where one worker is asked for or enough, or
-/// there is no memory.
+/// Makes jobs of the boards of the whole lines in `bytes`, up to a batch. There are none where the command asks for no
+/// search, one worker is asked for or enough, or there is no memory.
 pub(crate) fn jobs_of<'b, T: Threads + Sync, G: Gate>(
     batch: &'b Batch<'b, T, G>,
     command: Command,

@@ -5,7 +5,7 @@ ghost use Rattle.std.specs.Prelude.{◌<◌, length};
 use crate::tuning::LONG;
 use std::alloc::Global;
 
-/// Room on the heap, so that it takes none of the stack below a search. There is none where memory is refused.
+/// Makes room of `LONG` bytes on the heap, which leaves the stack to the search; empty where memory is refused.
 pub fn long_buffer(alloc: Global) -> Vec<u8> {
     match vec![in alloc; 0; LONG] {
         Ok(buffer) => buffer,
@@ -13,7 +13,7 @@ pub fn long_buffer(alloc: Global) -> Vec<u8> {
     }
 }
 
-/// The long buffer, or the short one where there is none.
+/// The long buffer, or the short one where the long one is empty.
 pub fn longer<'b>(long: &'b mut [u8], short: &'b mut [u8]) -> &'b mut [u8]
     requires { 0 < length short.old }
     ensures { 0 < length result.now }

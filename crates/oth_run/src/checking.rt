@@ -29,7 +29,7 @@ impl Model for Lawful {
 }
 
 impl Lawful {
-    /// These settings, or the fault with which `run` refuses them.
+    /// Tests the settings, and returns them as lawful ones, or the fault with which `run` refuses them.
     pub fn of(settings: &Settings) -> Result<Lawful, RunFault>
         ensures same { IfOk result (λ tested. tested ≡ settings.now) }
         ensures lawful { IsOk result ↔ AreLawful settings.now }
@@ -44,7 +44,7 @@ impl Lawful {
         Ok(Lawful { asked: *settings })
     }
 
-    /// What they are.
+    /// The settings.
     pub fn get(&self) -> Settings
         ensures same { result ≡ self.now }
         ensures lawful { AreLawful result }
@@ -52,7 +52,7 @@ impl Lawful {
         self.asked
     }
 
-    /// The same numbers, to solve lines under this scoring.
+    /// Settings with these numbers of workers and cells, to solve lines under `scoring`.
     pub fn to_solve_by(&self, scoring: Scoring) -> Lawful
         ensures command { result.command ≡ Solve }
         ensures workers { result.workers ≡ self.now.workers }
@@ -69,7 +69,8 @@ impl Lawful {
     }
 }
 
-/// Whether the numbers of workers and of cells are lawful: else the fault with which `run` refuses them.
+/// Tests whether the numbers of workers and of cells are lawful, and returns the fault with which `run` refuses them
+/// where they aren't.
 pub fn check_settings(settings: &Settings) -> Result<(), RunFault>
     ensures lawful { IsOk result ↔ AreLawful settings.now }
     ensures refused { RefusesBy settings.now.workers settings.now.cells result }

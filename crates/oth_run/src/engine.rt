@@ -67,7 +67,8 @@ impl Engine {
         Ok(())
     }
 
-    // Takes the last part of a line and answers the line. What a search found is written at once, since it took time.
+    // Takes the last part of a line and answers the line. The answer of a command that searches is written at once,
+    // since it may have taken time.
     fn take_line<T: Wait + Threads + Sync, W: Sink, G: Gate>(
         &mut self,
         solver: &Solver<'_, T, G>,
@@ -116,7 +117,7 @@ impl Engine {
         Ok(())
     }
 
-    // The same, while other workers do the jobs, until a write fails.
+    // As `take_bytes`, while other workers do the jobs, until a write fails.
     fn take_beside<T: Wait + Threads + Sync, W: Sink, G: Gate>(
         &mut self,
         solver: &Solver<'_, T, G>,
@@ -149,8 +150,8 @@ impl Engine {
         jobs.beside(&mut work)
     }
 
-    // The same, while other workers solve boards of these lines too, where that pays. A report is written as soon as it
-    // and those before it are known.
+    // As `take_bytes`, while other workers solve boards of these lines too, where that pays. A report is written as
+    // soon as it and those before it are known.
     fn take_side_by_side<T: Wait + Threads + Sync, W: Sink, G: Gate>(
         &mut self,
         solver: &Solver<'_, T, G>,

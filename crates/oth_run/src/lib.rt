@@ -1,4 +1,5 @@
-//! The engine over bytes: it reads lines, and writes a report of each.
+//! The engine over bytes: it reads lines, and writes a report of each. Workers, tables, a book and the sizes of
+//! `tuning` affect speed only: the report depends on the command, the scoring and the input alone.
 #![tactic(auto)]
 
 mod ahead;

@@ -25,11 +25,10 @@ use std::thread::Threads;
 /// byte 10 had ended; the writer's fault, in a write or the flush at the end, leaves a beginning of the report. After a
 /// fault no device is called again. The run returns only if the input ends or a device fails.
 ///
-/// A board is solved by so many workers over a table of so many cells, and a book that is given is asked first. Boards
-/// of lines that wait together may be solved side by side, each by one worker over a table of at most so many cells;
-/// the answer of a line is written as soon as it and those before it are known.
-/// None of this changes the report, nor does the gate, nor refused memory or threads. A line takes no memory, however
-/// long it is.
+/// A board is solved by `settings.workers` workers over a table of at most `settings.cells` cells, and a book that is
+/// given is asked first. Boards of lines that wait together may be solved side by side, each by one worker over such a
+/// table. The reply to a line is written as soon as it and those before it are known. None of this changes the report,
+/// nor does the gate, nor refused memory or threads. A line takes no memory, however long it is.
 pub fn run<T: Wait + Threads + Sync, R: Source, W: Sink, G: Gate>(
     rt: &T,
     alloc: Global,

@@ -17,7 +17,7 @@ use std::alloc::Global;
 use std::sync::Wait;
 use std::thread::Threads;
 
-/// What boards are solved with. No answer depends on any of it.
+/// What boards are solved with.
 #[derive(Drop)]
 pub struct Solver<'s, T, G> {
     /// Where the workers' threads come from.
@@ -100,7 +100,8 @@ impl<'s, T: Threads + Sync, G: Gate> Solver<'s, T, G> {
 }
 
 impl<'s, T: Wait + Threads + Sync, G: Gate> Solver<'s, T, G> {
-    /// The value and all best moves of a board: of one of the jobs as soon as whoever solves it has found them.
+    /// Returns the board's answer. If the board is a job, waits for the worker that has it, or takes the job; else
+    /// solves the board here.
     pub fn awaited_answer_of(
         &self,
         jobs: &Jobs<'_, T, G>,
@@ -123,7 +124,8 @@ impl<'s, T: Wait + Threads + Sync, G: Gate> Solver<'s, T, G> {
         }
     }
 
-    /// The scores line of a board: of one of the jobs as soon as whoever scores its moves has found them.
+    /// Returns the board's scores line. If the board is a job, waits for the worker that has it, or takes the job; else
+    /// scores its moves here.
     pub fn awaited_scores_line(
         &self,
         jobs: &Jobs<'_, T, G>,
@@ -146,7 +148,7 @@ impl<'s, T: Wait + Threads + Sync, G: Gate> Solver<'s, T, G> {
     }
 }
 
-// The scores under this scoring of a board that is one of the jobs.
+// Returns the scores of a board that is one of the jobs, awaited, if they are under the scoring.
 fn scores_by_jobs<'j, T: Wait + Threads + Sync, G: Gate>(
     rt: &T,
     jobs: &'j Jobs<'_, T, G>,
@@ -164,7 +166,7 @@ fn scores_by_jobs<'j, T: Wait + Threads + Sync, G: Gate>(
     }
 }
 
-// The answer under this scoring of a board that is one of the jobs.
+// Returns the answer of a board that is one of the jobs, awaited, if it is under the scoring.
 fn answer_by_jobs<T: Wait + Threads + Sync, G: Gate>(
     rt: &T,
     jobs: &Jobs<'_, T, G>,

@@ -1,5 +1,4 @@
-//! The sizes that choose how often the engine reads and writes. No answer depends on one. What each trades stands in
-//! docs/TUNING.md.
+//! The sizes that choose how often the engine reads and writes. What each trades stands in docs/TUNING.md.
 
 /// Bytes that are read at once, on the heap.
 pub(crate) const LONG: usize = 65_536;

@@ -54,7 +54,7 @@ impl Waiting {
         Ok(())
     }
 
-    /// The same, where it is asked for.
+    /// As `write_to` where `is_asked`; else does nothing.
     pub fn write_if<W: Sink>(&mut self, is_asked: bool, writer: &mut W) -> Result<(), Failed>
         ensures ok { OnOk result (KeepsGathered (W.contents writer.old) (W.contents writer.new)
             self.old.bytes.items self.new.bytes.items) }
