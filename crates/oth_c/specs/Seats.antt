@@ -1,6 +1,6 @@
 -- What the calls of seats promise. A seat is the use of a table, or None.
 --     is_held x                  there is a seat
---     IsOpened cells g u         u is the first use of a table of so many cells under this scoring, and has seen nothing
+--     IsOpened cells g u         u is the first use of a table of `cells` cells under this scoring, and has seen nothing
 --     Opens g cells x y          where there was no seat there is the first one of a new table
 --     Joins x y more more'       where there was no seat there is a further one of the same table
 --     Solves, SolvesFully x b a      a is the answer of the board under the table's scoring, as C has it and as the search

@@ -74,8 +74,8 @@ fn score_at(moves: &[ScoredMove], number: usize) -> i8
 
 /// Writes the answer of a board of at most 30 empty squares, its legal squares, and the score of each move by full
 /// minimax, by the caller's thread alone. `scoring` is 0 (the empty squares go to the winner) or 1 (discs alone).
-/// `cells` is 0, or 1, 2, 4 .. 262,144: so many cells has the table that the call makes and frees. Where there is no
-/// memory it searches without a table, and answers the same. Refusals 1, 4, 5 and 6, tested in this order.
+/// `cells`, 0 or 1, 2, 4 .. 262,144, is the size of the table that the call makes and frees. Where there is no memory
+/// it searches without a table, and answers the same. Refusals 1, 4, 5 and 6, tested in this order.
 #[unsafe(no_mangle)]
 pub extern "C" fn oth_scores(
     alloc: Global,
@@ -112,8 +112,8 @@ fn scored(alloc: Global, board: OthBoard, scoring: u8, cells: u32) -> Result<Oth
     Ok(OthScores::of(&scores))
 }
 
-/// Writes the same under the table's scoring: exact, whatever other threads do over the table meanwhile. Refusals 1, 5
-/// and 31, tested in this order; they leave the seat as it was.
+/// As `oth_scores`, over the seat's table and under its scoring: exact, whatever other threads do over the table
+/// meanwhile. Refusals 1, 5 and 31, tested in this order; they leave the seat as it was.
 #[unsafe(no_mangle)]
 pub extern "C" fn oth_scores_over(
     alloc: Global,

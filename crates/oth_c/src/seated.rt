@@ -35,7 +35,7 @@ impl Model for Seated {
     ghost invariant = { λ s. IsSeatOf s.table.value s.seat };
 }
 
-/// The place of one that may be away for the time of a call.
+/// The place of a `Seated`, empty while a call has it.
 #[derive(Drop)]
 pub struct Place {
     pub seated: Option<Seated>,
@@ -101,8 +101,8 @@ impl Seated {
         (Seated { table, seat }, scores)
     }
 
-    /// The answer of a board under the table's scoring, or what is known of it when so many boards were looked up; and
-    /// the seat, as it then is.
+    /// Returns the answer of a board under the table's scoring, or the bounds that are known when about `most` boards
+    /// were looked up; and the seat, as it then is.
     pub fn solve_within(
         self,
         alloc: Global,

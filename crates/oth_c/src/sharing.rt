@@ -104,7 +104,7 @@ fn joined(alloc: Global, seat: &mut OthSeat, more: &mut OthSeat) -> Result<(), R
     result
 }
 
-// The same, of what is at the seat's place.
+// As `joined`, of what is at the place of the first seat.
 fn joined_at(alloc: Global, seated: &mut Option<Seated>, more: &mut OthSeat) -> Result<(), Refusal>
     ensures ok { IfOk result (λ u. Joins seated.old seated.new more.old.held more.new.held) }
     ensures err { IfErr result (λ r. RefusesSeat seated.old more.old.held r
@@ -125,8 +125,8 @@ fn joined_at(alloc: Global, seated: &mut Option<Seated>, more: &mut OthSeat) -> 
     Ok(())
 }
 
-/// The board, what is at the seat, and its place, into which that is put again after the search of the board; or the
-/// first refusal.
+/// Takes what is at the seat out of its place. Returns the board, the seat with its table, and the place, into which
+/// they are put again after the search of the board; or the first refusal.
 pub fn lifted(
     alloc: Global,
     seat: &mut OthSeat,

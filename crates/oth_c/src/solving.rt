@@ -20,8 +20,8 @@ use oth_table::{SharedTable, TableCells, TableSeat, is_size};
 use std::alloc::Global;
 
 /// Writes the score and all best moves of a board of at most 30 empty squares by full minimax, and what its mover does.
-/// `scoring` is 0 (the empty squares go to the winner) or 1 (discs alone). `cells` is 0, or 1, 2, 4 .. 262,144: so many
-/// cells has the table that the call makes and frees. Where there is no memory it searches without a table, and answers
+/// `scoring` is 0 (the empty squares go to the winner) or 1 (discs alone). `cells`, 0 or 1, 2, 4 .. 262,144, is the
+/// size of the table that the call makes and frees. Where there is no memory it searches without a table, and answers
 /// the same. Refusals 1, 4, 5 and 6, tested in this order.
 #[unsafe(no_mangle)]
 pub extern "C" fn oth_solve_alone(
@@ -56,8 +56,8 @@ fn solved(alloc: Global, board: OthBoard, scoring: u8, cells: u32) -> Result<Oth
     Ok(OthAnswer::of(&answer))
 }
 
-/// The board of these words and the scoring of this number, where they are searched with so many cells; else the first
-/// refusal.
+/// Returns the board of these words and the scoring of this number, where they can be searched with `cells` cells; else
+/// the first refusal.
 pub fn accepted(board: OthBoard, scoring: u8, cells: u32) -> Result<(Board, Scoring), Refusal>
     ensures accepted { IfOk result (λ x. Accepts board scoring cells) }
     ensures given { IfOk result (λ x. (x.0 ≡ position board) × (x.1 ≡ scoring_of scoring)) }
@@ -86,14 +86,14 @@ pub fn scoring_of(number: u8) -> Result<Scoring, Refusal>
     }
 }
 
-/// A table of so many cells, and its first seat. There is none of 0 cells, or where there is no memory.
+/// Makes a table of `cells` cells, and its first seat. There is none of 0 cells, or where there is no memory.
 pub fn own_table(alloc: Global, cells: u32, scoring: Scoring) -> Option<(SharedTable, TableSeat)>
     ensures { IfSome result (λ x. IsSeatOf x.0 x.1) }
 {
     SharedTable::new(alloc, cells, scoring).ok()
 }
 
-/// The cells of the table, used from this seat of it, and memories for a search of the board. It is alone where no
+/// Returns the cells of the table, used from this seat of it, and memories for a search of the board. `is_alone`: no
 /// other thread searches over the table.
 pub fn cells_over<'t>(
     alloc: Global,

@@ -56,13 +56,13 @@ pub record FindsNoRoom (before : Contents) (lines : List (List ℕ)) : Type 0 wh
   pub among : Contains lines line
   pub no_place : HasNoPlace after line
 
--- the same of what was read
+-- the answer of one of the lines that were read has no room in the book, or no memory
 pub record StopsFull (before : Contents) (reader reader' : Option (List ℕ)) : Type 0 where
   pub input : List ℕ
   pub read : Consumes reader reader' input
   pub full : FindsNoRoom before (lines_of input)
 
--- the same of the book of a file
+-- the bytes are the text of a true book, to which the answers of the lines were added
 abbrev pub AddsTo : List ℕ → Option (List ℕ) → Option (List ℕ) → Option (List ℕ) → Option (List ℕ) → Type 0
 AddsTo file reader reader' writer writer' = (before : Contents) × IsBookOf file before × AddsLines before reader reader' writer writer'
 

@@ -1,7 +1,7 @@
 -- The lines that the commands of the book print, without their byte 10.
 --     run_error fault      of the fault of a run
 --     book_refusal why      why a file is no book, with the line or the entry that is to blame
---     book_ok count      of a true book of so many entries
+--     book_ok count      of a true book of `count` entries
 use Rattle.std.specs.Prelude.{ℕ, List, ◌++◌, Option, Some, None, codes, decimal}
 use Rattle.oth_book.specs.Numbers.{fault_line, fault_number, wrong_entry, wrong_number}
 use Rattle.oth_main.specs.declared.book_file.BookRefusal.{BookRefusal}

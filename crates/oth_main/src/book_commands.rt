@@ -34,13 +34,13 @@ use std::alloc::Global;
 use std::sync::Wait;
 use std::thread::{Threads, available_parallelism};
 
-// So many bytes are read at once.
+// Bytes that are read at once.
 const BUFFER_LEN: usize = 16_384;
 
 /// Status 0: all was done.
 pub const STATUS_DONE: u8 = 0;
 
-// The workers where nobody asks for a number and nobody knows how many processors there are.
+// The workers where nobody asks for a number and the number of processors isn't known.
 const WORKERS: u8 = 4;
 
 // Why an addition ends without a book.
@@ -52,8 +52,9 @@ enum Stop {
     Refused(u64, AddError),
 }
 
-/// Prints `book ok n` of a book of n entries, each solved anew by as many workers as there are processors, or why the
-/// file is no book. The status of the program: 0, or 1 where the writer fails, or 3 where the file is refused.
+/// Prints `book ok n` for a book of n entries, each solved anew by as many workers as there are processors, at most 16;
+/// or why the file is no book. Returns the status of the program: 0, or 1 where the writer fails, or 3 where the file
+/// is refused.
 pub fn book_verify<T: Threads + Sync, W: Sink, E: Sink>(
     rt: &T,
     alloc: Global,
@@ -82,7 +83,7 @@ pub fn book_verify<T: Threads + Sync, W: Sink, E: Sink>(
     }
 }
 
-// Writes the number of the book's entries. Whether that was done.
+// Writes the number of the book's entries, and returns whether that was done.
 fn tell_book<W: Sink>(book: &Book, writer: &mut W) -> bool
     ensures told { IsTrue result
         → Appends (W.contents writer.old) (W.contents writer.new) (book_ok (length book.now.entries) ++ 10 ∷ []) }
@@ -94,9 +95,9 @@ fn tell_book<W: Sink>(book: &Book, writer: &mut W) -> bool
 }
 
 /// Solves each board line under the book's scoring, adds the answers to the book of the file, and writes the new book
-/// at the end of input. Where a line can't be read, its number and its fault are printed, and it is left out. The
-/// status of the program: 0, or 1 where a device fails, or 2 where the settings aren't lawful, or 3 where the file or
-/// an answer is refused; then no book is written, save for what a writer took before it failed.
+/// at the end of input. Where a line can't be read, its number and its fault are printed, and it is left out. Returns
+/// the status of the program: 0, or 1 where a device fails, or 2 where the settings aren't lawful, or 3 where the file
+/// or an answer is refused. Unless it is 0 no book is written, save for what a writer took before it failed.
 #[inline(never)]
 pub fn book_add<T: Wait + Threads + Sync, R: Source, W: Sink, E: Sink>(
     rt: &T,
@@ -137,7 +138,7 @@ pub fn book_add<T: Wait + Threads + Sync, R: Source, W: Sink, E: Sink>(
     }
 }
 
-/// Prints the number of the fault, and gives the status of the program. The reason is kept, for words.
+/// Prints the number of the fault, and returns the status of the program. The reason is kept, for words.
 pub fn print_run_fault<E: Sink>(fault: RunFault, errors: &mut Errors<E>) -> u8
     ensures status { result ≡ status_of fault }
     ensures printed { E.failed errors.new.sink ≡ false
@@ -163,7 +164,7 @@ fn processors<T: Threads>(rt: &T) -> u8 {
     }
 }
 
-// Passes the first of the lines in these bytes, after boards of them were solved side by side for the book.
+// Advances `ahead` past the first line in `bytes`. The solver that it may call asks the book of each board first.
 fn pass_line<T: Threads + Sync>(
     ahead: &mut Ahead,
     rt: &T,

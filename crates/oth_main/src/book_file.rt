@@ -31,8 +31,8 @@ pub enum BookRefusal {
     Claim(Wrong),
 }
 
-/// The book of a file's bytes, each entry solved anew by so many workers over tables of at most so many cells. The text
-/// of a true book is refused when out of memory alone.
+/// Returns the book of a file's bytes, each entry solved anew by `workers` workers over tables of at most `cells`
+/// cells. The text of a true book is refused when out of memory alone.
 pub fn open_book<T: Threads + Sync>(
     rt: &T,
     alloc: Global,

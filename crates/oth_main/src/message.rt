@@ -38,7 +38,7 @@ impl Message {
         message
     }
 
-    /// The same line with this text behind it.
+    /// Appends the text to the line, if there is room for it.
     pub fn text(mut self, text: &[u8]) -> Self
         ensures text { length self + length text.now ≤ 80 → result ≡ self ++ text.now }
         ensures short { length result ≤ length self + length text.now }
@@ -47,7 +47,7 @@ impl Message {
         self
     }
 
-    /// The same line with this number behind it.
+    /// Appends the number in decimal digits to the line, if there is room for them.
     pub fn number(mut self, number: u64) -> Self
         ensures text { length self ≤ 60 → result ≡ self ++ decimal number }
         ensures short { length result ≤ length self + 20 }
@@ -64,7 +64,7 @@ impl Message {
         let _ = self.write_to(errors);
     }
 
-    /// Writes the line with byte 10. Whether that was done.
+    /// Writes the line with byte 10, and returns whether that was done.
     pub fn write_to<W: Sink>(mut self, writer: &mut W) -> bool
         ensures written { IsTrue result → length self < 80
             → Appends (W.contents writer.old) (W.contents writer.new) (self ++ 10 ∷ []) }

@@ -8,25 +8,25 @@ use std::fmt;
 use std::sync::{Condvar, Mutex, MutexGuard, Wait};
 use std::time::{Clock, Duration, Instant};
 
-// So many milliseconds lie between two looks at how far the search is.
+// Milliseconds between two looks at how far the search is.
 const TICK: u64 = 250;
 
-// So many seconds a board has to take before the line comes.
+// Seconds that a board has to take before the line comes.
 const PATIENCE: u64 = 1;
 
-// How often a gate's call tries to write down what it hears before it lets it go.
+// Tries of a gate's call to lock the state. After them what it hears is dropped.
 const LOCK_TRIES: u32 = 1_000;
 
-// Of so many boards under search is remembered how far they are: more than are ever searched at once.
+// The most boards under search whose progress is kept: more than are ever searched at once.
 const MOST_SEARCHES: usize = 32;
 
 // What a run is at.
 #[derive(Drop)]
 struct State {
     is_over: bool,
-    // So many lines of the report were written.
+    // The lines of the report that were written.
     lines: u64,
-    // Whether a board is awaited, which one was last, and how many were so far.
+    // Whether a board is awaited; the last one that was; and how many were so far.
     is_awaited: bool,
     board: Board,
     count: u64,
@@ -36,7 +36,7 @@ struct State {
 }
 
 impl State {
-    // Nothing was heard but this of each search.
+    // Nothing was heard yet; `nothing` stands at the place of each search.
     fn of(nothing: UnderSearch) -> State {
         State {
             is_over: false,
@@ -49,7 +49,7 @@ impl State {
         }
     }
 
-    // Writes down how far a search is.
+    // Keeps how far a search is.
     fn keep(&mut self, search: UnderSearch) {
         for place in 0..MOST_SEARCHES {
             if self.searches[place].root.board == search.root.board {
@@ -72,7 +72,7 @@ impl State {
         None
     }
 
-    // How far the search of a board after one of this board's moves is, of that which began last, and the move.
+    // Of the searches of this board's children the one that began last: the move, and how far the search is.
     fn search_after_move(&self, board: &Board) -> Option<(Square, UnderSearch)> {
         let next = self.place % MOST_SEARCHES;
         for passed in 0..MOST_SEARCHES {
@@ -85,7 +85,7 @@ impl State {
     }
 }
 
-/// Hears what a run is at: a gate of it, for the line that shows it. Its calls never wait.
+/// The gate of a run whose progress is shown: it keeps what it hears. Its calls never wait.
 #[derive(Drop)]
 pub struct Progress {
     state: Mutex<State>,
@@ -101,7 +101,7 @@ impl Progress {
         })
     }
 
-    // Nothing was heard but this of each search.
+    // Nothing was heard yet; `nothing` stands at the place of each search.
     fn of(nothing: UnderSearch) -> Progress {
         Progress {
             state: Mutex::new(State::of(nothing)),
@@ -109,7 +109,7 @@ impl Progress {
         }
     }
 
-    // What was heard, where nobody else keeps it for long.
+    // Locks the state. None where another thread keeps it through `LOCK_TRIES` tries.
     fn heard(&self) -> Option<MutexGuard<'_, State>> {
         for _ in 0..LOCK_TRIES {
             let state = self.state.try_lock();
@@ -160,14 +160,14 @@ pub(crate) struct Look {
 }
 
 impl Progress {
-    /// So many bytes of the report were written, of which so many end a line.
+    /// Counts `lines` further lines of the report as written. No board is awaited any more.
     pub(crate) fn pass_lines<R: Wait>(&self, rt: &R, lines: u64) {
         let mut state = self.state.lock(rt);
         state.lines = state.lines.saturating_add(lines);
         state.is_awaited = false;
     }
 
-    /// The run is over.
+    /// Ends the run, and wakes the thread that waits for a tick.
     pub(crate) fn end<R: Wait>(&self, rt: &R) {
         let mut state = self.state.lock(rt);
         state.is_over = true;
@@ -175,7 +175,7 @@ impl Progress {
         self.bell.notify_all();
     }
 
-    /// Waits for a fraction of a second, or until the run is over. Whether it goes on.
+    /// Waits for a tick, or until the run is over. Returns whether it goes on.
     pub(crate) fn goes_on_after_a_tick<R: Wait + Clock>(&self, rt: &R) -> bool {
         let state = self.state.lock(rt);
         if state.is_over {
@@ -204,7 +204,7 @@ impl Progress {
     }
 }
 
-/// Since when which board is awaited, as far as was seen.
+/// Which board is awaited, by its number, and since when that was seen.
 #[derive(Clone, Copy, Drop)]
 pub(crate) struct Since {
     count: u64,
@@ -220,7 +220,7 @@ impl Since {
         }
     }
 
-    /// For how many whole seconds the board has been awaited, if that is long enough for the line.
+    /// Returns for how many whole seconds the board has been awaited, if for `PATIENCE` or more.
     pub fn seconds<C: Clock>(&mut self, clock: &C, look: &Look) -> Option<u64> {
         if self.start.is_none() || self.count != look.count {
             self.count = look.count;

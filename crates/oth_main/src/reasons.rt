@@ -104,8 +104,8 @@ pub fn tell_scoring<E: Sink>(
     }
 }
 
-// The line of a book's file as an editor counts it, from 1, where the header is the first: of a line or an entry that
-// is counted from 1 behind the header.
+// The number of a line in a book's file as an editor counts it, from 1 with the header. `behind_header` is the number
+// of the line or the entry behind the header, from 1.
 fn line_of_file(behind_header: u32) -> u64
     ensures { result ≡ behind_header + 1 }
 {

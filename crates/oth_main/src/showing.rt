@@ -10,7 +10,7 @@ use std::sync::{Mutex, Wait};
 use std::thread::{Threads, join_mut};
 use std::time::Clock;
 
-// No line is longer.
+// The most columns of the line.
 const MOST_COLUMNS: usize = 120;
 
 // A terminal, and how many bytes of its last line are taken.
@@ -43,7 +43,7 @@ impl<E: Sink> Screen<E> {
         }
     }
 
-    // So many blanks.
+    // Writes `count` blanks, at most `MOST_COLUMNS`.
     fn blank(&mut self, count: usize) {
         let blanks = [b' '; MOST_COLUMNS];
         self.write(&blanks[..count.min(MOST_COLUMNS)]);
@@ -198,7 +198,7 @@ impl<'w, R: Wait, W: Sink, E: Sink> Sink for Report<'w, R, W, E> {
     }
 }
 
-// How many of so many first bytes end a line.
+// The number of lines that end within the first `count` bytes of `buffer`.
 fn lines_in(buffer: &[u8], count: usize) -> u64 {
     let mut lines = 0u64;
     for place in 0..count.min(buffer.len()) {

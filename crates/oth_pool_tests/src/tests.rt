@@ -47,7 +47,7 @@ fn answered<R: Threads + Sync>(
     solve(rt, alloc, board, workers, cells, &Open, None, scoring)
 }
 
-// The same: the score, the best moves and the kind; None where it refuses.
+// The score, the best moves and the kind that `solve` answers, as by `answered`; None where it refuses.
 fn solved<R: Threads + Sync>(
     rt: &R,
     alloc: Global,

@@ -1,4 +1,4 @@
-//! What is told of a board by all boards so many plies below it, where a side passes on the way.
+//! What the values of all boards some plies below a board tell of it, where a side passes on the way.
 
 use oth_rules::{Board, Scoring, Square};
 use oth_search::{NoCells, Solved, known_below};
@@ -36,7 +36,7 @@ fn a_ply_below(alloc: Global, boards: &[Board]) -> Option<Vec<Board>> {
     Some(below)
 }
 
-/// What the values of these boards, so many plies below the root, tell of the root.
+/// The bounds that the values of these boards, `plies` plies below the root, tell of the root.
 fn told_by(alloc: Global, root: Board, plies: u8, boards: &[Board]) -> Option<[i8; 2]> {
     let mut known = Vec::new(alloc);
     for board in boards {

@@ -1,4 +1,4 @@
-//! What no clause says of looking up and putting, and how many boards a search comes to.
+//! What no clause says of look-ups and stores, and how many boards a search visits.
 ghost use Rattle.std.specs.Prelude.{◌≡◌, IfSome};
 
 use crate::tests::{board_of, check_bounds};
@@ -35,7 +35,7 @@ impl Kept {
         }
     }
 
-    /// Whether it keeps the entry of these words, was looked at so often and put so often.
+    /// Whether it keeps the entry of these words, and was looked at `looks` times and put `puts` times.
     fn has(&self, words: [u64; 3], looks: u32, puts: u32) -> bool {
         match &self.entry {
             Some(entry) => entry.words() == words && self.looks == looks && self.puts == puts,
@@ -44,7 +44,7 @@ impl Kept {
     }
 }
 
-/// The cells keep the entry of these words, were looked at so often and put so often.
+/// The cells keep the entry of these words, and were looked at `looks` times and put `puts` times.
 fn check_kept(rt: &impl Abort, cells: &Kept, words: [u64; 3], looks: u32, puts: u32) {
     assert!(rt; cells.has(words, looks, puts));
 }
@@ -187,8 +187,8 @@ fn keeps_what_a_null_window_tells(rt: HostRuntime) -> Result<(), Fail> {
     Ok(())
 }
 
-/// Keeps no entry and remembers, and counts the boards that a search comes to: those that are looked up, of at least
-/// nine empty squares, and those that are recalled, of five to eight.
+/// Keeps no entry and remembers, and counts the boards that a search visits: those that are looked up, of at least nine
+/// empty squares, and those that are recalled, of five to eight.
 #[derive(Drop)]
 pub(crate) struct Counted {
     memo: Memo,
@@ -229,7 +229,7 @@ impl Cells for Counted {
     }
 }
 
-/// A search that comes to many more boards than this one does has lost something: its order, its windows or its memory.
+/// A search that visits many more boards than this one does has lost something: its order, its windows or its memory.
 #[test]
 fn comes_to_few_boards(rt: HostRuntime) -> Result<(), Fail> {
     let Some(board) = after_least_moves(14) else {
@@ -245,13 +245,13 @@ fn comes_to_few_boards(rt: HostRuntime) -> Result<(), Fail> {
     Ok(())
 }
 
-/// By half more than were counted on the day when this was written.
+/// 1.5 times the number that was counted when the bound was set.
 const MOST_LOOKED: u32 = 1_700;
 
 const MOST_RECALLED: u32 = 19_000;
 
 /// A board of 14 empty squares that one side wins by much (another solver gives it +42): without the bound by stable
-/// discs the search comes to three times as many boards.
+/// discs the search visits three times as many boards.
 #[test]
 fn ends_where_stable_discs_leave_too_little(rt: HostRuntime) -> Result<(), Fail> {
     let Some(board) = sample([0x1fff_442a_1d20_0000, 0x6000_bad4_e21d_7ae0]) else {
@@ -263,12 +263,12 @@ fn ends_where_stable_discs_leave_too_little(rt: HostRuntime) -> Result<(), Fail>
     Ok(())
 }
 
-/// By half more than were counted on the day when this was written.
+/// 1.5 times the number that was counted when the bound was set.
 const MOST_LOOKED_WON: u32 = 2_100;
 
 const MOST_RECALLED_WON: u32 = 8_800;
 
-/// The score of the board, whose search looks up and recalls no more than so many boards.
+/// The score of the board, whose search looks up at most `most_looked` boards and recalls at most `most_recalled`.
 fn check_counts(
     rt: &impl Abort,
     memo: Memo,

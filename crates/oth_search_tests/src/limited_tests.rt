@@ -15,7 +15,7 @@ const BOARDS: [[u64; 2]; 3] = [
     [0x450b_3b61_676b_5000, 0x18a4_c49c_9884_a2f0],
 ];
 
-// The bounds of a search that may look up so many boards. Where it comes to its end they are the score.
+// The bounds of a search that may look up `limit` boards. Where it comes to its end they are the score.
 fn bounds_within<R: AllocGlobal + Abort>(rt: &R, board: &Board, limit: u64) -> Interval {
     let Ok(answer) = solve_alone(board, Scoring::Winner) else {
         panic!(rt; "not solved")

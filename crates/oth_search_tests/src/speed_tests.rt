@@ -1,5 +1,5 @@
-//! Parts of the search that no answer rests on, and that only its speed tells of. The boards are of random games. Each
-//! of 13 empty squares is the one of 24 on which the part in question makes the greatest difference.
+//! Parts of the search that affect speed only, and of which no contract speaks. The boards are of random games. Each of
+//! 13 empty squares is the one of 24 on which the part in question makes the greatest difference.
 
 use crate::keeping_tests::Counted;
 use crate::tests::board_of;

@@ -238,7 +238,7 @@ fn remembers_more_where_that_pays(rt: HostRuntime) {
     }
 }
 
-/// What these memories recall of a board of so many empty squares when they have remembered its value.
+/// What these memories recall of a board of `empties` empty squares when they have remembered its value.
 fn recalled_value(rt: &impl Abort, memories: &mut Memories, empties: u8) -> Option<Interval> {
     let Some(board) = after_least_moves(empties) else {
         panic!(rt; "no line")

@@ -4,7 +4,7 @@
 --     IsBoardLine text p      the text is the board line of the position, by place
 --     IsFirstFault text f      the text is no board line, and this is its first fault
 --     reading text      the position of a board line, or the first fault of another text
---     IsSolvableLine, IsSolvableFault, solvable_reading      the same for boards of at most 30 empty squares
+--     IsSolvableLine, IsSolvableFault, solvable_reading      of board lines of boards of at most 30 empty squares
 use Rattle.std.specs.Prelude.{◌≡◌, ◌≢◌, ℕ, ◌+◌, ◌-◌, ◌<◌, ◌≤◌, ◌==◌, ◌||◌, nat_lt, List, [], ◌∷◌, ◌++◌, map, Option, None}
 use Rattle.std.specs.Prelude.{Some, Result, Ok, Err, length, take, slice_index, IsTrue, if◌then◌else◌, Bool}
 use Rattle.oth_rules.specs.Square.{squares}

@@ -6,7 +6,7 @@
 --     IsTranscriptFrom from text p      the text is a transcript that leads from a position to p
 --     IsTranscriptFaultFrom from text f      the text is no transcript from that position, and this is its first fault
 --     transcript_reading_from from text      the position that a transcript leads to from there, or the first fault of another text
---     IsTranscript, IsTranscriptFault, transcript_reading      the same from the start of a game
+--     IsTranscript, IsTranscriptFault, transcript_reading      of transcripts from the start of a game
 use Rattle.std.specs.Prelude.{◌≡◌, ℕ, ◌+◌, ◌-◌, ◌*◌, ◌%◌, ◌==◌, ◌&&◌, nat_le, Bool, true, false, if◌then◌else◌, List}
 use Rattle.std.specs.Prelude.{[], ◌∷◌, ◌++◌, length, fold, Option, Some, None, Result, Ok, Err, ⊤}
 use Rattle.std.specs.List.{flat_map}

@@ -31,7 +31,7 @@ impl<'a> BrokenSource<'a> {
         }
     }
 
-    /// The same source, which gives at most `step` bytes at a time.
+    /// Lets the source give at most `step` bytes at a time.
     pub fn in_steps(self, step: usize) -> Self
         requires { 0 < step }
         ensures remaining { ⟦<BrokenSource<'a> as Source>⟧.remaining result

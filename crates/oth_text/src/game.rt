@@ -76,7 +76,7 @@ impl GameReader {
         }
     }
 
-    // One more byte: a space behind 66 bytes ends the board.
+    // Takes one more byte: a space behind 66 bytes ends the board.
     fn push_byte(&mut self, byte: u8)
         ensures { (line : List ℕ) → KeepsGame self.old line → KeepsGame self.new (line ++ byte ∷ []) }
     {
@@ -95,7 +95,7 @@ impl GameReader {
     }
 }
 
-// What reads the moves behind this board.
+// The reader of the moves behind this board, or of its fault.
 fn behind(board: &BoardReader) -> GameReader
     ensures { (line : List ℕ) → KeepsLine board.now line → length line ≡ 66 → KeepsGame result (line ++ 32 ∷ []) }
 {

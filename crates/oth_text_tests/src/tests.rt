@@ -425,7 +425,7 @@ fn a_flush_reaches_the_writer(rt: HostRuntime) {
     assert!(rt; sink.into_inner().times == 1);
 }
 
-// A reader or a writer that answers an error of one kind so many times, and then does what it is asked to.
+// A reader or a writer that answers an error of one kind `errors` times, and then does what it is asked to.
 #[derive(Drop)]
 struct Halting<'a, D> {
     device: D,

@@ -1,4 +1,4 @@
-//! An engine that has to move soon: what a search tells that may look up so many boards and no more.
+//! An engine that has to move soon: what a search finds that may look up a limited number of boards.
 
 ghost use Rattle.std.specs.Prelude.{◌≡◌};
 
@@ -7,8 +7,9 @@ use oth_search::{Limited, Solved, solve_until};
 use oth_table::TableCells;
 use std::alloc::Global;
 
-/// Bounds of the board's value, true by their type: both are its score where so many boards are enough. The cells are
-/// handed back, and a further call over them goes on with what this one found.
+/// Bounds of the board's value, true by their type, by a search that looks up at most about `most` boards: both are the
+/// score where that is enough. The cells are handed back, and a further call over them goes on with what this one
+/// found.
 pub fn bounds_in_time<'t>(
     alloc: Global,
     cells: TableCells<'t>,

@@ -1,7 +1,7 @@
 -- What the program has done where its status is 0. Its input is known bytes `reader`, of which `reader'` are left; known bytes
 -- `writer` of its output become `writer'`.
 --     HasReported settings reader reader' writer writer'      all input was read, and the report of its lines was written
---     HasObeyed words reader reader' writer writer'      the same, where the words ask for a report; `book-verify` read no input, and
+--     HasObeyed words reader reader' writer writer'      `HasReported`, where the words ask for a report; `book-verify` read no input, and
 --         told the number of entries of a true book; `book-add` read it all, and wrote the text of a true book, which extends that of
 --         a file by the answers of its lines
 --     AreRefused words      the settings that the words give are refused

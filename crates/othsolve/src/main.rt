@@ -194,8 +194,8 @@ fn file_name(words: &Words) -> &str {
     }
 }
 
-// Does what the words ask for. The status: 0, or 1 where a device fails or the file can't be read, or 2 exactly where
-// the settings are refused, or 3 where the file or an answer is.
+// Does what the words ask for. Returns the status: 0, or 1 where a device fails or the file can't be read, or 2 exactly
+// where the settings are refused, or 3 where the file or an answer is.
 fn obey<T: Wait + Threads + Sync + Files + AllocGlobal, G: Gate, R: Source, W: Sink, E: Sink>(
     means: &Means<'_, T, G>,
     words: &Words,
@@ -337,7 +337,7 @@ fn file_of<T: Files + AllocGlobal, E: Sink>(
     }
 }
 
-// As many bytes of the file as tell whether it is a book.
+// Reads as many bytes of the file as tell whether it is a book.
 fn read_file<T: Files + AllocGlobal>(rt: &T, name: &str) -> io::Result<Vec<u8>> {
     let file = File::open(rt, name)?;
     let mut bytes = Vec::new(rt.alloc());

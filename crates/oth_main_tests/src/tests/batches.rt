@@ -77,7 +77,8 @@ fn by_two() -> Settings {
     }
 }
 
-/// How a run over devices ends that fail after so many bytes, and what it writes.
+/// How a run ends, and what it writes. Its reader gives `step` bytes at a time and fails after `until.0` bytes, its
+/// writer after `until.1`.
 fn done<R: Wait + Threads + Sync + AllocGlobal>(
     rt: &R,
     asked: &Settings,

@@ -1,5 +1,5 @@
-//! Devices: how the bytes are cut changes nothing, and where one fails, just so much was written, and none is called
-//! again.
+//! Devices: how the bytes are cut changes nothing. Where a device fails, what was written is known to the byte, and no
+//! device is called again.
 
 use super::{NO_FAILURE, by_two_workers, settings, walk};
 use oth_main::{Command, RunFault, Settings, run};
@@ -103,8 +103,8 @@ fn reported<'r>(input: &[u8], report: &'r [u8], read: usize) -> &'r [u8] {
     first_lines(report, ended_lines(front(input, read)))
 }
 
-// How often a byte is asked for until more than so many bytes of the report can be written. At the end of the input
-// that is all.
+// How often a byte is asked for until more than `written` bytes of the report can be written. Where there are no more
+// it is once for each byte and once at the end of input.
 fn reads_until(input: &[u8], report: &[u8], written: usize) -> u64 {
     for read in 1..input.len() {
         if reported(input, report, read).len() > written {
@@ -222,7 +222,7 @@ fn a_flush_that_fails_is_the_writers_fault(rt: HostRuntime) {
     }
 }
 
-// What is written of an input that comes so many bytes at a time.
+// What is written of an input that comes `step` bytes at a time.
 fn written_in_steps<R: Wait + Threads + Sync>(
     rt: &R,
     alloc: Global,
@@ -260,7 +260,7 @@ fn reads_of_any_length_give_the_same_bytes(rt: HostRuntime) {
     check_steps(&rt, &empty, b"", b"", 3);
 }
 
-// So many copies of a text.
+// `count` copies of a text.
 fn copies(alloc: Global, text: &[u8], count: u32) -> Result<Vec<u8>, AllocError> {
     let mut all = Vec::new(alloc);
     for _ in 0..count {

@@ -17,7 +17,7 @@ use std::test::Fail;
 use std::thread;
 use std::thread::Threads;
 
-// So many boards have a line.
+// The number of boards that have a line.
 const BOARDS: usize = 8;
 
 // Boards of ten empty squares, one below each move of a board of 14.
@@ -102,7 +102,7 @@ fn items_of(boards: &[Board]) -> u64 {
     items
 }
 
-// The gate of a run with this book hears just once of each item of so many.
+// The gate of a run with this book hears just once of each of `items` items.
 fn check_heard<R: Wait + Threads + Sync + AllocGlobal + Abort>(
     rt: &R,
     input: &[u8],

@@ -75,7 +75,7 @@ const KINDS: [(ErrorKind, &[u8]); 7] = [
     (ErrorKind::TimedOut, b"my.book: timed out\n"),
 ];
 
-// What an output gets that fails after so many bytes, where this is the reason.
+// What an output gets that fails after `until_failure` bytes, where this is the reason.
 pub(super) fn told(
     alloc: Global,
     reason: Option<Reason>,

@@ -100,7 +100,7 @@ const SOLVED: [(&[u8], &[u8]); 23] = [
     ),
 ];
 
-// The same by the difference of the discs.
+// Lines, and what `Solve` writes of each under `discs`.
 const SOLVED_BY_DISCS: [(&[u8], &[u8]); 10] = [
     (
         b"XXXXXXXXXXXXXXXXXXXXXXXXXXXXXXXXXXXXXXXXXXXXXXXXXXXXXXXXXXXXXXX- X\n",
@@ -217,7 +217,7 @@ const SCORED: [(&[u8], &[u8]); 18] = [
     ),
 ];
 
-// The same by the difference of the discs.
+// Lines, and what `Scores` writes of each under `discs`.
 const SCORED_BY_DISCS: [(&[u8], &[u8]); 5] = [
     (
         b"XXXXXXXXXXXXXXXXXXXXXXXXXXXXXXXXXXXXXXXXXXXXXXXXXXXXXXXXXXXXXXX- X\n",

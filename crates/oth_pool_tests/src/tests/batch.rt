@@ -13,7 +13,7 @@ use std::alloc::Global;
 use std::test::Fail;
 use std::thread::Threads;
 
-/// The eight images of each of two boards of a game, with so many empty squares and one less.
+/// The eight images of each of two boards of a game, one of `empties` empty squares and one of one less.
 fn images(alloc: Global, empties: u8) -> Option<Boards> {
     let mut boards = Boards::new(alloc).ok()?;
     for most_empties in [empties, empties.saturating_sub(1)] {

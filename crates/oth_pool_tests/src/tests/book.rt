@@ -59,7 +59,7 @@ fn book_of_replies(alloc: Global, root: &Board, scoring: Scoring) -> Option<Book
     Some(book)
 }
 
-// What two workers answer with the book, where the gate hears just once of each of so many items.
+// What two workers answer with the book, if the gate hears just once of each of `items` items.
 fn solved_by<R: Threads + Sync>(
     rt: &R,
     alloc: Global,

@@ -13,7 +13,7 @@ pub(super) const BOARDS: [[u64; 2]; 3] = [
     [0x450b_3b61_676b_5000, 0x18a4_c49c_9884_a2f0],
 ];
 
-// The board by crews over so many cells.
+// Crews of 2, 4 and 16 workers over `cells` cells answer the board as one thread alone does.
 pub(super) fn check_board<R: Threads + Sync + AllocGlobal + Abort>(
     rt: &R,
     words: [u64; 2],

@@ -41,7 +41,7 @@ pub(super) fn floor_of<R: AllocGlobal + Abort>(rt: &R, board: &Board) -> (Floor,
     (floor, seat)
 }
 
-// A table of so many cells by winner, and its first seat.
+// A table of `cells` cells by winner, and its first seat.
 pub(super) fn table_of<R: AllocGlobal + Abort>(rt: &R, cells: u32) -> (SharedTable, TableSeat)
     ensures { table.IsSeatOf result.0 result.1 }
 {
@@ -51,7 +51,7 @@ pub(super) fn table_of<R: AllocGlobal + Abort>(rt: &R, cells: u32) -> (SharedTab
     (table, seat)
 }
 
-// The frontier's items among so many hands.
+// The frontier's items among `hands` hands.
 pub(super) fn tasks_of<R: AllocGlobal + Abort>(
     rt: &R,
     frontier: &Frontier,

@@ -37,7 +37,7 @@ impl Hearing {
         }
     }
 
-    // Whether the first so many items were each heard of once before and once after their search, and no other one.
+    // Whether each of the first `items` items was heard of once before its search and once after, and no other item.
     pub(super) fn heard_once(&self, items: u32) -> bool {
         let mut once = 0;
         for item in 0..items.min(16) {
@@ -210,7 +210,7 @@ impl Gate for Following {
     }
 }
 
-// The answer's score plus 64, where so many workers come to what one alone does.
+// The answer's score plus 64, where `workers` workers answer as one alone does.
 fn followed<R: Threads + Sync + AllocGlobal + Abort>(
     rt: &R,
     board: &Board,

@@ -75,7 +75,7 @@ fn of_13_empties() -> Option<Board> {
     board.play(Square::first_of(moves))
 }
 
-// A board of so many empty squares that its workers search together.
+// Two workers answer a board of 13 empty squares, which they search together, as one thread alone does.
 fn check_together<R: Threads + Sync + AllocGlobal + Abort>(rt: &R, cells: u32) {
     let Some(board) = of_13_empties() else {
         panic!(rt; "no board")

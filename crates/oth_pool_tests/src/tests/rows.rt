@@ -46,7 +46,7 @@ const ROWS_BY_DISCS: [Row; 7] = [
     (B, 64, 0x0100, Kind::Move),
 ];
 
-// Each row by each number of workers, over a table of so many cells.
+// Each row by each number of workers, over a table of `cells` cells.
 fn check_rows<R: Threads + Sync + AllocGlobal + Abort>(
     rt: &R,
     rows: &[Row],

@@ -95,8 +95,8 @@ fn forms_on_the_boards_of_the_least_moves(rt: HostRuntime) {
     assert!(rt; fewest < 10);
 }
 
-// The boards to which the least-numbered moves lead from the start, at so many empty squares, as another program plays
-// them.
+// Numbers of empty squares, and the boards that the least-numbered moves lead to from the start, as another program
+// plays them.
 const LEAST_MOVES: [(u8, u64, u64); 5] = [
     (60, 0x0000_0008_1000_0000, 0x0000_0010_0800_0000),
     (59, 0x0000_0010_0000_0000, 0x0000_0008_1808_0000),

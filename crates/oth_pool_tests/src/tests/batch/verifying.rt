@@ -15,7 +15,7 @@ pub(super) const SIX: &[u8] =
       OOXXXXX-OOOOOOOOO-OXXXO-OOXOXOXOOXOXXOXXXXXXXOXX-OOOOOO------OOO -16 -16 0000000000000080\n\
       X-----O-XOOOOOOOXOOOOOOXXOOOOOOOOOXOOOOO-OOOOOOOXOOOOOOO---OOOOO +18 +18 0000010000000088\nEND 000006\n";
 
-// The same boards with bounds: true ones of the first and the third, and of the fourth such as leave its value out.
+// The six boards with bounds: true ones of the first and the third, and of the fourth such as leave its value out.
 const BOUNDS: &[u8] =
     b"OBOOK2 W\n----XXXX-O--OO-XOOOOOOOXXOOOOOOXXXXXOOXXXXXXOXXXXXXXOOXXXOOOOO-- +56 +64 0000000000000000\n\
       ---X-X--OOXXXX-O-XOXXXOOXOOXOXOO-OXOOOOOOOXXOOOOOOOOOOOOO-OOOOOO -20 -20 0000000000000001\n\
