@@ -168,6 +168,7 @@ empties-after p q s set rest is e w fits =
   where
     taken : (t : ℕ) → t ≡ s → t < 64 → is_empty q t ≡ false
     taken t same l = ap (λ x. is_empty x t) is ∙ counts.empty_after p s t l ∙ ap (λ b. is_empty p t && not b) (eq-eqb t s same) ∙ and-false (is_empty p t)
+
     kept : (t : ℕ) → t ≢ s → t < 64 → is_empty q t ≡ is_empty p t
     kept t other l = ap (λ x. is_empty x t) is ∙ counts.empty_after p s t l ∙ ap (λ b. is_empty p t && not b) (ne_eqb t s other) ∙ and-true (is_empty p t)
 

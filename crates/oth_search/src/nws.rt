@@ -29,7 +29,13 @@ pub fn nws_few(node: Node, alpha: i8, scoring: Scoring) -> i8
     ensures { BoundsAt (value (score_of scoring) node.board) alpha result }
 {
     let board = &node.board;
-    nws_moves(Twin::of(board), node.moves, Empties::of(board), alpha, scoring)
+    nws_moves(
+        Twin::of(board),
+        node.moves,
+        Empties::of(board),
+        alpha,
+        scoring,
+    )
 }
 
 // As `nws`, of a twin whose empty squares are known.

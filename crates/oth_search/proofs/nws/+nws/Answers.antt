@@ -68,7 +68,7 @@ nws_moves-nws_at-reply-requires t c =
       (
         record { low = omega (arith, ints, c.requires.threshold.high); high = omega (arith, ints, c.requires.threshold.low) },
         empties-after c.args.board c.play_legal-child.result c.preferred-square.result _ _ c.play_legal-child.ensures c.requires.empties c.without.ensures.rest
-        (omega (arith, c.without.ensures.fewer, c.requires.empties, word_of-lt (is_empty c.args.board))),
+            (omega (arith, c.without.ensures.fewer, c.requires.empties, word_of-lt (is_empty c.args.board))),
       ),
     )
 
