@@ -1,4 +1,4 @@
-//! Questions of a board's value, answered by as many searches as it takes.
+//! Values of boards by repeated searches: up to a limit, on one side of a threshold, or exact.
 ghost use Rattle.std.specs.Prelude.{◌≡◌, negsuc, pos, ◌≤ℤ◌, ◌+ℤ◌};
 ghost use Rattle.oth_rules.specs.Laws.{IsScore};
 ghost use Rattle.oth_rules.specs.Score.{score_of};
@@ -13,7 +13,7 @@ use crate::solved::Solved;
 use oth_rules::{Board, Scoring};
 
 impl Solved {
-    /// The board with its value where that is at most the limit, and else with a lower bound above the limit.
+    /// The board with its exact value if that is at most `limit`, else with a lower bound above `limit`.
     pub fn at_most<C: Cells>(board: &Board, limit: i8, cells: &mut C, scoring: Scoring) -> Solved
         requires { IsScore limit }
         ensures board { result.board ≡ board.now }
@@ -29,7 +29,8 @@ impl Solved {
         }
     }
 
-    /// The board with bounds that tell whether its value is above `alpha`, by a search unless they are known.
+    /// The board with bounds that decide whether its value is above `alpha`, -65 to 64. Searches only where the known
+    /// ones leave that open.
     pub(crate) fn decided_at<C: Cells>(&self, alpha: i8, cells: &mut C) -> Solved
         requires low { negsuc 64 ≤ℤ alpha }
         requires high { alpha ≤ℤ pos 64 }
@@ -47,7 +48,8 @@ impl Solved {
         self.joined(&found)
     }
 
-    /// The board with its value, by questions ever further below what it is known to reach.
+    /// The board with its exact value, by null windows below its upper bound. Their steps widen while they lower it
+    /// (`Pace`).
     pub(crate) fn exact<C: Cells>(&self, cells: &mut C) -> Solved
         ensures board { result.board ≡ self.now.board }
         ensures scoring { result.scoring ≡ self.now.scoring }
@@ -65,8 +67,9 @@ impl Solved {
     }
 }
 
-// The value of a board, or a lower bound of it above the limit: at most two null windows, and a search only where it is
-// below.
+// Bounds of a board's value, exact if it is at most `limit`, else above `limit`. Takes at most two null windows, and
+// then a search over all lower scores only if the value is below `limit`. A `limit` of 64 takes one search over all
+// scores.
 fn at_most<C: Cells>(board: &Board, limit: i8, cells: &mut C, scoring: Scoring) -> Interval
     requires { IsScore limit }
     ensures encloses { Encloses result.lower result.upper (value (score_of scoring) board.now) }
@@ -90,7 +93,7 @@ fn at_most<C: Cells>(board: &Board, limit: i8, cells: &mut C, scoring: Scoring) 
     exact_below(board, below.upper, cells, scoring)
 }
 
-// The value of a board that is at most `most`.
+// The exact value of a board whose value is at most `most`, as two equal bounds.
 fn exact_below<C: Cells>(board: &Board, most: i8, cells: &mut C, scoring: Scoring) -> Interval
     requires score { IsScore most }
     requires most { value (score_of scoring) board.now ≤ℤ most }

@@ -1,4 +1,5 @@
-//! Where a value that is guessed seems to lie, and at which threshold it is asked next. No answer depends on it.
+//! The bracket of the first guess: between which scores the value seems to lie, and the threshold of the next null
+//! window.
 ghost use Rattle.std.specs.Prelude.{◌≡◌, pos, ◌≤ℤ◌};
 ghost use Rattle.oth_rules.specs.Laws.{IsScore};
 ghost use Rattle.oth_search.specs.Interval.{IsThreshold};
@@ -6,14 +7,14 @@ ghost use Rattle.oth_search.specs.Interval.{IsThreshold};
 use crate::interval::{greater, lesser};
 use crate::tuning::{FIRST_GUESS_STEP, GUESS_CLOSE};
 
-/// The least and the greatest value, -64 to 64, that there seems to be after some null windows of a selective search,
-/// and the threshold that is asked next.
+/// The bounds, -64 to 64, that a value seems to have after some null windows of the selective search, and `at`, the
+/// threshold of the next one.
 #[derive(Clone, Copy)]
 pub struct Bracket {
     pub at: i8,
     low: i8,
     high: i8,
-    // How far beyond the one bound that is known the next null window lies.
+    // How far from the only known bound the next null window lies.
     step: i8,
     ghost threshold: { IsThreshold at },
     ghost range: { IsScore low × IsScore high },
@@ -21,7 +22,7 @@ pub struct Bracket {
 }
 
 impl Bracket {
-    /// Nothing is known yet, and this is asked first.
+    /// The bracket before the first null window: no bound is known, and `at` is its threshold.
     pub fn from(at: i8) -> Bracket
         requires { IsThreshold at }
         ensures { result.at ≡ at }
@@ -34,21 +35,21 @@ impl Bracket {
         }
     }
 
-    /// The same, when the value seems to be at most so much.
+    /// The bracket after a null window by which the value seems to be at most `most`.
     pub fn at_most(self, most: i8) -> Bracket
         requires { IsScore most }
     {
         self.between(self.low, most)
     }
 
-    /// The same, when the value seems to be at least so much.
+    /// The bracket after a null window by which the value seems to be at least `least`.
     pub fn at_least(self, least: i8) -> Bracket
         requires { IsScore least }
     {
         self.between(least, self.high)
     }
 
-    // Between these bounds. Steps double.
+    // The bracket with these bounds, the threshold that follows from them, and twice the step.
     fn between(self, low: i8, high: i8) -> Bracket
         requires low { IsScore low }
         requires high { IsScore high }
@@ -61,12 +62,12 @@ impl Bracket {
         }
     }
 
-    /// Whether the bounds are so close that it is guessed between them.
+    /// Whether the bounds are at most `GUESS_CLOSE` discs apart, where the guess ends.
     pub fn is_close(self) -> bool {
         self.high <= lesser(self.low, 61) + GUESS_CLOSE
     }
 
-    /// The greatest value that there seems to be.
+    /// The upper bound that the value seems to have.
     pub fn most(self) -> i8
         ensures { IsScore result }
     {
@@ -74,7 +75,8 @@ impl Bracket {
     }
 }
 
-// The threshold that is asked next: the middle, or a step beyond the one bound that is known.
+// The threshold of the next null window, -64 to 63: the middle where both bounds are known, else `step` below the upper
+// one or `step - 2` above the lower one.
 fn asked(low: i8, high: i8, step: i8) -> i8
     requires low { IsScore low }
     requires high { IsScore high }

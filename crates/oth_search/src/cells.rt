@@ -6,15 +6,15 @@ use crate::entry::Entry;
 use crate::solved::Solved;
 use oth_rules::{Board, Scoring};
 
-/// Where a search keeps what it found: by default nowhere. Nothing is promised of what is kept, but that `look` gives
-/// only an entry of the board and scoring that it is asked for.
+/// Where a search stores what it found: by default nowhere. What is stored may be lost. `look` and `recall` promise
+/// only that what they return is of the board and the scoring that were asked for.
 pub trait Cells {
-    /// What no call changes, as the table on which the cells stand.
+    /// What no call changes, such as the table that the cells belong to.
     ghost Fixed: { Type 0 };
 
     ghost fixed: { Self → Fixed };
 
-    /// An entry of a canonical board under the asked scoring, if one is kept.
+    /// Returns the entry of a canonical board under this scoring, if one is kept.
     fn look(&mut self, _board: &Board, _scoring: Scoring) -> Option<Entry>
         requires { IsCanonical _board.now }
         ensures asked { IfSome result (λ e. (e.board ≡ _board.now) × (e.scoring ≡ _scoring)) }
@@ -23,19 +23,19 @@ pub trait Cells {
         None
     }
 
-    /// Offers an entry. The cells are free to drop it.
+    /// Offers an entry for storing. The cells are free to drop it.
     fn put(&mut self, _entry: &Entry)
         ensures fixed { fixed self.new ≡ fixed self.old }
     {}
 
-    /// Whether boards with so many empty squares, 9 and more, are remembered too, and neither looked up nor put: by
-    /// default they are not.
+    /// Whether boards of `empties` empty squares (9 and more) go to the local table instead of the shared one: by
+    /// default no.
     fn remembers(&self, _empties: u8) -> bool {
         false
     }
 
-    /// What is remembered of a board under the asked scoring, if anything is: by default nothing. It is asked of boards
-    /// with few empty squares, 5 to 8, and of those that it remembers besides.
+    /// Returns what the local table keeps of a board under this scoring, if anything: by default nothing. A search asks
+    /// for boards of 5 to 8 empty squares, and for those that `remembers` names.
     fn recall(&mut self, _board: &Board, _scoring: Scoring) -> Option<Solved>
         ensures asked { IfSome result (λ s. (s.board ≡ _board.now) × (s.scoring ≡ _scoring)) }
         ensures fixed { fixed self.new ≡ fixed self.old }
@@ -43,7 +43,7 @@ pub trait Cells {
         None
     }
 
-    /// Offers what was found of such a board. The cells are free to drop it, and by default do.
+    /// Offers bounds of such a board to the local table. The cells are free to drop them, and by default do.
     fn remember(&mut self, _solved: &Solved)
         ensures fixed { fixed self.new ≡ fixed self.old }
     {}

@@ -1,11 +1,11 @@
-//! The board after a move, as a search by rank wants it.
+//! The board after a move, with the sort key of the move.
 ghost use Rattle.std.specs.Prelude.{◌≡◌};
 ghost use Rattle.oth_search.specs.Keys.{key_square};
 
 use crate::key::Key;
 use oth_rules::{Board, Square};
 
-/// A move by its key, with the board after it and the replies to it: four words, with no padding between them.
+/// A move by its key, with the board after it and the legal moves there: four words, with no padding between them.
 #[derive(Clone, Copy, Default)]
 pub struct Child {
     pub key: Key,

@@ -1,4 +1,4 @@
-//! Bounds of a board by bounds of boards below it.
+//! Backed-up bounds: those of a board by those of boards below it.
 ghost use Rattle.std.specs.Prelude.{◌≡◌, true};
 ghost use Rattle.oth_rules.specs.Move.{can_move};
 
@@ -7,7 +7,7 @@ use crate::solved::Solved;
 use crate::squares::{first, without};
 use oth_rules::{Board, Scoring};
 
-/// What these tell of the board itself.
+/// The bounds of `board` that stand in `known`, under this scoring: the first ones, or all scores if there are none.
 pub fn known_of(board: Board, known: &[Solved], scoring: Scoring) -> Solved
     ensures board { result.board ≡ board }
     ensures scoring { result.scoring ≡ scoring }
@@ -20,7 +20,7 @@ pub fn known_of(board: Board, known: &[Solved], scoring: Scoring) -> Solved
     Solved::unknown(board, scoring)
 }
 
-/// What these tell of the board by the boards so many plies below it. A forced pass is no ply.
+/// Backs up the bounds of the boards `plies` plies below that stand in `known`. A forced pass is no ply.
 #[cycle(combining)]
 pub fn known_below(board: Board, plies: u8, known: &[Solved], scoring: Scoring) -> Solved
     ensures board { result.board ≡ board }
@@ -36,7 +36,7 @@ pub fn known_below(board: Board, plies: u8, known: &[Solved], scoring: Scoring) 
     known_of(board, known, scoring)
 }
 
-// The same, where the mover has a move.
+// As `known_below`, of a board whose mover has a move.
 #[cycle(combining)]
 fn known_by_moves(board: Board, plies: u8, known: &[Solved], scoring: Scoring) -> Solved
     requires { can_move board ≡ true }

@@ -1,4 +1,4 @@
-//! Who shares a search of many plies.
+//! The hooks of the shared search.
 
 ghost use Rattle.std.specs.Prelude.{◌≡◌};
 
@@ -9,23 +9,22 @@ use arrayvec::ArrayVec;
 use oth_rules::{Board, Square};
 use std::alloc::Global;
 
-/// What a search of many plies asks at each board, and tells: what others are at, when it is of no more use, and in
-/// which order moves are best searched. By default it is made by one worker alone, who never gives up. No answer
-/// depends on it.
+/// Hooks of the shared search: who is at a node, when to give up, which move order to use. The defaults are those of
+/// one worker. No answer depends on them.
 pub trait Company<C: Cells> {
-    /// The memory in which a search keeps what it finds of a board's moves.
+    /// The memory for the bounds of a node's children while they are searched.
     fn alloc(&self) -> Global;
 
-    /// Boards with fewer empty squares are searched to the end, and nothing is asked there.
+    /// Boards of fewer empty squares than this are searched to the end, and no hook is called there.
     fn fewest(&self) -> u8;
 
-    /// So many of the moves of a board with so many empty squares are searched whether or not another worker is at
-    /// them.
+    /// How many of the first moves of a board of `empties` empty squares are searched even if another worker is at
+    /// them. Where the children have fewer empty squares than `fewest`, each of them may be deferred.
     fn together(&self, _empties: u8) -> usize {
         64
     }
 
-    /// Whether the board is left to another worker who is at it.
+    /// Whether the board is deferred, since another worker is at it.
     fn is_left(&mut self, _board: &Board) -> bool {
         false
     }
@@ -36,23 +35,24 @@ pub trait Company<C: Cells> {
     /// That search has ended.
     fn end(&mut self, _board: &Board) {}
 
-    /// The moves of the board are about to be searched for this window. Answers how many such searches are under way.
+    /// The moves of the board are about to be searched with this window. Returns how many such searches were under way
+    /// before.
     fn enter(&mut self, _board: &Board, _window: NullWindow) -> usize {
         0
     }
 
-    /// Only so many are under way.
+    /// Only `depth` of these searches are still under way: as many as `enter` returned.
     fn leave(&mut self, _depth: usize) {}
 
-    /// Whether the searches under way are of no more use after this board was searched.
+    /// Whether to give up the searches under way, now that this board was searched.
     fn gives_up(&mut self, searched: &Board, cells: &mut C) -> bool
         ensures fixed { C.fixed cells.new ≡ C.fixed cells.old };
 
-    /// Each legal move of the board once, in the order in which it is searched.
+    /// The moves of the board in the order in which they are searched: by default each legal one once.
     fn order(&mut self, board: &Board) -> ArrayVec<Square, 64> {
         order(board)
     }
 
-    /// The move was good enough, or the best: it is to come first when the board's moves are searched again.
+    /// The move caused a cutoff, or is the best: it is to come first when the board's moves are searched again.
     fn prefer(&mut self, _board: &Board, _square: Square) {}
 }

@@ -23,7 +23,7 @@ use crate::tuning::{
 use arrayvec::ArrayVec;
 use oth_rules::{Board, Scoring};
 
-/// As `nws`, with the cells.
+/// As `nws`, with tables: what `cells` keep is looked up and stored.
 pub fn nws_with<C: Cells>(board: Board, alpha: i8, cells: &mut C, scoring: Scoring) -> i8
     requires { IsThreshold alpha }
     ensures value { BoundsAt (value (score_of scoring) board) alpha result }
@@ -32,7 +32,7 @@ pub fn nws_with<C: Cells>(board: Board, alpha: i8, cells: &mut C, scoring: Scori
     nws_node(Node::of(board), alpha, cells, scoring)
 }
 
-/// The same, where the moves are known.
+/// As `nws_with`, of a board whose moves are known.
 #[cycle(deep)]
 pub fn nws_node<C: Cells>(node: Node, alpha: i8, cells: &mut C, scoring: Scoring) -> i8
     requires { IsThreshold alpha }
@@ -53,7 +53,7 @@ pub fn nws_node<C: Cells>(node: Node, alpha: i8, cells: &mut C, scoring: Scoring
     board.final_score(scoring)
 }
 
-// Looks the board up, and puts what it found unless the entry decides.
+// Looks the board up in the table that keeps it. If the entry doesn't decide, searches, and stores what that found.
 #[cycle(deep)]
 fn nws_kept<C: Cells>(node: Node, alpha: i8, cells: &mut C, scoring: Scoring) -> i8
     requires threshold { IsThreshold alpha }
@@ -77,7 +77,7 @@ fn nws_kept<C: Cells>(node: Node, alpha: i8, cells: &mut C, scoring: Scoring) ->
     found
 }
 
-// Recalls what is known of the board, and remembers what it found unless that decides.
+// As `nws_kept`, of a board that the local table keeps.
 #[cycle(deep)]
 fn nws_remembered<C: Cells>(node: Node, alpha: i8, cells: &mut C, scoring: Scoring) -> i8
     requires threshold { IsThreshold alpha }
@@ -97,7 +97,7 @@ fn nws_remembered<C: Cells>(node: Node, alpha: i8, cells: &mut C, scoring: Scori
     found
 }
 
-// Searches the children in their order.
+// Searches the children: by parity alone up to 5 empty squares, else by rank, unless a stability cutoff comes first.
 #[cycle(deep)]
 fn nws_ordered<C: Cells>(node: Node, alpha: i8, cells: &mut C, scoring: Scoring) -> i8
     requires threshold { IsThreshold alpha }
@@ -121,8 +121,8 @@ fn nws_ordered<C: Cells>(node: Node, alpha: i8, cells: &mut C, scoring: Scoring)
     nws_long(node, alpha, cells, scoring)
 }
 
-// The same, where at most seven squares are empty. A function of its own for each length of the list: the blank places
-// of a long one take time to fill.
+// Searches a board of 6 or 7 empty squares, with a list of 7 children. Each length of the list has a function of its
+// own: the blank places of a long one take time to fill.
 #[inline(never)]
 #[cycle(deep)]
 fn nws_short<C: Cells>(node: Node, alpha: i8, cells: &mut C, scoring: Scoring) -> i8
@@ -136,7 +136,8 @@ fn nws_short<C: Cells>(node: Node, alpha: i8, cells: &mut C, scoring: Scoring) -
     nws_children(node, list.as_mut_slice(), alpha, cells, scoring)
 }
 
-// The same, where few more are empty: the children are looked up, unless that takes an image of each.
+// Searches a board of 8 to 10 empty squares, with a list of 10 children. First looks the children up (ETC), unless each
+// of them would have to be made canonical for that.
 #[inline(never)]
 #[cycle(deep)]
 fn nws_middle<C: Cells>(node: Node, alpha: i8, cells: &mut C, scoring: Scoring) -> i8
@@ -155,7 +156,8 @@ fn nws_middle<C: Cells>(node: Node, alpha: i8, cells: &mut C, scoring: Scoring) 
     nws_children(node, list.as_mut_slice(), alpha, cells, scoring)
 }
 
-// The same, where many squares are empty: the children are looked up, and then looked at.
+// Searches a board of 11 and more empty squares, with a list of 32 children. First looks the children up (ETC), then
+// ranks them by their evaluations too.
 #[inline(never)]
 #[cycle(deep)]
 fn nws_long<C: Cells>(node: Node, alpha: i8, cells: &mut C, scoring: Scoring) -> i8
@@ -173,7 +175,8 @@ fn nws_long<C: Cells>(node: Node, alpha: i8, cells: &mut C, scoring: Scoring) ->
     nws_children(node, list.as_mut_slice(), alpha, cells, scoring)
 }
 
-// Searches these children and any other, the best-ranked first. Inline, so that the length of the list is known.
+// Searches the children of the list, the best-ranked first, and then those that had no room there. Inline, so that the
+// compiler knows the length of the list.
 #[inline(always)]
 #[cycle(deep)]
 fn nws_children<C: Cells>(
@@ -209,7 +212,7 @@ fn nws_children<C: Cells>(
     best
 }
 
-// What the opponent's stable discs leave to the mover, if that is at most `alpha`.
+// Stability cutoff: the upper bound that the opponent's stable discs leave to the mover, if it is at most `alpha`.
 fn most_at(board: &Board, alpha: i8, scoring: Scoring) -> Option<i8>
     ensures { IfSome result (BoundsAt (value (score_of scoring) board.now) alpha) }
 {
@@ -224,7 +227,8 @@ fn most_at(board: &Board, alpha: i8, scoring: Scoring) -> Option<i8>
     if most <= alpha { Some(most) } else { None }
 }
 
-// A bound above `alpha`, if what is recorded of a child gives one.
+// Enhanced transposition cutoff: a bound above `alpha`, if what a table has of a child gives one. Children whose mover
+// has no move are not looked up.
 fn recorded_above<C: Cells>(
     parent: &Board,
     children: &[Child],
@@ -248,13 +252,14 @@ fn recorded_above<C: Cells>(
     None
 }
 
-// Whether the board is one that is remembered, and not kept.
+// Whether the board goes to the local table, and not to the transposition table.
 fn is_remembered<C: Cells>(board: &Board, cells: &C) -> bool {
     let empties = board.empties();
     empties < FEWEST_EMPTIES_KEPT || cells.remembers(empties)
 }
 
-// What is recorded of the board's value: in the memory where the board is remembered, and else in the cells.
+// The bounds of the board's value by the table that keeps it: by the local one, or by the entry of its canonical image
+// in the transposition table.
 fn recorded<C: Cells>(board: &Board, cells: &mut C, scoring: Scoring) -> Solved
     ensures value { Encloses result.interval.lower result.interval.upper (value (score_of scoring) board.now) }
     ensures fixed { C.fixed cells.new ≡ C.fixed cells.old }
@@ -265,7 +270,7 @@ fn recorded<C: Cells>(board: &Board, cells: &mut C, scoring: Scoring) -> Solved
     known(&board.canonical().0, cells, scoring)
 }
 
-/// What the cells tell of a canonical board.
+/// The bounds that the transposition table has of a canonical board: all scores if it has none.
 pub fn known<C: Cells>(board: &Board, cells: &mut C, scoring: Scoring) -> Solved
     requires { IsCanonical board.now }
     ensures board { result.board ≡ board.now }
@@ -278,7 +283,7 @@ pub fn known<C: Cells>(board: &Board, cells: &mut C, scoring: Scoring) -> Solved
     }
 }
 
-// What is remembered of a board.
+// The bounds that the local table has of a board: all scores if it has none.
 fn recalled<C: Cells>(board: &Board, cells: &mut C, scoring: Scoring) -> Solved
     ensures board { result.board ≡ board.now }
     ensures scoring { result.scoring ≡ scoring }

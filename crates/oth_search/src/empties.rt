@@ -1,4 +1,4 @@
-//! The empty squares of a board of few, with what parity asks of them.
+//! The empty squares of a board, and the parity of each quadrant.
 ghost use Rattle.std.specs.Prelude.{◌≡◌, ◌<◌};
 ghost use Rattle.oth_rules.specs.Square.{word_of};
 ghost use Rattle.oth_rules.specs.Position.{is_empty};
@@ -28,7 +28,7 @@ impl Empties {
         }
     }
 
-    /// Those that a move to one of them leaves empty.
+    /// The squares that a move to `square` leaves empty.
     #[inline(always)]
     pub fn without(self, square: Square) -> Empties
         requires { In self.all square }

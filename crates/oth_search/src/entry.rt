@@ -69,7 +69,7 @@ impl Entry {
         self.board
     }
 
-    /// Its bounds enclose its board's value.
+    /// Tells a proof that the entry is true: its bounds enclose the value of its canonical board. Does nothing.
     pub fn shows_true(&self)
         ensures { IsTrueEntry self.now }
     {
@@ -116,7 +116,7 @@ impl Entry {
         ]
     }
 
-    /// The entry of which these are the words. Only who keeps words of true entries can call it.
+    /// The entry that has these words. Only a caller who keeps the words of a true entry can call it.
     pub fn of_words(words: [u64; 3], scoring: Scoring) -> Entry
         requires { (x : Bounded) × IsTrueEntry x × (x.scoring ≡ scoring) × (words ≡ words_of x) }
         ensures { (x : Bounded) → IsTrueEntry x → x.scoring ≡ scoring → words ≡ words_of x → result ≡ x }
@@ -132,7 +132,8 @@ impl Entry {
         }
     }
 
-    /// What a cell keeps that held this entry: of the same board the closer bounds, else the given entry.
+    /// What a cell that holds this entry keeps when `given` is stored: of one board the closer bounds of both, else
+    /// `given`.
     pub fn joined(&self, given: &Entry) -> Entry
         requires { self.now.scoring ≡ given.now.scoring }
         ensures { result ≡ joined (Some self.now) given.now }
@@ -158,7 +159,7 @@ fn raised(bound: i8) -> u64
     (i16::from(bound) + 64) as u64
 }
 
-// The bound that is raised so.
+// The bound that `raised` made this number of.
 fn lowered(raised: u64) -> i8
     requires { raised ≤ 128 }
     ensures { result ≡ pos raised -ℤ pos 64 }

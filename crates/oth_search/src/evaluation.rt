@@ -1,4 +1,4 @@
-//! The static evaluation of a board, as it is or after some plies, for move ordering. No answer depends on it.
+//! The static evaluation of a board, as it stands or after some plies, for move ordering.
 ghost use Rattle.std.specs.Prelude.{◌<◌, ◌≤◌, pos, neg_ℤ, ◌≤ℤ◌};
 
 use crate::looking::{Span, look};
@@ -27,7 +27,7 @@ impl Evaluation {
     /// The best one.
     pub const BEST: Evaluation = Evaluation { points: 6400 };
 
-    /// The same board as the opponent sees it.
+    /// The evaluation as the opponent sees it.
     pub fn turned(self) -> Evaluation {
         Evaluation {
             points: -self.points,
@@ -52,19 +52,20 @@ impl Evaluation {
         }
     }
 
-    /// What is enough to be looked at no longer, where this is the least so far.
+    /// The evaluation from which a child is looked at no further, if this one is the least so far: `MARGIN` points
+    /// above it.
     pub fn enough(self) -> Evaluation {
         Evaluation {
             points: (self.points + MARGIN).min(6400),
         }
     }
 
-    /// Whether it has as many points.
+    /// Whether it has at least as many points as `enough`.
     pub fn reaches(self, enough: Evaluation) -> bool {
         self.points >= enough.points
     }
 
-    /// How much it is above the worst one.
+    /// How many points it is above the worst one, 0 to 12,800.
     pub fn above_worst(self) -> u16
         ensures { result ≤ 12800 }
     {
@@ -72,8 +73,8 @@ impl Evaluation {
     }
 }
 
-/// What a child with these moves seems to be worth for its mover, for the order of the children of a board with so many
-/// empty squares: after some plies, or for few as it stands. Less exact from `enough` on.
+/// Evaluates a child for its mover, who has `moves`, to order the children of a board of `empties` empty squares: after
+/// some plies, or below `FEWEST_EMPTIES_AHEAD` as it stands. Less exact from `enough` on.
 pub fn evaluation_of(child: &Board, moves: u64, empties: u8, enough: Evaluation) -> Evaluation {
     match plies_ahead(empties) {
         0 => standing(Twin::of(child), moves),
@@ -82,7 +83,7 @@ pub fn evaluation_of(child: &Board, moves: u64, empties: u8, enough: Evaluation)
     }
 }
 
-// How far the children of a board with so many empty squares are looked at.
+// How many plies the children of a board of `empties` empty squares are looked ahead.
 fn plies_ahead(empties: u8) -> u8 {
     if empties < FEWEST_EMPTIES_AHEAD {
         0
@@ -97,7 +98,7 @@ fn plies_ahead(empties: u8) -> u8 {
     }
 }
 
-// What a child seems to be worth after a ply, or after a pass as it stands.
+// Evaluates a child a ply ahead. After a forced pass it evaluates the board as it stands, and at the end its discs.
 fn a_ply_ahead(child: &Board, moves: u64, enough: Evaluation) -> Evaluation {
     if moves != 0 {
         return look_past_moves(child, moves, enough);
@@ -110,7 +111,7 @@ fn a_ply_ahead(child: &Board, moves: u64, enough: Evaluation) -> Evaluation {
     by_discs(child)
 }
 
-/// The best standing after a move, or one that is enough.
+/// The best evaluation as it stands after one of these moves, or the first that reaches `enough`.
 pub fn look_past_moves(board: &Board, moves: u64, enough: Evaluation) -> Evaluation {
     let twin = Twin::of(board);
     let mut best = Evaluation::WORST;
@@ -128,14 +129,14 @@ pub fn look_past_moves(board: &Board, moves: u64, enough: Evaluation) -> Evaluat
     best
 }
 
-/// By the discs, when the game is over.
+/// Evaluates a finished game by its discs.
 pub fn by_discs(board: &Board) -> Evaluation {
     Evaluation {
         points: DISC * (count(board.own()) as i16 - count(board.opp()) as i16),
     }
 }
 
-// By the strength of the mover, who has these moves, and the opponent's.
+// Evaluates a board as it stands: the strength of the mover, who has `moves`, less that of the opponent.
 fn standing(twin: Twin, moves: u64) -> Evaluation {
     let passed = twin.pass();
     Evaluation {
@@ -144,8 +145,8 @@ fn standing(twin: Twin, moves: u64) -> Evaluation {
     }
 }
 
-// How strong the mover is: moves, corners among them, squares beside opposing discs, corners that are taken, discs that
-// are held along an edge, and opposing discs that give a corner away.
+// How strong the mover is, in points: moves, corners among them, empty squares beside opposing discs, corners taken,
+// discs that are held along an edge, and opposing discs that give a corner away.
 #[inline(always)]
 fn strength(board: &Board, moves: u64) -> u16
     ensures { result ≤ 4800 }
@@ -191,7 +192,7 @@ fn westwards(from: u64, set: u64) -> u64 {
     three | (pairs & (pairs >> 2) & (three >> 4))
 }
 
-// The same to the north.
+// As `westwards`, to the north.
 fn northwards(from: u64, set: u64) -> u64 {
     let one = from | (set & (from >> 8));
     let pairs = set & (set >> 8);
@@ -199,7 +200,7 @@ fn northwards(from: u64, set: u64) -> u64 {
     three | (pairs & (pairs >> 16) & (three >> 32))
 }
 
-// The same to the south.
+// As `westwards`, to the south.
 fn southwards(from: u64, set: u64) -> u64 {
     let one = from | (set & (from << 8));
     let pairs = set & (set << 8);

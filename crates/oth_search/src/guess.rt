@@ -1,6 +1,5 @@
-//! A guess of the value of a root by a selective search, a search of few moves, to start from. One worker makes it
-//! alone, several make it together: each takes boards that no other one is at, and is told what the others saw of a
-//! board. No answer depends on it.
+//! The first guess of a root's score, by a selective search: few moves at each node. One worker makes it alone; several
+//! make it together, where each takes boards that no other one is at, and hears what the others saw of a board.
 ghost use Rattle.std.specs.Prelude.{◌≡◌, ◌<◌, ◌≤◌, ◌≤ℤ◌, pos, length};
 ghost use Rattle.std.specs.List.{All};
 ghost use Rattle.oth_rules.specs.Laws.{IsScore};
@@ -24,15 +23,15 @@ use crate::tuning::{
 use arrayvec::ArrayVec;
 use oth_rules::{Board, Scoring};
 
-// What the boards after a root's moves seem to have at least, in the order in which they are asked.
+// The lower bounds that the replies to a root seem to have, in the order of the list of replies.
 #[derive(Clone, Copy)]
 struct Seen {
     root: Board,
     bounds: [Interval; 64],
 }
 
-/// The least value that a reply seems to have, which is first asked for this one. The reply that seems to have it comes
-/// to the front.
+/// Returns the least value that a reply seems to have, by null windows from `likely` on. Moves the reply that seems to
+/// have it to the front.
 pub fn guess<C: Cells, O: Observer<C>>(
     root: &Board,
     replies: &mut [Solved],
@@ -68,8 +67,9 @@ pub fn guess<C: Cells, O: Observer<C>>(
     bracket.most()
 }
 
-// A value of at most `at` that a reply seems to have, which comes to the front, or else the least of them. At first a
-// reply that another worker is at is left to it, but for the one in front.
+// Returns a value of at most `at` that a reply seems to have, and moves that reply to the front; or else the least
+// value that one seems to have, or what another worker told. In the first round defers replies that another worker is
+// at, but for the one in front.
 fn least_seen<C: Cells, O: Observer<C>>(
     replies: &mut [Solved],
     seen: &mut Seen,
@@ -112,8 +112,8 @@ fn least_seen<C: Cells, O: Observer<C>>(
     least
 }
 
-// The value that a reply seems to have, which seemed to lie between these bounds: it is only looked at if that may be
-// at most `at`.
+// Returns a bound of the value that a reply seems to have, on its side of `at`. Looks at the reply only if it may be at
+// most `at` by `seen`, what it seemed to have before.
 fn least_of<C: Cells, O: Observer<C>>(
     reply: &Solved,
     seen: Interval,
@@ -131,7 +131,8 @@ fn least_of<C: Cells, O: Observer<C>>(
     glance_after_move(reply, at, cells, observer)
 }
 
-// What another worker has told of the root: whether a reply seems to have at most `at`. That one comes to the front.
+// Takes over what another worker told of the root: whether a reply seems to have at most `at`. Moves that reply to the
+// front. Returns `at`, or `at + 1` if there is none.
 fn told<C: Cells, O: Observer<C>>(
     replies: &mut [Solved],
     at: i8,
@@ -155,7 +156,8 @@ fn told<C: Cells, O: Observer<C>>(
     at
 }
 
-// The value that the board after a root's move seems to have: a bound on its side of `alpha`.
+// Returns a bound, on its side of `alpha`, of the value that the board after a root's move seems to have: what another
+// worker told, or else by a glance at all its moves.
 fn glance_after_move<C: Cells, O: Observer<C>>(
     reply: &Solved,
     alpha: i8,
@@ -177,7 +179,7 @@ fn glance_after_move<C: Cells, O: Observer<C>>(
     found
 }
 
-// The value that is told where a value seems to be above `alpha` or not.
+// The bound of a value that seems to be above `alpha`, or not: `alpha + 1`, or `alpha`.
 fn beside(alpha: i8, is_above: bool) -> i8
     requires { IsThreshold alpha }
     ensures { IsScore result }
@@ -185,7 +187,7 @@ fn beside(alpha: i8, is_above: bool) -> i8
     if is_above { alpha + 1 } else { alpha }
 }
 
-// The same of the board by all its moves, or those after a forced pass.
+// As `glance_after_move`, but always glances: at all moves of the board, or at those after a forced pass.
 fn glance_all<C: Cells, O: Observer<C>>(
     board: &Board,
     alpha: i8,
@@ -208,7 +210,7 @@ fn glance_all<C: Cells, O: Observer<C>>(
     board.final_score(scoring)
 }
 
-// The same of a board whose mover has a move. At first a board that another worker is at is left to it.
+// As `glance_all`, of a board whose mover has a move. In the first round defers children that another worker is at.
 fn glance_at_all_moves<C: Cells, O: Observer<C>>(
     node: Node,
     alpha: i8,
@@ -246,7 +248,8 @@ fn glance_at_all_moves<C: Cells, O: Observer<C>>(
     best
 }
 
-// The value that the board after a reply to a root's move seems to have: a bound on its side of `alpha`.
+// Returns a bound, on its side of `alpha`, of the value that the board after a reply to a root's move seems to have:
+// what another worker told, or else by `seeming_value`.
 fn glance_after_reply<C: Cells, O: Observer<C>>(
     board: Board,
     alpha: i8,
@@ -268,7 +271,7 @@ fn glance_after_reply<C: Cells, O: Observer<C>>(
     found
 }
 
-// How much a glance sees: so many plies, and so many moves of the first board.
+// How far a glance sees: `plies` plies, and `width` moves of the first board.
 #[derive(Clone, Copy)]
 struct Sight {
     plies: u8,
@@ -276,7 +279,8 @@ struct Sight {
 }
 
 impl Sight {
-    // Of a board after a reply: so many plies that boards of few empty squares are searched in full.
+    // The sight from a board after a reply: as many plies as lead to boards of few empty squares, which are searched in
+    // full.
     fn after_reply(board: &Board) -> Sight {
         let plies = board.empties().saturating_sub(MOST_EMPTIES_IN_FULL);
         Sight {
@@ -289,7 +293,7 @@ impl Sight {
         }
     }
 
-    // A ply on.
+    // The sight one ply on.
     fn below(self) -> Sight
         requires { 0 < self.plies }
         ensures { result.plies < self.plies }
@@ -301,8 +305,8 @@ impl Sight {
     }
 }
 
-/// The value that the board after a reply to a root's move seems to have, by a search of few moves: a bound on its side
-/// of `alpha`, -64 to 63. No answer depends on it.
+/// Returns a bound, on its side of `alpha` (-64 to 63), of the value that the board after a reply to a root's move
+/// seems to have, by the selective search. No answer depends on it.
 pub fn seeming_value<C: Cells>(board: Board, alpha: i8, cells: &mut C, scoring: Scoring) -> i8
     requires { IsThreshold alpha }
     ensures score { IsScore result }
@@ -312,7 +316,7 @@ pub fn seeming_value<C: Cells>(board: Board, alpha: i8, cells: &mut C, scoring: 
     glance(Node::of(board), alpha, sight, cells, scoring)
 }
 
-// The same of any board.
+// As `seeming_value`, of any node, as far as `sight` goes.
 #[cycle(glancing)]
 fn glance<C: Cells>(node: Node, alpha: i8, sight: Sight, cells: &mut C, scoring: Scoring) -> i8
     requires { IsThreshold alpha }
@@ -332,7 +336,7 @@ fn glance<C: Cells>(node: Node, alpha: i8, sight: Sight, cells: &mut C, scoring:
     node.board.final_score(scoring)
 }
 
-// The same by the moves that are ranked first.
+// As `glance`, of a node whose mover has a move: by the `sight.width` best-ranked moves.
 #[cycle(glancing)]
 fn glance_at_moves<C: Cells>(
     node: Node,
@@ -368,7 +372,7 @@ fn glance_at_moves<C: Cells>(
     best
 }
 
-// The children of a board with their ranks.
+// The children of a board with their ranks, as many as are ranked.
 fn ranked(node: &Node) -> ArrayVec<Child, MOST_RANKED>
     ensures { All (IsChild node.now.board) result.items }
 {

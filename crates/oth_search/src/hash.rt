@@ -8,7 +8,7 @@ pub const OWN_FACTOR: u64 = 0x9e37_79b9_7f4a_7c15;
 /// The factor of the opposing discs: odd, and unlike the other one (a prime of the hash XXH64).
 pub const OPPOSING_FACTOR: u64 = 0xc2b2_ae3d_27d4_eb4f;
 
-/// The hash of a board, of which the highest bits depend on all squares.
+/// The hash of a board, 64 bits, of which the highest depend on all squares.
 #[inline(always)]
 pub fn board_hash(board: &Board) -> u64 {
     let own = board.own().wrapping_mul(OWN_FACTOR);

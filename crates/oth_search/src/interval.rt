@@ -55,7 +55,7 @@ impl Interval {
         self.lower == self.upper || self.lower >= beta || self.upper <= alpha
     }
 
-    /// The same bounds as the opponent sees them.
+    /// The bounds as the opponent sees them.
     pub fn turned(self) -> Interval
         ensures lower { result.lower ≡ neg_ℤ self.upper }
         ensures upper { result.upper ≡ neg_ℤ self.lower }

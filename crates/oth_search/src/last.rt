@@ -36,7 +36,8 @@ struct Four {
     d: Square,
 }
 
-/// A bound of the value, where at most four squares are empty. Those in an odd quadrant are tried first.
+/// As `nws`, of a board with at most four empty squares, and `None` if it has more. Squares of odd quadrants are tried
+/// first.
 pub fn nws_last(board: Twin, empties: Empties, alpha: i8, scoring: Scoring) -> Option<i8>
     requires threshold { IsThreshold alpha }
     requires empties { empties.all ≡ word_of (is_empty board) }
@@ -83,7 +84,7 @@ fn last_one(board: Board, a: Square, scoring: Scoring) -> i8
     board.final_score(scoring)
 }
 
-// What a move to the only empty square comes to, which is the same under each scoring; none where it is illegal.
+// The score of a move to the only empty square, which is equal under each scoring; `None` if the move is illegal.
 #[inline(always)]
 fn last_reply(board: &Board, a: Square) -> Option<i8>
     requires { Leaves board.now (a ∷ []) }
@@ -98,8 +99,8 @@ fn last_reply(board: &Board, a: Square) -> Option<i8>
     Some(half + half)
 }
 
-// The value of a board with these two empty squares, against `alpha`. Inline, since most of the time is spent here; the
-// pass stands apart, without which it would be too long for that.
+// A bound of the value of a board with these two empty squares, on its side of `alpha`. Inline, since most of the time
+// is spent here. The pass is kept out of line: with it this would be too long to stand inline.
 #[inline(always)]
 fn last_two(board: Twin, alpha: i8, a: Square, b: Square, scoring: Scoring) -> i8
     requires threshold { IsThreshold alpha }
@@ -129,7 +130,7 @@ fn passed_two(board: Twin, alpha: i8, a: Square, b: Square, scoring: Scoring) ->
     board.board().final_score(scoring)
 }
 
-// The best of the mover's moves to them, if there is a legal one.
+// The score of the best move to these squares, as a bound on its side of `alpha`; `NO_MOVE` if none is legal.
 #[inline(always)]
 fn moves_two(board: Twin, alpha: i8, a: Square, b: Square, scoring: Scoring) -> i8
     requires threshold { IsThreshold alpha }
@@ -143,7 +144,7 @@ fn moves_two(board: Twin, alpha: i8, a: Square, b: Square, scoring: Scoring) -> 
     greater(best, reply_one(board, alpha, b, a, scoring))
 }
 
-// A move to `square`, with one more empty square.
+// The score of a move to `square`, after which `a` alone is empty; `NO_MOVE` if it is illegal.
 #[inline(always)]
 fn reply_one(board: Twin, alpha: i8, square: Square, a: Square, scoring: Scoring) -> i8
     requires threshold { IsThreshold alpha }
@@ -156,7 +157,7 @@ fn reply_one(board: Twin, alpha: i8, square: Square, a: Square, scoring: Scoring
     -last_one(board.play_flipped(square, flips).board(), a, scoring)
 }
 
-// The same, of three squares.
+// As `last_two`, of three empty squares.
 fn last_three(board: Twin, alpha: i8, a: Square, b: Square, c: Square, scoring: Scoring) -> i8
     requires threshold { IsThreshold alpha }
     requires last { Leaves board (a ∷ b ∷ c ∷ []) }
@@ -174,7 +175,7 @@ fn last_three(board: Twin, alpha: i8, a: Square, b: Square, c: Square, scoring: 
     board.board().final_score(scoring)
 }
 
-// The same, where a square alone in its quadrant is tried first. Who moves there moves last there.
+// As `last_three`, but a square that is alone in its quadrant is tried first. Who moves there moves last there.
 #[inline(always)]
 fn last_three_by_quadrants(board: Twin, alpha: i8, squares: Three, scoring: Scoring) -> i8
     requires threshold { IsThreshold alpha }
@@ -191,7 +192,7 @@ fn last_three_by_quadrants(board: Twin, alpha: i8, squares: Three, scoring: Scor
     last_three(board, alpha, a, b, c, scoring)
 }
 
-// The best of the moves to three squares.
+// As `moves_two`, of three squares.
 #[inline(always)]
 fn moves_three(board: Twin, alpha: i8, a: Square, b: Square, c: Square, scoring: Scoring) -> i8
     requires threshold { IsThreshold alpha }
@@ -209,7 +210,7 @@ fn moves_three(board: Twin, alpha: i8, a: Square, b: Square, c: Square, scoring:
     greater(best, reply_two(board, alpha, c, a, b, scoring))
 }
 
-// A move to `square`, with two more empty squares.
+// As `reply_one`, with two more empty squares.
 #[inline(always)]
 fn reply_two(board: Twin, alpha: i8, square: Square, a: Square, b: Square, scoring: Scoring) -> i8
     requires threshold { IsThreshold alpha }
@@ -222,7 +223,7 @@ fn reply_two(board: Twin, alpha: i8, square: Square, a: Square, b: Square, scori
     -last_two(board.play_flipped(square, flips), -alpha - 1, a, b, scoring)
 }
 
-// The same, of four squares.
+// As `last_two`, of four empty squares.
 fn last_four(board: Twin, alpha: i8, squares: &Four, scoring: Scoring) -> i8
     requires threshold { IsThreshold alpha }
     requires last { Leaves board (squares.now.a ∷ squares.now.b ∷ squares.now.c ∷ squares.now.d ∷ []) }
@@ -240,7 +241,7 @@ fn last_four(board: Twin, alpha: i8, squares: &Four, scoring: Scoring) -> i8
     board.board().final_score(scoring)
 }
 
-// The best of the moves to four squares.
+// As `moves_two`, of four squares.
 #[inline(always)]
 fn moves_four(board: Twin, alpha: i8, squares: &Four, scoring: Scoring) -> i8
     requires threshold { IsThreshold alpha }
@@ -272,7 +273,7 @@ fn moves_four(board: Twin, alpha: i8, squares: &Four, scoring: Scoring) -> i8
     )
 }
 
-// A move to `square`, with three more empty squares.
+// As `reply_one`, with three more empty squares.
 #[inline(always)]
 fn reply_three(board: Twin, alpha: i8, square: Square, rest: Three, scoring: Scoring) -> i8
     requires threshold { IsThreshold alpha }

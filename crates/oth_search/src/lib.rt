@@ -1,4 +1,7 @@
 //! The search by one thread: null windows, principal variation, move ordering, and bounds true by their types.
+//! Contracts leave free what is searched first and what is kept, since that affects speed only: the order of moves,
+//! ranks and evaluations, guesses, the hooks of `Company` and `Observer`, what tables forget, and the numbers of
+//! `tuning`.
 #![tactic(auto)]
 
 mod answer;

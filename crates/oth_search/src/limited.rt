@@ -1,4 +1,4 @@
-//! A search that may be ended before it is done.
+//! A search that may be stopped: it ends when its table look-ups are spent.
 ghost use Rattle.std.specs.Prelude.{◌≡◌, IfOk, IfErr, true, false};
 ghost use Rattle.oth_rules.specs.Position.{pass};
 ghost use Rattle.oth_rules.specs.Move.{can_move};
@@ -19,17 +19,17 @@ use oth_rules::{Board, Scoring};
 use std::alloc::Global;
 use thiserror::Error;
 
-/// Cells that may be asked a number of times. A search over them can be ended when that is spent.
+/// Cells with a limit of look-ups. A search over them can be stopped when these are spent.
 #[derive(Drop)]
 pub struct Limited<C> {
-    /// What the boards are looked up in.
+    /// Where boards are looked up and stored.
     pub cells: C,
-    /// So many boards may still be looked up.
+    /// How many boards may still be looked up, by `look` and `recall` together.
     pub left: u64,
 }
 
 impl<C: Cells> Limited<C> {
-    /// The cells, in which so many boards may be looked up.
+    /// The cells, in which `limit` boards may be looked up.
     pub fn of(cells: C, limit: u64) -> Limited<C>
         ensures left { result.left ≡ limit }
         ensures fixed { C.fixed result.cells ≡ C.fixed cells }
@@ -73,7 +73,7 @@ impl<C: Cells> Cells for Limited<C> {
     }
 }
 
-// A search by one worker that ends when the cells are spent.
+// A search by one worker that is stopped when the look-ups are spent.
 #[derive(Clone, Copy)]
 struct UntilSpent {
     alloc: Global,
@@ -106,15 +106,15 @@ impl<C: Cells> Observer<Limited<C>> for UntilSpent {
     }
 }
 
-/// A search was ended before it was done, and by then this was known of its board.
+/// A search was stopped before it was done; `known` is what was known of its board by then.
 #[derive(Clone, Copy, PartialEq, Eq, Debug, Error)]
 #[error("the search was ended before it was done")]
 pub struct Stopped {
     pub known: Solved,
 }
 
-/// The answer of a board by a search over the cells, or else what is known of the board when they are spent. The search
-/// ends at the next board of 11 and more empty squares, so somewhat later than they are.
+/// The answer of a board by a search over the cells, or what is known of the board if the look-ups are spent before.
+/// The search stops at the next board of 11 and more empty squares, so somewhat later than they are spent.
 pub fn solve_until<C: Cells>(
     alloc: Global,
     board: &Board,
@@ -136,7 +136,7 @@ pub fn solve_until<C: Cells>(
     solve_past_until(alloc, board, cells, scoring)
 }
 
-// The same, where the mover must pass.
+// As `solve_until`, of a board whose mover must pass.
 fn solve_past_until<C: Cells>(
     alloc: Global,
     board: &Board,
@@ -158,7 +158,7 @@ fn solve_past_until<C: Cells>(
     }
 }
 
-// The same, where the mover has a move.
+// As `solve_until`, of a board whose mover has a move.
 fn solve_moves_until<C: Cells>(
     alloc: Global,
     board: Board,

@@ -1,5 +1,5 @@
-//! Looks of a few plies at boards of many empty squares, for move ordering: a search by null windows over the
-//! evaluation of boards in place of their scores. No answer depends on it.
+//! The look ahead of the move ordering, a few plies on boards of many empty squares: alpha-beta over the evaluations of
+//! boards in place of their scores.
 ghost use Rattle.std.specs.Prelude.{◌≡◌, ◌<◌, false};
 
 use crate::child::Child;
@@ -10,7 +10,7 @@ use crate::squares::without;
 use crate::tuning::MOST_LOOKED;
 use arrayvec::ArrayVec;
 
-/// Where a look is of use: what the mover has at least already, and what is enough.
+/// The window of a look: `least`, what the mover already has, and `enough`, from where on the look ends.
 #[derive(Clone, Copy)]
 pub struct Span {
     least: Evaluation,
@@ -18,7 +18,7 @@ pub struct Span {
 }
 
 impl Span {
-    /// From the worst one on.
+    /// The window from the worst evaluation up to `enough`.
     pub fn up_to(enough: Evaluation) -> Span {
         Span {
             least: Evaluation::WORST,
@@ -26,7 +26,7 @@ impl Span {
         }
     }
 
-    // The same for the opponent.
+    // The window as the opponent sees it.
     fn turned(self) -> Span {
         Span {
             least: self.enough.turned(),
@@ -34,7 +34,7 @@ impl Span {
         }
     }
 
-    // The same, where the mover has this.
+    // The window once the mover has `found`.
     fn having(self, found: Evaluation) -> Span {
         Span {
             least: self.least.better(found),
@@ -43,7 +43,7 @@ impl Span {
     }
 }
 
-/// What a board seems to be worth for its mover after so many plies, 1 to 64. Less exact outside the span.
+/// Evaluates a node for its mover after `plies` plies, at least one. Less exact outside `span`.
 #[cycle(looking)]
 pub fn look(node: Node, plies: u8, span: Span) -> Evaluation {
     if node.moves != 0 {
@@ -56,7 +56,7 @@ pub fn look(node: Node, plies: u8, span: Span) -> Evaluation {
     by_discs(&node.board)
 }
 
-// The same by its moves, those first that leave the opponent little.
+// As `look`, of a node whose mover has a move, the best-ranked moves first.
 #[cycle(looking)]
 fn look_at_moves(node: Node, plies: u8, span: Span) -> Evaluation {
     if plies < 2 {

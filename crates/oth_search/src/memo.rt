@@ -1,4 +1,4 @@
-//! Local hash tables of boards that were searched lately, and cells that have one.
+//! Local hash tables, and cells that have some beside them.
 ghost use Rattle.std.specs.Prelude.{◌≡◌, ◌<◌, ◌≤◌, IfSome, IsNone, vec_len};
 
 use crate::cells::{Cells, NoCells};
@@ -10,9 +10,9 @@ use crate::tuning::{FOLD, PLACES, SHIFT, large_last_below, last_below};
 use oth_rules::{Board, Scoring};
 use std::alloc::{AllocError, Global};
 
-/// What was found of boards lately, each at the place of its hash, where a later one takes the place of an earlier one.
-/// Nothing is promised of what is remembered, but that it is true. It has 24 bytes a place of the heap, and none of the
-/// stack.
+/// A local hash table: bounds of boards, each at the place of its hash, where a later one overwrites an earlier one.
+/// What is stored may be lost, and what is returned is true. It takes 24 bytes of the heap for each place, and none of
+/// the stack.
 #[derive(Drop)]
 pub struct Memo {
     places: Vec<Solved>,
@@ -22,19 +22,19 @@ pub struct Memo {
 }
 
 impl Memo {
-    /// Nothing is remembered. For the search of a board with so many empty squares: up to 15 it has 4,096 places, and
-    /// else 8,192. Refused where there is no memory for it.
+    /// Makes an empty table for a search from a root of `empties` empty squares: 4,096 places up to 15, else 8,192.
+    /// Refused if there is no memory for it.
     pub fn below(alloc: Global, empties: u8) -> Result<Memo, AllocError> {
         Memo::with_last(alloc, last_below(empties))
     }
 
-    /// The same for boards with more than a few empty squares: 65,536 places up to 19, 262,144 for 20 and 21, and else
-    /// 1,048,576, which are 24 MB.
+    /// Makes an empty table for boards of more empty squares in a search from such a root: 65,536 places up to 19,
+    /// 262,144 for 20 and 21, else 1,048,576, which are 24 MB. Refused if there is no memory for it.
     pub fn large_below(alloc: Global, empties: u8) -> Result<Memo, AllocError> {
         Memo::with_last(alloc, large_last_below(empties))
     }
 
-    // With this greatest place.
+    // Makes an empty table with this greatest place.
     fn with_last(alloc: Global, last: usize) -> Result<Memo, AllocError>
         requires { last < 1048576 }
     {
@@ -42,26 +42,26 @@ impl Memo {
         Ok(Memo { places, last })
     }
 
-    /// What is remembered of the board under this scoring.
+    /// Returns what the table has of the board under this scoring.
     pub fn recall(&self, board: &Board, scoring: Scoring) -> Option<Solved>
         ensures asked { IfSome result (λ s. (s.board ≡ board.now) × (s.scoring ≡ scoring)) }
     {
         told_by(&self.places[place(board, self.last)], board, scoring)
     }
 
-    /// Remembers these bounds, and forgets what was at their place.
+    /// Stores these bounds, and so overwrites what was at their place.
     pub fn remember(&mut self, solved: &Solved) {
         let place = place(&solved.board, self.last);
         self.places[place] = *solved;
     }
 }
 
-// What a place has where nothing is remembered.
+// What an empty place holds.
 fn blank() -> Solved {
     Solved::unknown(Board::default(), Scoring::Winner)
 }
 
-// What is kept, if it is of the board and under this scoring.
+// Returns what a place holds, if it is of the board and under this scoring.
 fn told_by(kept: &Solved, board: &Board, scoring: Scoring) -> Option<Solved>
     ensures asked { IfSome result (λ s. (s.board ≡ board.now) × (s.scoring ≡ scoring)) }
 {
@@ -71,7 +71,7 @@ fn told_by(kept: &Solved, board: &Board, scoring: Scoring) -> Option<Solved>
     None
 }
 
-// The place of a board, where the greatest one is one less than a power of two.
+// The place of a board. The greatest one, `last`, is one less than a power of two.
 #[tactic(auto, using(std::proofs::lemmas::Nat::and_le_r))]
 fn place(board: &Board, last: usize) -> usize
     ensures { result ≤ last }
@@ -80,17 +80,16 @@ fn place(board: &Board, last: usize) -> usize
     ((hash ^ (hash >> FOLD)) >> SHIFT) as usize & last
 }
 
-/// Cells with memories beside them, where boards are remembered for which those are meant. All others are looked up in
-/// the cells.
+/// Cells with local tables beside them. Boards for which those are meant go there, and all others to the cells.
 #[derive(Drop)]
 pub struct MemoCells<C> {
-    /// What all other boards are looked up in.
+    /// Where all other boards are looked up and stored.
     pub cells: C,
     memories: Memories,
 }
 
 impl<C: Cells> MemoCells<C> {
-    /// These cells, and these memories.
+    /// The cells, with these local tables.
     pub fn of(cells: C, memories: Memories) -> MemoCells<C>
         ensures { result.cells ≡ cells }
     {
@@ -107,7 +106,7 @@ impl<C: Cells> MemoCells<C> {
 }
 
 impl MemoCells<NoCells> {
-    /// Memories alone, for a search without a table by one thread. Nothing is remembered. The root has so many empty
+    /// Empty local tables without a transposition table, for a search by one thread from a root of `empties` empty
     /// squares.
     pub fn alone(alloc: Global, empties: u8) -> MemoCells<NoCells> {
         MemoCells::of(NoCells, Memories::of(alloc, empties, true))
@@ -140,14 +139,14 @@ impl<C: Cells> Cells for MemoCells<C> {
     }
 }
 
-/// Cells that keep no entry, with a memory that takes 96 KB of the stack.
+/// A local table that takes 96 KB of the stack, without a transposition table.
 #[derive(Drop)]
 pub struct StackCells {
     places: [Solved; PLACES],
 }
 
 impl StackCells {
-    /// Nothing is remembered.
+    /// An empty table.
     pub fn new() -> StackCells {
         StackCells {
             places: [blank(); PLACES],

@@ -1,4 +1,4 @@
-//! The local hash tables of one search: of boards with few empty squares, and of those with more.
+//! The local hash tables of one search: one for boards with few empty squares, one for boards with more.
 ghost use Rattle.std.specs.Prelude.{◌≡◌, IfSome};
 
 use crate::memo::Memo;
@@ -10,25 +10,25 @@ use crate::tuning::{
 use oth_rules::{Board, Scoring};
 use std::alloc::Global;
 
-/// What one search remembers: boards of 5 to 8 empty squares where the root has at least 10, and boards of 9 to 14
-/// where it has at least 18 and no other search could learn of them. Each memory is made when the first board is to be
-/// remembered, so by the thread that searches; where there is no room for it the search goes on without. Both together
-/// take at most 25 MB.
+/// The local tables of one search: one for boards of 5 to 8 empty squares if the root has at least 10, and one for
+/// boards of 9 to 14 if it has at least 18 and no other search could use what this one finds. The first store makes
+/// them, so the thread that searches does; a table that there is no memory for is left out. Both together take at most
+/// 25 MB.
 #[derive(Drop)]
 pub struct Memories {
     alloc: Global,
     root: u8,
     few: Option<Memo>,
     more: Option<Memo>,
-    // Whether they are still to be made.
+    // Whether the tables are still to be made.
     is_wanted: bool,
-    // Whether boards of 9 to 14 empty squares are remembered.
+    // Whether boards of 9 to 14 empty squares go to the second table.
     has_more: bool,
 }
 
 impl Memories {
-    /// Nothing is remembered yet. The root has so many empty squares, and no other search learns what this one finds,
-    /// or others do.
+    /// Tables, still empty, for a root of `root` empty squares. `is_alone`: no other search can use what this one
+    /// finds.
     pub fn of(alloc: Global, root: u8, is_alone: bool) -> Memories {
         Memories {
             alloc,
@@ -40,12 +40,12 @@ impl Memories {
         }
     }
 
-    /// Whether boards with so many empty squares, 9 and more, are remembered.
+    /// Whether boards of `empties` empty squares (9 and more) go to the second table.
     pub fn remembers(&self, empties: u8) -> bool {
         self.has_more && empties < FEWEST_EMPTIES_IN_TABLE
     }
 
-    /// What is remembered of the board under this scoring.
+    /// Returns what the board's table has of it under this scoring.
     pub fn recall(&self, board: &Board, scoring: Scoring) -> Option<Solved>
         ensures asked { IfSome result (λ s. (s.board ≡ board.now) × (s.scoring ≡ scoring)) }
     {
@@ -60,7 +60,7 @@ impl Memories {
         }
     }
 
-    /// Remembers these bounds, if there is room for a memory.
+    /// Stores these bounds in their board's table, if there is one.
     pub fn remember(&mut self, solved: &Solved) {
         if self.is_wanted {
             self.make();
@@ -75,7 +75,7 @@ impl Memories {
         }
     }
 
-    // Makes the memories, if there is room for them.
+    // Makes the tables, as far as there is memory for them.
     #[cold]
     #[inline(never)]
     fn make(&mut self) {
@@ -88,7 +88,7 @@ impl Memories {
     }
 }
 
-/// Whether a memory pays where so many squares are empty at the root.
+/// Whether a local table pays for a root of `empties` empty squares.
 pub fn is_remembered(empties: u8) -> bool {
     empties >= FEWEST_ROOT_EMPTIES_REMEMBERED
 }

@@ -1,6 +1,6 @@
-//! Searches of many plies by null windows, each of which asks its company at each board: a board that another worker is
-//! at is left to it at first, as in ABDADA (J.-C. Weill, The ABDADA distributed minimax search algorithm, 1996), and
-//! what is of no more use is given up.
+//! The shared search: null windows over a tree that several workers search, with the hooks of `Company` at each node. A
+//! child that another worker is at is deferred, as in ABDADA (J.-C. Weill, The ABDADA distributed minimax search
+//! algorithm, 1996), and a search that is of no more use is given up.
 ghost use Rattle.std.specs.Prelude.{◌≡◌, pos, negsuc, ◌≤ℤ◌, false};
 ghost use Rattle.oth_rules.specs.Move.{can_move};
 
@@ -18,7 +18,8 @@ use oth_rules::{Board, Scoring, Square};
 use std::alloc::Global;
 
 impl Solved {
-    /// The board with closer bounds, by a search over its moves. They decide the window unless the search is given up.
+    /// The board with closer bounds, by a shared search of its moves. They decide the window unless the search is given
+    /// up, or there is no memory for its list of children.
     pub fn narrowed_in<C: Cells, H: Company<C>>(
         &self,
         window: NullWindow,
@@ -39,7 +40,8 @@ impl Solved {
     }
 }
 
-// Bounds of the board's value, by a search of at most so many plies. They decide the window unless it is given up.
+// Bounds of the board's value, by a shared search at most `plies` plies deep. They decide the window as `narrowed_in`
+// says.
 #[cycle(narrowing)]
 fn narrow<C: Cells, H: Company<C>>(
     asked: &Solved,
@@ -72,7 +74,7 @@ fn narrow<C: Cells, H: Company<C>>(
     found.joined(&Solved::looked_up(&board, cells, asked.scoring))
 }
 
-// The same of a board whose mover has no move.
+// As `narrow`, of a board whose mover has no move.
 #[cycle(narrowing)]
 fn narrow_past<C: Cells, H: Company<C>>(
     asked: &Solved,
@@ -101,19 +103,19 @@ struct Node {
     board: Board,
     scoring: Scoring,
     window: NullWindow,
-    // How many of the moves are searched whether or not another worker is at them, and whether others may be left.
+    // How many moves are searched even if another worker is at them, and whether later ones may be deferred.
     together: usize,
     leaves: bool,
-    // The moves that are searched, the first of the best, and the score that it gives.
+    // The moves searched so far, the first of the best among them, and the score that it gives.
     searched: u64,
     best: Square,
     score: i8,
-    // What is known of the boards after them, or after a forced pass there.
+    // The bounds of the boards after them, or of the boards after a forced pass there.
     children: Vec<Solved>,
 }
 
 impl Node {
-    // A board whose moves are about to be searched.
+    // The node of a board whose moves are about to be searched.
     fn of(asked: &Solved, window: NullWindow, together: usize, alloc: Global) -> Node
         ensures board { result.board ≡ asked.now.board }
         ensures scoring { result.scoring ≡ asked.now.scoring }
@@ -131,12 +133,12 @@ impl Node {
         }
     }
 
-    // Whether a board after a move may be left to another worker.
+    // Whether the search of this child may be deferred.
     fn may_leave(&self, child: &Board, fewest: u8) -> bool {
         self.leaves && (child.empties() < fewest || self.children.len() >= self.together)
     }
 
-    // Takes in what was found of the board after a move.
+    // Takes in the bounds of the board after a move.
     fn take(&mut self, square: Square, solved: Solved)
         ensures board { self.new.board ≡ self.old.board }
         ensures scoring { self.new.scoring ≡ self.old.scoring }
@@ -149,7 +151,7 @@ impl Node {
         let _ = self.children.push(solved.awake());
     }
 
-    // The board, of which nothing is known.
+    // The board, with all scores as its bounds.
     fn unknown(&self) -> Solved
         ensures board { result.board ≡ self.now.board }
         ensures scoring { result.scoring ≡ self.now.scoring }
@@ -158,7 +160,7 @@ impl Node {
     }
 }
 
-// Bounds of the board's value by its moves, below which so many plies are searched.
+// Bounds of the board's value by its moves, each of which is searched at most `plies` plies deep.
 #[cycle(narrowing)]
 fn narrow_moves<C: Cells, H: Company<C>>(
     asked: &Solved,
@@ -192,7 +194,7 @@ fn narrow_moves<C: Cells, H: Company<C>>(
     solved
 }
 
-// What the cells tell of the board by one of the boards after its moves, if that decides the window.
+// Enhanced transposition cutoff: the bound of the board that a child's entry gives, if that decides the window.
 fn decided_by_child<C: Cells>(asked: &Solved, window: NullWindow, cells: &mut C) -> Option<Solved>
     ensures fixed { C.fixed cells.new ≡ C.fixed cells.old }
 {
@@ -209,7 +211,8 @@ fn decided_by_child<C: Cells>(asked: &Solved, window: NullWindow, cells: &mut C)
     None
 }
 
-// One round through the moves. What is found of the board, if no further move is to be searched.
+// Makes one round through the moves not searched yet. Returns bounds of the board once no further move is to be
+// searched.
 #[cycle(narrowing)]
 fn visit_all<C: Cells, H: Company<C>>(
     node: &mut Node,
@@ -231,7 +234,8 @@ fn visit_all<C: Cells, H: Company<C>>(
     None
 }
 
-// Searches one move, unless it is left to another worker.
+// Searches one move, unless it is deferred. Returns bounds of the board if no further move is to be searched: after a
+// cutoff, or all scores if the search is given up.
 #[cycle(narrowing)]
 fn visit<C: Cells, H: Company<C>>(
     node: &mut Node,
@@ -262,7 +266,7 @@ fn visit<C: Cells, H: Company<C>>(
     None
 }
 
-// The upper bound.
+// The upper bound, with its range.
 fn upper_of(solved: &Solved) -> i8
     ensures low { negsuc 63 ≤ℤ result }
     ensures high { result ≤ℤ pos 64 }
@@ -270,7 +274,7 @@ fn upper_of(solved: &Solved) -> i8
     solved.interval.upper
 }
 
-// What a reply that is good enough tells of the board, which is put into the cells.
+// The bound of the board that a child's bounds give, which it stores in the cells.
 fn lifted<C: Cells>(board: &Board, square: Square, reply: &Solved, cells: &mut C) -> Solved
     ensures fixed { C.fixed cells.new ≡ C.fixed cells.old }
 {
@@ -283,7 +287,7 @@ fn lifted<C: Cells>(board: &Board, square: Square, reply: &Solved, cells: &mut C
     }
 }
 
-/// Puts what was found into the cells, if that is anything.
+/// Stores these bounds in the cells, unless they are all scores.
 pub fn put<C: Cells>(solved: &Solved, cells: &mut C)
     ensures fixed { C.fixed cells.new ≡ C.fixed cells.old }
 {

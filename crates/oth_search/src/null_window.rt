@@ -7,7 +7,7 @@ use crate::interval::Interval;
 use crate::solved::Solved;
 use oth_rules::{Board, Scoring};
 
-/// A null window: what a search is to decide is whether a value is above `alpha`, -64 to 63, or not.
+/// A null window: the search is to decide whether a value is above `alpha`, -64 to 63, or not.
 #[derive(Clone, Copy)]
 pub struct NullWindow {
     pub alpha: i8,
@@ -24,14 +24,14 @@ impl NullWindow {
         NullWindow { alpha: score - 1 }
     }
 
-    /// The same window as the opponent sees it.
+    /// The window as the opponent sees it.
     pub fn turned(self) -> NullWindow {
         NullWindow {
             alpha: -self.alpha - 1,
         }
     }
 
-    /// Whether a value of at least this score is above it.
+    /// Whether a value of at least `score` is above the window.
     pub fn is_reached(self, score: i8) -> bool {
         score > self.alpha
     }

@@ -1,4 +1,4 @@
-//! Who hears how the search of a root's moves goes on, tells what others found, and may end it.
+//! The hooks of the root driver.
 ghost use Rattle.std.specs.Prelude.{◌≡◌, negsuc, pos, ◌≤ℤ◌};
 ghost use Rattle.oth_rules.specs.Laws.{IsScore};
 ghost use Rattle.oth_search.specs.Interval.{IsThreshold};
@@ -9,16 +9,17 @@ use crate::pace::Pace;
 use crate::solved::Solved;
 use oth_rules::Board;
 
-/// Hears of the searches of the boards after a root's moves, in the thread that searches, and says how they are made.
-/// By default nothing is done, nobody else searches, and each question is searched to the end. No answer depends on it.
+/// Hooks of the root driver, called in the thread that searches: they hear of the searches of the boards after a root's
+/// moves, tell what other workers found, and choose how such a board is searched. By default one worker searches alone,
+/// each null window to its end. No answer depends on them.
 pub trait Observer<C: Cells> {
     /// A search of the board after a move is about to begin.
     fn before(&mut self, _child: &Board) {}
 
-    /// That search has ended, and this is known of the boards after all moves.
+    /// That search has ended; `replies` has the bounds of the boards after all moves by now.
     fn after(&mut self, _child: &Board, _replies: &[Solved]) {}
 
-    /// What is known of the board after a move by now, whoever found it.
+    /// Returns what is known of the board after a move by now, whoever found it.
     fn hear(&mut self, known: &Solved, _cells: &mut C) -> Solved
         ensures board { result.board ≡ known.now.board }
         ensures scoring { result.scoring ≡ known.now.scoring }
@@ -27,7 +28,7 @@ pub trait Observer<C: Cells> {
         *known
     }
 
-    /// The least value that a board after a move is known to have at most, whoever found it: this one, or less.
+    /// Returns the least upper bound that is known of any board after a move, whoever found it: `own`, or less.
     fn best(&mut self, own: i8) -> i8
         requires { IsScore own }
         ensures { IsScore result }
@@ -40,8 +41,8 @@ pub trait Observer<C: Cells> {
         false
     }
 
-    /// The threshold that is asked next of a value between these bounds, where no better value is known: they were
-    /// first asked for the start.
+    /// Returns the threshold of the next null window for a value between `bounds`, where no better move is known.
+    /// `start` was the first threshold of all.
     fn next(&mut self, bounds: Interval, start: i8, pace: Pace) -> i8
         requires { IsThreshold start }
         ensures low { negsuc 64 ≤ℤ result }
@@ -50,8 +51,8 @@ pub trait Observer<C: Cells> {
         pace.onward(bounds, start)
     }
 
-    /// Closer bounds of the board after a move. They tell whether its value is above `alpha`, unless the search is
-    /// ended early.
+    /// Returns closer bounds of the board after a move. They decide whether its value is above `alpha`, unless the
+    /// search ends early.
     fn decide(&mut self, known: &Solved, alpha: i8, cells: &mut C) -> Solved
         requires low { negsuc 64 ≤ℤ alpha }
         requires high { alpha ≤ℤ pos 64 }
@@ -64,30 +65,30 @@ pub trait Observer<C: Cells> {
         known.decided_at(alpha, cells)
     }
 
-    /// Whether the board seems to have more than `alpha`, if another worker has told it while a first guess is made.
+    /// During a first guess: whether the board seems to have more than `alpha`, if another worker told it.
     fn seen(&mut self, _board: &Board, _alpha: i8) -> Option<bool>
         requires { IsThreshold _alpha }
     {
         None
     }
 
-    /// Tells the others whether the board seems to have more than `alpha`.
+    /// During a first guess: tells the others whether the board seems to have more than `alpha`.
     fn tell_seen(&mut self, _board: &Board, _alpha: i8, _is_above: bool)
         requires { IsThreshold _alpha }
     {}
 
-    /// Whether another worker is at the board, so that it is left to that one at first.
+    /// During a first guess: whether the board is deferred, since another worker is at it.
     fn is_left(&mut self, _board: &Board) -> bool {
         false
     }
 
-    /// A look at the board begins, while a first guess is made.
+    /// During a first guess: a look at the board begins.
     fn begin(&mut self, _board: &Board) {}
 
     /// That look has ended.
     fn end(&mut self, _board: &Board) {}
 
-    /// Whether no further question is to be asked.
+    /// Whether the search ends, with no further null window.
     fn is_over(&self, _cells: &C) -> bool {
         false
     }

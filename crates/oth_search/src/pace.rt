@@ -1,11 +1,11 @@
-//! How far beyond what is known of a value a search for it asks next.
+//! How far from a known bound of a value the next null window lies.
 ghost use Rattle.std.specs.Prelude.{pos, ◌≤ℤ◌, ◌<ℤ◌};
 ghost use Rattle.oth_search.specs.Interval.{IsThreshold};
 
 use crate::interval::{Interval, greater, lesser};
 use crate::tuning::WIDEST_STEP;
 
-/// The step from a bound of a value to the threshold that is asked next: 1, 3, 7 and so on, up to 63 discs.
+/// The step from a bound of a value to the next threshold, in discs: 1, 3, 7, 15, 31, 63.
 #[derive(Clone, Copy)]
 pub struct Pace {
     pub step: i8,
@@ -13,12 +13,12 @@ pub struct Pace {
 }
 
 impl Pace {
-    /// Nothing has been asked.
+    /// The first step, 1.
     pub fn new() -> Pace {
         Pace { step: 1 }
     }
 
-    /// After a question. Steps widen as long as they lead on.
+    /// The step after a null window: the next wider one if that led on, else 1.
     pub fn after(self, leads_on: bool) -> Pace {
         let step = self.step;
         if !leads_on {
@@ -39,8 +39,7 @@ impl Pace {
         greater(bounds.lower, bounds.upper - self.step)
     }
 
-    /// The same, or where nothing is known to be reached the start, or a step above the lower bound where that is
-    /// higher.
+    /// As `below`. While the upper bound is 64: `start`, or a step above the lower bound if that is above `start`.
     pub fn onward(self, bounds: Interval, start: i8) -> i8
         requires { IsThreshold start }
         ensures { IsThreshold result }

@@ -1,4 +1,4 @@
-//! The quadrants of the board, for parity in move ordering. No answer depends on them.
+//! The quadrants of the board, for parity in move ordering.
 
 use crate::squares::FIRST_QUADRANT;
 use oth_rules::Square;

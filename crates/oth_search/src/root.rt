@@ -1,8 +1,9 @@
-//! What a search finds of the boards after the moves of a root, so far that the best moves are told from the rest. The
-//! replies are asked for a first guess until one has it; that one is searched to its value by null windows ever further
-//! below what is known of it, as in MTD(f) (Plaat, Schaeffer, Pijls and de Bruin, Best-first fixed-depth minimax
-//! algorithms, 1996); each other one is asked whether it is worse, and takes its place where it is better. One worker
-//! and several search by these functions: what workers tell each other is the observer's.
+//! The root driver. Keeps bounds of each root move, and narrows them by null windows until every move is exact or known
+//! to be worse than the best. The moves are asked at a first guess until one reaches it. That one is searched to its
+//! value by null windows ever further below its upper bound, as in MTD(f) (Plaat, Schaeffer, Pijls and de Bruin,
+//! Best-first fixed-depth minimax algorithms, 1996). Each other one is asked whether it is worse, and leads from then
+//! on where it is better. One worker and several search by these functions: what workers tell each other goes through
+//! the observer.
 ghost use Rattle.std.specs.Prelude.{◌≡◌, ◌<◌, ◌≤◌, ◌≤ℤ◌, ◌<ℤ◌, pos, negsuc, length};
 ghost use Rattle.oth_rules.specs.Laws.{IsScore};
 ghost use Rattle.oth_search.specs.Interval.{IsThreshold};
@@ -19,24 +20,24 @@ use crate::tuning::{FEWEST_EMPTIES_GUESSED, LEAD_ROUNDS, MOST_IN_VAIN};
 use arrayvec::ArrayVec;
 use oth_rules::{Board, Scoring, Square};
 
-// Each question of a value leaves fewer of the 129 scores.
+// Null windows of one search for a value, at the most: each leaves fewer of the 129 scores.
 const MOST_QUESTIONS: u8 = 128;
 
-/// What is asked of the boards after a root's moves.
+/// What the search of the boards after a root's moves is to find.
 #[derive(Clone, Copy)]
 pub struct Quest {
-    /// The value that they are first asked for.
+    /// The threshold that they are first asked at.
     pub start: i8,
-    /// A value that one of them is known to have at most.
+    /// An upper bound that one of them is known to have.
     pub limit: i8,
-    /// Whether each that is as good as the best is told from the rest: without it the best value alone is asked for.
+    /// Whether each move that is as good as the best is told from the rest. Without it only the best value is wanted.
     pub tells_ties: bool,
     pub ghost range: { IsThreshold start × IsScore limit },
 }
 
 impl Quest {
-    // Above this value a reply is settled, where one is known to have at most the best: a reply that has it itself may
-    // be wanted or not.
+    // A child whose value is above this needs no more search, where one is known to have at most `best`: `best` itself
+    // if ties are wanted, else one less.
     fn bar(self, best: i8) -> i8
         requires { IsScore best }
         ensures low { negsuc 64 ≤ℤ result }
@@ -46,10 +47,10 @@ impl Quest {
     }
 }
 
-/// The boards after the root's moves, each with bounds of its value. One with the best score is searched to its value,
-/// and each other so far that it is exact or worse. Where `known` tells as much of a board, it is not searched. The
-/// observer hears of each search of one of them; it hears nothing of a guess of the score, which comes first where many
-/// squares are empty, and settles nothing.
+/// The boards after the root's moves, with bounds: one with the best score is searched to its value, and each other
+/// until it is exact or worse, unless the observer ends the search. A board of which `known` tells as much is not
+/// searched. The observer hears of each search of such a board by `before` and `after`. The first guess, which comes
+/// before them where many squares are empty, calls neither.
 pub fn settle_moves<C: Cells, O: Observer<C>>(
     root: &Solved,
     known: &[Solved],
@@ -68,13 +69,13 @@ pub fn settle_moves<C: Cells, O: Observer<C>>(
     replies
 }
 
-/// The boards after the root's moves, in their order, with what is known of each.
+/// The boards after the root's moves, in move order, each with what is `known` of it.
 pub(crate) fn replies_of(root: &Solved, known: &[Solved]) -> ArrayVec<Solved, 64> {
     let squares = order(&root.board);
     replies_to(&root.board, squares.as_slice(), known, root.scoring)
 }
 
-/// The boards after these moves of the root, as far as they are legal, with what is known of each.
+/// The boards after the legal ones of these moves of the root, each with what is `known` of it.
 pub fn replies_to(
     root: &Board,
     squares: &[Square],
@@ -90,8 +91,8 @@ pub fn replies_to(
     replies
 }
 
-/// The value that a reply is first asked for: what is known to be reached, or else a guess where many squares are
-/// empty, of which the observer hears nothing but what guesses tell each other. No answer depends on it.
+/// The threshold of the first null window: the best known bound if there is one, else a guess from 12 empty squares on,
+/// else 0. Of the guess the observer hears only what guesses tell each other.
 pub fn first_threshold<C: Cells, O: Observer<C>>(
     root: &Solved,
     replies: &mut [Solved],
@@ -113,7 +114,7 @@ pub fn first_threshold<C: Cells, O: Observer<C>>(
     lesser(63, guess(&root.board, replies, 0, cells, observer))
 }
 
-/// Narrows what is known of the replies until it answers what is asked.
+/// Narrows the bounds of `replies` until they answer `quest`: of the leader first, then of each other reply.
 pub(crate) fn settle<C: Cells, O: Observer<C>>(
     replies: &mut [Solved],
     quest: Quest,
@@ -130,8 +131,9 @@ pub(crate) fn settle<C: Cells, O: Observer<C>>(
     }
 }
 
-/// Asks the replies for the value that they are first asked for, until some value is known to be reached. Where none
-/// has so little they are asked for more: the value that was asked for last.
+/// Asks the replies at the threshold `quest.start`, and while all are above it at higher ones, until an upper bound
+/// below 64 is known of one or the search is over. Returns the threshold of that round, or after `LEAD_ROUNDS` rounds
+/// the one that would come next.
 pub fn lead<C: Cells, O: Observer<C>>(
     replies: &mut [Solved],
     quest: Quest,
@@ -154,7 +156,7 @@ pub fn lead<C: Cells, O: Observer<C>>(
     start
 }
 
-// The threshold so much above this score.
+// The threshold `step` above this score, at most 63.
 fn raised(least: i8, step: i8) -> i8
     requires least { IsScore least }
     requires shortest { pos 0 ≤ℤ step }
@@ -164,7 +166,8 @@ fn raised(least: i8, step: i8) -> i8
     lesser(63, least + step)
 }
 
-// Asks each reply whether it has at most this value, until some value is known to be reached, or the search is over.
+// Asks each reply whether it has at most `most`, until an upper bound below 64 is known of one or the search is over.
+// Returns whether that came.
 fn ask_all<C: Cells, O: Observer<C>>(
     replies: &mut [Solved],
     most: i8,
@@ -192,7 +195,8 @@ fn ask_all<C: Cells, O: Observer<C>>(
     best(replies, limit, observer) < 64
 }
 
-/// Narrows what is known of the reply at this place until it is exact or worse than the best, or nobody needs it.
+/// Narrows the bounds of the reply at `place` until it is exact or worse than the best, or nobody needs it. The
+/// observer hears of it, unless nothing is to be searched.
 pub fn settle_at<C: Cells, O: Observer<C>>(
     replies: &mut [Solved],
     place: usize,
@@ -217,7 +221,8 @@ pub fn settle_at<C: Cells, O: Observer<C>>(
     observer.after(&known.board, &*replies);
 }
 
-// The same, of which the observer hears.
+// Narrows the bounds of the reply at `place`, by one null window after the other, as `settle_at` promises. Gives up
+// after `MOST_IN_VAIN` null windows that told nothing new.
 fn pursue<C: Cells, O: Observer<C>>(
     replies: &mut [Solved],
     place: usize,
@@ -230,7 +235,7 @@ fn pursue<C: Cells, O: Observer<C>>(
     ensures fixed { C.fixed cells.new ≡ C.fixed cells.old }
 {
     let mut pace = Pace::new();
-    // What the others were found to have at most. Steps widen below it.
+    // The best upper bound of the others when the reply was last compared with it. Steps widen only below it.
     let mut edge = 65;
     let mut vain = 0u8;
     for _ in 0..MOST_QUESTIONS {
@@ -262,12 +267,12 @@ fn pursue<C: Cells, O: Observer<C>>(
     }
 }
 
-// Whether a question led on: to less, or to more where nothing is known to be reached.
+// Whether a null window led on: the upper bound is lower than before, or still 64.
 fn leads_on(before: Interval, after: Interval) -> bool {
     after.upper < before.upper || after.upper == 64
 }
 
-// A value that one of the replies is known to have at most, by whoever searched it.
+// The least upper bound that is known of a reply, whoever searched it: `limit`, or less.
 fn best<C: Cells, O: Observer<C>>(replies: &[Solved], limit: i8, observer: &mut O) -> i8
     requires { IsScore limit }
     ensures { IsScore result }

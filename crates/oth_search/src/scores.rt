@@ -37,8 +37,7 @@ pub struct Scores {
 }
 
 impl Scores {
-    /// The scores of the moves of an answer's board. What `known` tells exactly of the boards after them is not
-    /// searched.
+    /// Scores the moves of the answer's board. A board after a move is not searched if `known` has its exact value.
     pub fn of<C: Cells>(answer: Answer, known: &[Solved], cells: &mut C) -> Scores
         ensures answer { result.answer ≡ answer }
         ensures fixed { C.fixed cells.new ≡ C.fixed cells.old }
@@ -135,7 +134,8 @@ pub fn answer_by<C: Cells>(
     solve_moves(root, known, cells, &mut Unobserved)
 }
 
-// The boards after the moves of a board, each with its value, those first that leave the opponent little.
+// The boards after the moves of a board, each with its exact value, in move order. The search of each starts from the
+// score of the one before.
 fn exact_replies<C: Cells>(board: &Board, cells: &mut C, scoring: Scoring) -> ArrayVec<Solved, 64>
     ensures fixed { C.fixed cells.new ≡ C.fixed cells.old }
 {

@@ -1,4 +1,4 @@
-//! Searches over all scores, over a window, and of one threshold; and what the cells tell without one.
+//! Searches of a window and of one threshold, and table look-ups without a search.
 ghost use Rattle.std.specs.Prelude.{◌≡◌, ℤ, ◌<◌, pos, ◌+ℤ◌};
 ghost use Rattle.oth_rules.specs.Score.{score_of};
 ghost use Rattle.oth_rules.specs.Value.{value};
@@ -14,8 +14,8 @@ use crate::window::search_window;
 use oth_rules::{Board, Scoring};
 
 /// Bounds of the value of the board that decide the window `alpha..beta`, `-65 <= alpha < beta <= 65`: they are one
-/// number, or the lower is at least `beta`, or the upper at most `alpha`. Unless the board is over it is first looked
-/// up in its canonical form, and what was found is put unless the entry decided.
+/// number, or the lower is at least `beta`, or the upper at most `alpha`. Unless the board is over, it is first looked
+/// up in its canonical form, and if the entry doesn't decide, what a search finds is stored.
 pub fn search<C: Cells>(
     board: &Board,
     alpha: i8,
@@ -64,7 +64,7 @@ impl Solved {
         }
     }
 
-    /// The board with bounds that tell on which side of `alpha` its value lies, by a search with no other question.
+    /// The board with bounds that decide whether its value is above `alpha`, by one null-window search.
     pub fn by_null_window<C: Cells>(
         board: &Board,
         alpha: i8,
@@ -96,8 +96,8 @@ impl Solved {
     }
 }
 
-// Narrows what is known of the canonical image until it decides the window, by a search of the board. What that finds
-// is the answer of a null-window search at `low`, and of one just below `high`.
+// Narrows `known`, the bounds of the canonical image, until they decide the window, by a search of the board. What that
+// finds is a bound at both edges: what a null window at `low` could find, and one just below `high`.
 fn narrow<C: Cells>(board: Board, known: Solved, alpha: i8, beta: i8, cells: &mut C) -> Solved
     requires window { IsWindow alpha beta }
     requires open { IsOpen known.interval.lower known.interval.upper alpha beta }

@@ -110,8 +110,8 @@ impl Solved {
         self.scoring
     }
 
-    /// Whether no more is asked of the board, where nothing above the bar matters: its value is known, or that it is
-    /// above the bar.
+    /// Whether the board needs no more search, where values above `bar` are all alike: its value is exact, or known to
+    /// be above `bar`.
     pub fn is_settled(&self, bar: i8) -> bool
         ensures { IsTrue result ↔ ((self.now.interval.lower ≡ self.now.interval.upper)
             ⊎ (bar <ℤ self.now.interval.lower)) }
@@ -119,7 +119,7 @@ impl Solved {
         self.interval.lower == self.interval.upper || self.interval.lower > bar
     }
 
-    /// The same board with wider bounds; `None` exactly if they leave -64..64 or do not contain the old ones.
+    /// The board with wider bounds; `None` exactly if they leave -64..64 or do not contain the old ones.
     pub fn widen(&self, lower: i8, upper: i8) -> Option<Solved>
         ensures variant { IsSome result ↔ IsWider self.now.interval.lower self.now.interval.upper lower upper }
         ensures board { IfSome result (λ s. (s.board ≡ self.now.board) × (s.scoring ≡ self.now.scoring)) }
@@ -196,7 +196,7 @@ impl Solved {
         }
     }
 
-    /// Of the board after a forced pass, what is known of the one before it.
+    /// The board after a forced pass, with the bounds that the ones before it give.
     pub fn passed(&self) -> Solved
         requires none { can_move self.now.board ≡ false }
         requires some { can_move (pass self.now.board) ≡ true }
@@ -212,7 +212,7 @@ impl Solved {
         }
     }
 
-    /// The same of the board after a forced pass, where there is one.
+    /// As `passed` where the mover must pass, else this board and its bounds.
     pub(crate) fn awake(&self) -> Solved
         ensures scoring { result.scoring ≡ self.now.scoring }
     {
@@ -223,7 +223,7 @@ impl Solved {
         }
     }
 
-    /// Of a board whose mover must pass, what is known of the one after the pass.
+    /// `board`, whose mover must pass, with the bounds that those of this board, the one after the pass, give.
     pub fn before_pass(&self, board: &Board) -> Solved
         requires passed { self.now.board ≡ pass board.now }
         requires none { can_move board.now ≡ false }

@@ -59,8 +59,8 @@ fn solve_without_table(board: Board, scoring: Scoring) -> Answer
     }
 }
 
-// The same, with a memory for boards of few empty squares, which takes time to make, and 96 KB of the stack: so it
-// stands apart.
+// As `solve_without_table`, with a local table. That takes time to make and 96 KB of the stack, so it is kept out of
+// line.
 #[inline(never)]
 fn solve_remembering(board: Board, scoring: Scoring) -> Answer
     ensures board { result.board ≡ board }
@@ -128,9 +128,9 @@ pub fn before_pass(board: Board, passed: Answer) -> Answer
     }
 }
 
-/// The answer of a root whose mover has a move. `known` may tell of the boards after the root's moves: such a board is
-/// searched only where that leaves open whether its move is exact or worse than the score. The observer hears of each
-/// search of such a board.
+/// The answer of a root whose mover has a move. A board after a move is searched only where `known` leaves open whether
+/// the move is exact or worse than the score. The observer hears of these searches; where it ends them early, the rest
+/// is searched without it.
 pub fn solve_moves<C: Cells, O: Observer<C>>(
     root: Solved,
     known: &[Solved],
@@ -165,8 +165,8 @@ fn raised(root: Solved, replies: &[Solved]) -> Solved
     closer
 }
 
-// The score of a root and the moves that reach it. The score starts at the root's lower bound, and only moves that
-// reach it and of which too little is known are searched to the end.
+// The score of a root and the moves that reach it. The score starts at the root's lower bound, and a move is searched
+// only where too little is known of it.
 fn best_moves<C: Cells>(root: Solved, replies: &[Solved], cells: &mut C) -> Answer
     requires { can_move root.board ≡ true }
     ensures board { result.board ≡ root.board }
@@ -198,7 +198,7 @@ fn best_moves<C: Cells>(root: Solved, replies: &[Solved], cells: &mut C) -> Answ
     }
 }
 
-// The value of a board, or a lower bound of it above the limit: by what is known, or else by a search.
+// Bounds of a board, exact if its value is at most `limit`, else above `limit`: those in `known`, or else by a search.
 fn reply_below<C: Cells>(
     board: &Board,
     limit: i8,

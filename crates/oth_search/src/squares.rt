@@ -13,7 +13,7 @@ pub fn first(set: u64) -> Square
     Square::first_of(set)
 }
 
-/// A square of the set: the least of those that are early, or else the least.
+/// A square of the set: the least of those that are in `early` too, or else the least.
 pub fn preferred(set: u64, early: u64) -> Square
     requires { set ≢ 0 }
     ensures { In set result }
@@ -23,8 +23,7 @@ pub fn preferred(set: u64, early: u64) -> Square
     Square::first_of(both | set & all_or_none)
 }
 
-/// The quadrants of the board with an odd number of these squares. Who moves into such a quadrant tends to move last
-/// there.
+/// The quadrants of the board with an odd number of the squares of `set`. Who moves into one tends to move last there.
 pub fn odd_quadrants(set: u64) -> u64 {
     let pairs = set ^ (set >> 1);
     let half_rows = pairs ^ (pairs >> 2);
@@ -56,7 +55,7 @@ pub fn without(set: u64, square: Square) -> u64
     set & !square.word()
 }
 
-/// The set and a square.
+/// The set with the square added.
 pub fn with(set: u64, square: Square) -> u64
     ensures { With set square result }
 {

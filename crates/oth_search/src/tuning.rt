@@ -1,5 +1,5 @@
-//! The numbers that choose how fast the search is. No answer depends on one, and no contract names one. What each was
-//! measured to bring stands in docs/TUNING.md.
+//! The numbers that choose how fast the search is. No answer depends on one, and no public contract names one. What
+//! each was measured to bring stands in docs/TUNING.md.
 ghost use Rattle.std.specs.Prelude.{◌<◌};
 
 // ---- Which nodes are searched how, by their empty squares
@@ -67,10 +67,11 @@ pub(crate) const CORNER_MOVE: u16 = 16;
 /// Points of each empty square beside an opposing disc: potential mobility.
 pub(crate) const OPEN_TO_MOVER: u16 = 3;
 
-/// Points of each corner that is taken.
+/// Points of each corner that the mover holds.
 pub(crate) const CORNER_TAKEN: u16 = 20;
 
-/// Points of each disc that stands along an edge in one row with a corner of its own, so that it is never flipped.
+/// Points of each disc that stands along an edge in an unbroken row from a corner of its own, so that it is never
+/// flipped.
 pub(crate) const STABLE_EDGE_DISC: u16 = 10;
 
 /// Points of each opposing disc on the X square of an empty corner, which may give that corner away.
@@ -108,7 +109,7 @@ pub(crate) const PLACES: usize = 4096;
 /// squares.
 pub(crate) const SHIFT: u32 = 44;
 
-/// Bits: a place in a small table takes in the bits of the hash that stand so far above as well.
+/// Bits: the hash is folded onto itself shifted by this, so that a place in a small table depends on higher bits too.
 pub(crate) const FOLD: u32 = 8;
 
 /// Empty squares: from here on a position belongs to the second local table, so that the many positions of few empty
@@ -136,7 +137,7 @@ pub(crate) fn last_below(empties: u8) -> usize
     }
 }
 
-/// The last place of the second one: 65,536, 262,144 or 1,048,576 entries.
+/// The last place of the second local table: 65,536, 262,144 or 1,048,576 entries.
 pub(crate) fn large_last_below(empties: u8) -> usize
     ensures { result < 1048576 }
 {
@@ -155,7 +156,7 @@ pub(crate) const FEWEST_EMPTIES_GUESSED: u8 = 12;
 /// Empty squares: up to here the selective search goes through all moves.
 pub(crate) const MOST_EMPTIES_IN_FULL: u8 = 6;
 
-/// Moves that it tries of the position after a reply, where many plies follow.
+/// Moves that it tries of the board after a reply, if at least `MANY_PLIES` plies follow.
 pub(crate) const WIDTH_AT_FIRST: usize = 3;
 
 /// Moves that it tries at each further node.
@@ -170,30 +171,32 @@ pub(crate) const MOST_RANKED: usize = 12;
 /// Empty squares: from here on it ranks children by their evaluation.
 pub(crate) const FEWEST_EMPTIES_GUESS_LOOKED: u8 = 13;
 
-/// Empty squares: at nodes with more the guess looks no further ahead than at one with so many, which is a ply. Looks
-/// of more plies make it dearer and no nearer.
+/// Empty squares: at nodes with more, the guess evaluates children as far ahead as at a node of this many, which is a
+/// ply. Looks of more plies make it dearer and no nearer.
 pub(crate) const MOST_EMPTIES_GUESS_LOOKED: u8 = 14;
 
 /// Null windows of one guess, at the most.
 pub(crate) const GUESS_ROUNDS: u8 = 12;
 
-/// Rounds through the moves of a node of the guess: a move that another worker is at is left to it in the first.
+/// Rounds through the moves of a node of the guess: in the first, moves that another worker is at are deferred.
 pub(crate) const TURNS: u8 = 2;
 
-/// Discs that a guess leaves open: to close them takes longer than it saves.
+/// Discs that a guess leaves open: it ends where its bounds are no further apart. To close them takes longer than it
+/// saves.
 pub(crate) const GUESS_CLOSE: i8 = 3;
 
 /// Discs: the first step of a guess away from where it starts, which doubles each time.
 pub(crate) const FIRST_GUESS_STEP: i8 = 8;
 
-/// Rounds: how often a first guess that no move reaches is lowered, first to the most that the root may still reach.
+/// Rounds: how often a first guess that no move reaches is lowered, the first time to the most that the root may still
+/// reach.
 pub(crate) const LEAD_ROUNDS: u8 = 6;
 
-/// Questions of a root move that may bring nothing new before a worker leaves it to the others. One worker has none.
+/// Null windows of a root move that may bring nothing new before a worker leaves it to the others. One worker has none.
 pub(crate) const MOST_IN_VAIN: u8 = 4;
 
-/// Empty squares: up to here the score of the sibling before starts the search of a child, where the scores of all
-/// moves are asked for. Beyond it a guess that starts there is nearer.
+/// Empty squares: up to here, where the scores of all moves are asked for, the search of a child starts at the score of
+/// the sibling before. Beyond it a guess that starts there is nearer.
 pub(crate) const MOST_EMPTIES_BY_SIBLING: u8 = 13;
 
 /// Discs: the widest step from one null window to the next of a search for a value.

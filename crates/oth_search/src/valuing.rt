@@ -13,10 +13,10 @@ use crate::solved::Solved;
 use crate::tuning::MOST_EMPTIES_BY_SIBLING;
 use arrayvec::ArrayVec;
 
-/// The board with its value, by what is known of it and a search. Of the boards after its moves one is searched to its
-/// value, and each other only so far that it is no better for the mover. The observer hears of each search of one of
-/// them. A sibling, a board after another move of the same parent, tells which score is asked for first, or where a
-/// guess of it starts: that of siblings is often near. No value depends on it.
+/// The board with its exact value, by what is known of it and a search. One of the boards after its moves is searched
+/// to its value, and each other until it is known to be no better for the mover. The observer hears of each search of
+/// one of them. `sibling`, a board after another move of the same parent, tells where the search starts: siblings often
+/// have scores near each other.
 pub fn value_of<C: Cells, O: Observer<C>>(
     known: &Solved,
     sibling: Option<&Solved>,
@@ -34,7 +34,8 @@ pub fn value_of<C: Cells, O: Observer<C>>(
     known.joined(&told).exact(cells)
 }
 
-// The score of a sibling, as the side sees it that moves first on this board.
+// The score of a sibling, as the side sees it that moves first on this board: with its sign turned if the mover must
+// pass.
 fn likely_score(known: &Solved, sibling: Option<&Solved>) -> Option<i8>
     ensures { IfSome result IsScore }
 {
@@ -46,7 +47,7 @@ fn likely_score(known: &Solved, sibling: Option<&Solved>) -> Option<i8>
     })
 }
 
-// The boards after the root's moves, with bounds that tell the root's value, which is likely to be near this score.
+// The boards after the root's moves, with bounds that tell the root's value. The search starts near `likely`.
 fn settled_replies<C: Cells, O: Observer<C>>(
     root: &Solved,
     likely: Option<i8>,
@@ -66,8 +67,8 @@ fn settled_replies<C: Cells, O: Observer<C>>(
     replies
 }
 
-// The value that a reply is first asked for: by the root's likely score where few squares are empty, by a guess from
-// there where many are, and as `start` tells where no score is likely.
+// The first threshold: the sibling's score up to 13 empty squares, beyond that a guess that starts there, and
+// `first_threshold` where there is no sibling.
 fn first_asked<C: Cells, O: Observer<C>>(
     root: &Solved,
     replies: &mut [Solved],

@@ -12,7 +12,7 @@ use crate::interval::greater;
 use crate::ordering::order;
 use oth_rules::{Board, Scoring};
 
-/// The value if it lies inside the window, else a bound of it on its side.
+/// Returns the value if it lies inside the window, else a bound of it on its side of the window.
 #[cycle(window)]
 pub fn search_window<C: Cells>(
     board: Board,
@@ -35,7 +35,7 @@ pub fn search_window<C: Cells>(
     board.final_score(scoring)
 }
 
-// The same, where the mover has a move.
+// As `search_window`, of a board whose mover has a move.
 #[cycle(window)]
 fn search_moves<C: Cells>(board: Board, alpha: i8, beta: i8, cells: &mut C, scoring: Scoring) -> i8
     requires window { IsInner alpha beta }
@@ -64,7 +64,8 @@ fn search_moves<C: Cells>(board: Board, alpha: i8, beta: i8, cells: &mut C, scor
     best
 }
 
-// What a move to this board gives: a later move is opened only where a null-window search lies inside the window.
+// The score of the move to `child`. The first move is searched with the whole window, each later one with a null
+// window, and again only if what that finds lies inside the window.
 #[cycle(window)]
 fn search_reply<C: Cells>(
     child: Board,
