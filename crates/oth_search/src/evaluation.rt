@@ -98,7 +98,7 @@ fn plies_ahead(empties: u8) -> u8 {
     }
 }
 
-// Evaluates a child a ply ahead. After a forced pass it evaluates the board as it stands, and at the end its discs.
+// Evaluates a child a ply ahead: after a forced pass the board as it stands, and a finished game by its discs.
 fn a_ply_ahead(child: &Board, moves: u64, enough: Evaluation) -> Evaluation {
     if moves != 0 {
         return look_past_moves(child, moves, enough);

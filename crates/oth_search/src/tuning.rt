@@ -1,5 +1,5 @@
-//! The numbers that choose how fast the search is. No answer depends on one, and no public contract names one. What
-//! each was measured to bring stands in docs/TUNING.md.
+//! The numbers that choose how fast the search is. No public contract names one. What each was measured to bring stands
+//! in docs/TUNING.md.
 ghost use Rattle.std.specs.Prelude.{◌<◌};
 
 // ---- Which nodes are searched how, by their empty squares

@@ -6,10 +6,10 @@ use oth_search::{MemoCells, Memories};
 use oth_table::TableCells;
 use std::alloc::Global;
 
-/// What one worker keeps entries in: cells of the table where there is one, and memories of its own.
+/// What one worker keeps entries in: cells of the table where there is one, and local tables of its own.
 pub type WorkerCells<'t> = MemoCells<Option<TableCells<'t>>>;
 
-/// Cells of the caller's table, where there is one and a seat of it can be had, for the search of a root with so many
+/// Cells of the caller's table, where there is one and a seat of it can be had, for the search of a root of `empties`
 /// empty squares.
 pub fn worker_cells<'t>(
     alloc: Global,

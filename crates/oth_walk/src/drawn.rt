@@ -1,6 +1,6 @@
-//! The search of drawn items, and of the moves of the root that they leave open. The first reply to a move is searched
-//! before the others are shared out: young brothers wait (Feldmann, Monien, Mysliwietz and Vornberger, Distributed
-//! game-tree search, 1989).
+//! The search of drawn items, and of the root moves that they leave open. The first reply to a move is searched before
+//! the others are shared out: young brothers wait (Feldmann, Monien, Mysliwietz and Vornberger, Distributed game-tree
+//! search, 1989).
 ghost use Rattle.std.specs.Prelude.{◌≡◌};
 
 use crate::gate::Gate;
@@ -12,7 +12,8 @@ use oth_pieces::Item;
 use oth_rules::Board;
 use oth_search::{Cells, Solved};
 
-/// Searches the item of this number, of which the gate hears, and what it leaves open of its move of the root.
+/// Searches the item of this number, of which the gate hears, and what it leaves open of its root move. Returns what is
+/// known of the item's board then.
 pub fn search_item<G: Gate, C: Cells>(
     shared: &Search,
     number: u32,
@@ -33,7 +34,7 @@ pub fn search_item<G: Gate, C: Cells>(
     found
 }
 
-// Tells the gate how far the search is, if it follows that.
+// Tells the gate how far the search is, if the gate follows that.
 fn tell<G: Gate, C: Cells>(shared: &Search, gate: &G, worker: &mut Worker<C>) {
     if gate.follows() {
         let root = worker.known_of_root();
@@ -41,7 +42,8 @@ fn tell<G: Gate, C: Cells>(shared: &Search, gate: &G, worker: &mut Worker<C>) {
     }
 }
 
-// What a worker finds of an item that comes after the move of the root.
+// Searches an item that comes after this root move, and settles the move. Returns what is known of the item's board
+// then.
 fn search_below<G: Gate, C: Cells>(
     root_move: &RootMove,
     item: &Item,
@@ -74,7 +76,7 @@ fn search_below<G: Gate, C: Cells>(
     found
 }
 
-// Settles the move of the root.
+// Settles the root move.
 fn settle<C: Cells>(root_move: &RootMove, worker: &mut Worker<C>) {
     let place = worker.place_of(&root_move.child);
     worker.settle_at(root_move.shared, place);
@@ -85,8 +87,8 @@ fn is_reply(item: &Item, root_move: &RootMove) -> bool {
     item.same_mover && item.board.can_move() && root_move.child.can_move()
 }
 
-// Settles the move, unless another worker is at it of which nothing could be learnt on the way. Until there is a floor
-// a move is only asked for what the root seems to reach: none but one that may reach it is searched to its value.
+// Where workers share no table: takes the whole move, unless another worker has it, from whom nothing could be learnt
+// on the way. Before there is a floor it asks once at the guess, and goes on only if the move may reach it.
 fn settle_alone<C: Cells>(root_move: &RootMove, worker: &mut Worker<C>) {
     if worker.is_taken(&root_move.child) {
         return;
@@ -96,7 +98,7 @@ fn settle_alone<C: Cells>(root_move: &RootMove, worker: &mut Worker<C>) {
     }
 }
 
-// Helps with the first moves of the root, up to this one.
+// Helps to settle the first `MOVES_BEFORE` root moves, as far as they come before this one.
 fn settle_before<C: Cells>(root_move: &RootMove, worker: &mut Worker<C>) {
     let places = worker.place_of(&root_move.child).min(MOVES_BEFORE);
     for place in 0..places {
@@ -118,7 +120,7 @@ fn search_elder_brother<C: Cells>(root_move: &RootMove, board: &Board, worker: &
     }
 }
 
-/// Searches what is open of the root's moves, when no item is left.
+/// Settles the root moves that are still open, when no item is left.
 pub fn settle_all<G: Gate, C: Cells>(shared: &Search, gate: &G, worker: &mut Worker<C>) {
     let rounds = if shared.shares() { SWEEPS } else { 1 };
     worker.favour(shared);
@@ -130,7 +132,7 @@ pub fn settle_all<G: Gate, C: Cells>(shared: &Search, gate: &G, worker: &mut Wor
     }
 }
 
-// Settles the move at this place, unless it is left to another worker in this round.
+// Settles the move at this place, unless it is deferred in this round.
 fn settle_in_round<C: Cells>(shared: &Search, place: usize, round: u32, worker: &mut Worker<C>) {
     let Some(known) = worker.replies.get(place).copied() else {
         return;

@@ -1,4 +1,4 @@
-//! The gate: who hears of the items of a search, and of how far it is.
+//! The gate: hooks that hear of the items of a search, and of how far it is.
 
 use oth_rules::Board;
 use oth_search::Solved;
@@ -16,8 +16,8 @@ pub trait Gate: Sync {
     /// The search of the item of this number has ended, in the same thread.
     fn after(&self, task: u32);
 
-    /// The answer of this board is the next one that is wanted. A run says so, in its own thread, of each board of a
-    /// line before its answer is found or waited for; `solve` does not.
+    /// The answer of this board is the next one that is wanted. A run calls this, in its own thread, for each board of
+    /// a line before its answer is found or waited for; `solve` does not.
     fn awaits(&self, _board: &Board) {}
 
     /// Whether `goes_on` is to be called, which takes a little time.
@@ -25,8 +25,8 @@ pub trait Gate: Sync {
         false
     }
 
-    /// So much is known of the root under search by now, and so many of its moves need no further search. Searches of
-    /// several boards may go on at once.
+    /// By now `root` holds what is known of the root under search, and `settled` of its moves need no further search.
+    /// Searches of several boards may go on at once.
     fn goes_on(&self, _root: &Solved, _settled: u64) {}
 }
 

@@ -1,9 +1,9 @@
-//! A guess of the root's score and best move, as workers tell it each other. No answer depends on it.
+//! A guess of the root's score and best move, as workers tell it each other.
 ghost use Rattle.std.specs.Prelude.{pos, negsuc, ◌≤ℤ◌};
 
 use oth_rules::Square;
 
-/// A score that the root seems to reach, from -63 on, and the move by which it seems to.
+/// A score that the root seems to reach, -63 to 64, and the move by which it seems to.
 #[derive(Clone, Copy)]
 pub(crate) struct Guess {
     pub score: i8,
@@ -12,7 +12,7 @@ pub(crate) struct Guess {
 }
 
 impl Guess {
-    /// The nearest guess to this score, by this move.
+    /// The guess of this score, or of the nearest in the range, by this move.
     pub fn of(score: i8, square: Square) -> Guess {
         Guess {
             score: score.max(-63).min(64),

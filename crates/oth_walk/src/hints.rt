@@ -19,13 +19,13 @@ use std::marker::Model;
 // The words: which of the root's moves are settled, a guess, the marks, what boards seem to have, and the orders.
 const SETTLED: usize = 0;
 
-// A guess of the root's score, raised by so much, and above it the number of the move's square, or 0 for none.
+// A guess of the root's score, raised by `GUESS_RAISED`, and above it the number of the move's square; 0 for none.
 const GUESS: usize = 1;
 
 // What is added to a guess, so that 0 says that there is none.
 const GUESS_RAISED: i16 = 65;
 
-// Above so many bits of the word stands the square.
+// The square stands above this many bits of the word.
 const GUESS_BITS: u32 = 8;
 
 // The first place of a mark.
@@ -41,7 +41,7 @@ const ORDERS: usize = SEEN + SEEN_COUNT;
 #[derive(Drop)]
 pub struct Hints {
     table: Table<u8, (), (), Anything, Global>,
-    // For so many boards an order can be kept, in two words each.
+    // How many orders there is room for, of two words each.
     orders: u16,
 }
 
@@ -54,7 +54,7 @@ impl Model for Hints {
 }
 
 impl Hints {
-    /// Hints that tell nothing yet, with room for so many orders; none where there is no memory.
+    /// Hints that tell nothing yet, with room for `orders` orders; `None` if there is no memory.
     pub fn new(alloc: Global, orders: u16) -> Option<Hints> {
         let words = zeros(alloc, ORDERS + 2 * usize::from(orders))?;
         match Table::of_words(alloc, words.as_slice(), &()) {
@@ -64,7 +64,7 @@ impl Hints {
     }
 }
 
-// So many words, if there is memory for them.
+// `count` words of 0, if there is memory for them.
 fn zeros(alloc: Global, count: usize) -> Option<Vec<u64>> {
     vec![in alloc; 0u64; count].ok()
 }
@@ -87,13 +87,13 @@ impl<'h> Place<'h> {
         Some(Place { hints, seat })
     }
 
-    // For so many boards an order can be kept.
+    // How many orders there is room for.
     fn orders(&self) -> u16 {
         let hints = self.hints;
         hints.orders
     }
 
-    // The word at this place, and 0 behind the last.
+    // The word at this place, or 0 beyond the last one.
     fn load(&mut self, word: usize) -> u64 {
         let hints = self.hints;
         if word >= hints.table.word_count() {
@@ -147,7 +147,7 @@ impl<'h> HintSeat<'h> {
         HintSeat { place: None }
     }
 
-    // The word at this place, and 0 where there is none.
+    // The word at this place, or 0 if there is none.
     fn load(&mut self, word: usize) -> u64 {
         match &mut self.place {
             Some(place) => place.load(word),
@@ -174,8 +174,8 @@ impl<'h> HintSeat<'h> {
         self.settled() & square.word() != 0
     }
 
-    /// Tells that the root's move needs no further search. Where another worker settles a move at the same time it
-    /// tries again, at most once for each square.
+    /// Tells that the root's move needs no further search. Tries again where another worker settles a move at the same
+    /// time, at most once for each square.
     pub fn settle(&mut self, square: Square) {
         for _ in 0..64 {
             let settled = self.settled();
@@ -186,7 +186,7 @@ impl<'h> HintSeat<'h> {
         }
     }
 
-    /// Which of the root's moves need no further search: their squares.
+    /// The squares of the root's moves that need no further search.
     pub fn settled(&mut self) -> u64 {
         self.load(SETTLED)
     }
@@ -269,7 +269,7 @@ impl<'h> HintSeat<'h> {
         }
     }
 
-    // The first of the two words for the order of a board with this key, if there are any.
+    // The first of the two words for the order of a board with this key, if orders are kept.
     fn order_place(&self, key: u64) -> Option<usize>
         ensures { IfSome result (λ place. place < 200000) }
     {

@@ -1,5 +1,6 @@
 //! One worker of a search: what it searches over, what it knows of the root, what it and the others tell each other,
-//! and how it settles the root's moves.
+//! and how it settles the root's moves. All of this but the bounds that are found chooses what is searched next: hints,
+//! guesses, orders and the numbers of `tuning` affect speed only.
 #![tactic(auto)]
 
 mod access;

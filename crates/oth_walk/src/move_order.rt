@@ -1,26 +1,26 @@
-//! Orders of the moves of a board, of which the first ten are told.
+//! Orders of the moves of a board, of which the first ten are kept.
 use crate::tuning::TOLD;
 use arrayvec::ArrayVec;
 use oth_rules::Square;
 
-/// Ten squares, the first to be searched lowest; the last one may stand several times.
+/// Ten squares in one word, six bits each, the first to be searched lowest. Places left over hold square 0.
 #[derive(Clone, Copy)]
 pub struct MoveOrder {
     word: u64,
 }
 
 impl MoveOrder {
-    /// The order that a word tells.
+    /// The order that this word keeps.
     pub fn of_word(word: u64) -> MoveOrder {
         MoveOrder { word }
     }
 
-    /// The word that tells the order.
+    /// The word that keeps the order.
     pub fn word(self) -> u64 {
         self.word
     }
 
-    /// An order that begins with these squares.
+    /// The order of these squares, of which the first ten are kept.
     pub fn of(squares: &[Square]) -> MoveOrder {
         let mut word = 0;
         for place in 0..TOLD {
@@ -38,7 +38,7 @@ impl MoveOrder {
         Square::numbered(((self.word >> (6 * (place % TOLD))) & 63) as u8)
     }
 
-    /// The same order, but for this square, which comes first.
+    /// This order, with the square moved to the front.
     pub fn with_first(self, first: Square) -> MoveOrder {
         let mut word = u64::from(first.number());
         let mut count = 1;
@@ -52,7 +52,7 @@ impl MoveOrder {
         MoveOrder { word }
     }
 
-    /// Each of these squares once: first those that are told, in their order, then the others, rising.
+    /// Each square of `moves` once: first those of the order, then the others, rising.
     pub fn of_moves(self, moves: u64) -> ArrayVec<Square, 64> {
         let mut squares = ArrayVec::new();
         let mut rest = moves;

@@ -1,4 +1,4 @@
-//! What a worker hears from the others and tells them while it searches the root's moves.
+//! What a worker hears from the others, and tells them, while it searches the root's moves.
 use crate::root_move::RootMove;
 use crate::shared::Search;
 use crate::way::{Walk, Way};

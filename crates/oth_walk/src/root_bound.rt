@@ -22,7 +22,7 @@ impl<'f> RootBound<'f> {
         RootBound { floor, seat }
     }
 
-    /// What the root reaches by all that is known.
+    /// The greatest score that the root is known to reach by now: the floor.
     pub(crate) fn least(&mut self) -> i8
         ensures low { negsuc 63 ≤ℤ result }
         ensures high { result ≤ℤ pos 64 }
@@ -30,12 +30,12 @@ impl<'f> RootBound<'f> {
         self.floor.read(&mut self.seat)
     }
 
-    /// What the floor tells of the root.
+    /// The root with the floor as its lower bound.
     pub(crate) fn root(&mut self) -> Solved {
         above(self.floor, &mut self.seat)
     }
 
-    /// Tells bounds of the root.
+    /// Raises the floor by these bounds of the root. Where they are of another board they change nothing.
     pub(crate) fn raise(&mut self, bound: &Solved) {
         let _ = self.floor.raise(&mut self.seat, bound);
     }

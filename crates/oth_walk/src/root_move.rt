@@ -16,7 +16,7 @@ pub struct RootMove<'s> {
 }
 
 impl<'s> RootMove<'s> {
-    /// The root's move to this square, where it is legal.
+    /// The root's move to this square, if it is legal.
     pub fn of(shared: &'s Search<'s>, square: Square) -> Option<RootMove<'s>>
         ensures legal { IsSome result ↔ IsTrue (is_legal shared.now.root square) }
         ensures search { IfSome result (λ m. m.shared.now ≡ shared.now) }
@@ -35,7 +35,8 @@ impl<'s> RootMove<'s> {
         RootMove::of(shared, shared.move_to(child)?)
     }
 
-    /// Searches a reply to the move as far as it tells something of the root, and tells the others what it alone tells.
+    /// Searches the board after a reply to the move as far as it tells something of the root, and tells the others what
+    /// follows from it alone. Returns what is known of the board then.
     pub(crate) fn search_reply<C: Cells>(&self, board: Board, worker: &mut Worker<C>) -> Solved
         ensures board { result.board ≡ board }
         ensures scoring { result.scoring ≡ self.now.shared.now.scoring }
@@ -57,8 +58,8 @@ impl<'s> RootMove<'s> {
         found
     }
 
-    // Tells the others what the solved board, one ply below the child, alone tells: of the child by the cells, and of
-    // the root by the floor.
+    // Tells the others what follows from the bounds of this board alone, one ply below the child: bounds of the child
+    // by the cells, and of the root by the floor.
     fn share<C: Cells>(&self, solved: &Solved, worker: &mut Worker<C>) {
         if solved.interval == Interval::all() {
             return;

@@ -5,8 +5,8 @@ use crate::tuning::{FEWEST_EMPTIES_GUESSED_TOGETHER, shared_empties};
 use oth_pieces::Frontier;
 use oth_rules::{Board, Scoring, Square};
 
-/// The search of one board: under which scoring it is solved, its moves in the order in which they are searched, its
-/// frontier, and how the search is shared out.
+/// The search of one board: its scoring, its moves in the order in which they are searched, its frontier, and how
+/// workers share it.
 #[derive(Clone, Copy)]
 pub struct Search<'s> {
     pub root: Board,
@@ -40,12 +40,12 @@ impl<'s> Search<'s> {
         }
     }
 
-    /// Whether workers make a guess together of where the search for the root's value starts.
+    /// Whether the workers make the first guess together.
     pub fn guesses(&self) -> bool {
         self.shares() && self.root.empties() >= FEWEST_EMPTIES_GUESSED_TOGETHER
     }
 
-    /// The move of the root after which the board stands, if there is one.
+    /// The root's move that leads to this board, if there is one.
     pub fn move_to(&self, child: &Board) -> Option<Square> {
         for square in self.squares {
             if self.root.play(*square) == Some(*child) {
@@ -55,25 +55,26 @@ impl<'s> Search<'s> {
         None
     }
 
-    /// Whether several workers learn from a table what the others found.
+    /// Whether several workers share what they find, by a table.
     pub fn shares(&self) -> bool {
         self.shape.sharing.is_over_table()
     }
 }
 
-/// Who searches, and how one learns what another found.
+/// How many workers search, and how one learns what another found.
 #[derive(Clone, Copy)]
 pub enum Sharing {
     /// One worker, from whom nobody learns.
     Alone,
-    /// Several without a table: each searches whole moves of the root, and learns no more than its floor.
+    /// Several workers without a table: each searches whole moves of the root, and learns from the others its floor
+    /// alone.
     Apart,
-    /// Several over one table.
+    /// Several workers over one table.
     OverTable,
 }
 
 impl Sharing {
-    /// Of several workers, with a table or without one.
+    /// The sharing of several workers, with a table or without one.
     pub fn of_several(has_table: bool) -> Sharing {
         if has_table {
             Sharing::OverTable
@@ -82,25 +83,25 @@ impl Sharing {
         }
     }
 
-    /// Whether each worker learns what the others find.
+    /// Whether each worker learns what the others find, by a table.
     pub fn is_over_table(self) -> bool {
         matches!(self, Sharing::OverTable)
     }
 }
 
-/// How a search is shared out.
+/// Which nodes workers share, by their empty squares, and how.
 #[derive(Clone, Copy)]
 pub struct Shape {
-    /// Boards with fewer empty squares are searched to the end by whoever is there.
+    /// Nodes of fewer empty squares are searched to the end by one worker each.
     pub fewest: u8,
-    /// The moves of boards with more empty squares are searched by several workers together for longer, since what is
-    /// searched in vain costs most there.
+    /// At nodes of more empty squares workers search more of the first moves together, before any is deferred: later
+    /// ones that are searched in vain cost most there.
     pub dealt: u8,
     pub sharing: Sharing,
 }
 
 impl Shape {
-    /// The shape of a search below a root with so many empty squares.
+    /// The shape of a search below a root of `empties` empty squares.
     pub fn of(empties: u8, sharing: Sharing) -> Shape
         ensures { result.sharing ≡ sharing }
     {

@@ -1,11 +1,11 @@
-//! The numbers that choose how fast several workers search one tree. No answer depends on one, and no contract names
-//! one. What each was measured to bring stands in docs/TUNING.md.
+//! The numbers that choose how fast several workers search one tree. No contract names one. What each was measured to
+//! bring stands in docs/TUNING.md.
 
 // ---- What workers share
 
-/// Empty squares: the smallest nodes that workers share, whose searches are deferred and given up, and the greatest of
-/// which no more than `FEW_TOGETHER` children are undeferred. Deeper roots have so many nodes that sharing small ones
-/// takes longer than it saves.
+/// Empty squares, by those of the root: the smallest nodes that workers share, so that their searches are deferred and
+/// given up, and the largest nodes at which only `FEW_TOGETHER` children are undeferred. Deeper roots have so many
+/// nodes that sharing small ones takes longer than it saves.
 pub(crate) fn shared_empties(root: u8) -> (u8, u8) {
     match root {
         0..=19 => (10, 12),
@@ -13,11 +13,11 @@ pub(crate) fn shared_empties(root: u8) -> (u8, u8) {
     }
 }
 
-/// Children that a worker searches at a large node whether or not another one is there: the most is lost there if they
-/// turn out not to matter (young brothers wait).
+/// Children that a worker searches at a large node even if another one is there (young brothers wait). Later ones that
+/// turn out not to matter cost most there.
 pub(crate) const CHILDREN_TOGETHER: usize = 2;
 
-/// The same at a small node.
+/// As `CHILDREN_TOGETHER`, at a small node.
 pub(crate) const FEW_TOGETHER: usize = 1;
 
 /// Empty squares above the smallest shared nodes: below that the last two searches under way are looked up in the
@@ -58,7 +58,8 @@ pub(crate) const FEWEST_EMPTIES_GUESSED_TOGETHER: u8 = 14;
 /// Root moves of higher rank that a worker helps to finish before its own item's: what they reach bounds its search.
 pub(crate) const MOVES_BEFORE: usize = 1;
 
-/// Rounds through the root's moves of a worker that has no item left. Until the last one it leaves moves to others.
+/// Rounds through the root's moves of a worker that has no item left. Until the last one it defers those that others
+/// are at.
 pub(crate) const SWEEPS: u32 = 3;
 
 /// The number of the last of these rounds, from 0.

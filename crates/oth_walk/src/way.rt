@@ -15,27 +15,27 @@ use oth_rules::{Board, Scoring, Square};
 use oth_search::{Cells, Company, NullWindow, Solved, order};
 use std::alloc::Global;
 
-// A search under way: the canonical image of its board, and what it is to decide.
+// A search under way: the canonical image of its board, and the null window that it is to decide.
 #[derive(Clone, Copy)]
 struct Goal {
     image: Board,
     window: NullWindow,
 }
 
-/// The floor and the hints as one worker has them, and its searches that are under way.
+/// The floor and the hints as one worker has them, and the searches that it has under way.
 #[derive(Drop)]
 pub(crate) struct Way<'w> {
     pub alloc: Global,
     root_bound: RootBound<'w>,
     pub hints: HintSeat<'w>,
-    // The boards whose searches are under way.
+    // The searches that are under way.
     goals: Vec<Goal>,
     // The root's moves that it has settled itself.
     settled: u64,
 }
 
 impl<'w> Way<'w> {
-    /// Nothing is under way.
+    /// The way of a worker with no search under way.
     pub fn of(alloc: Global, root_bound: RootBound<'w>, hints: HintSeat<'w>) -> Way<'w> {
         Way {
             alloc,
@@ -46,7 +46,7 @@ impl<'w> Way<'w> {
         }
     }
 
-    /// What the root reaches by all that is known.
+    /// The greatest score that the root is known to reach by now: the floor.
     pub fn floor(&mut self) -> i8
         ensures low { negsuc 63 ≤ℤ result }
         ensures high { result ≤ℤ pos 64 }
@@ -54,19 +54,20 @@ impl<'w> Way<'w> {
         self.root_bound.least()
     }
 
-    /// What the floor tells of the root.
+    /// The root with the floor as its lower bound.
     pub fn root(&mut self) -> Solved {
         self.root_bound.root()
     }
 
-    /// Raises the floor by what a move of the root alone tells of it.
+    /// Raises the floor by the bound of the root that this move alone gives.
     pub fn raise_by(&mut self, root_move: &RootMove, child: &Solved) {
         if let Ok(bound) = Solved::lift(&root_move.shared.root, root_move.square, child) {
             self.root_bound.raise(&bound);
         }
     }
 
-    /// Tells the others of the root's move if it needs no further search, where so much is known of the board after it.
+    /// Tells the others that the root's move needs no further search, if the bounds of its child settle it at the
+    /// floor.
     pub fn note(&mut self, root_move: &RootMove, child: &Solved) {
         let least = self.floor();
         if child.is_settled(-least) {
@@ -85,7 +86,7 @@ impl<'w> Way<'w> {
         self.hints.settle(square);
     }
 
-    /// Whether another worker has told that the board seems to have more than this.
+    /// Whether another worker has told that the board seems to have more than `alpha`.
     pub fn is_told_above(&mut self, board: &Board, alpha: i8) -> bool
         requires { IsThreshold alpha }
     {
@@ -97,7 +98,7 @@ impl<'w> Way<'w> {
         u64::from((self.settled | self.hints.settled()).count_ones())
     }
 
-    /// Each legal move of the board once, in the order in which it is searched: the one that is kept, where one is.
+    /// Each legal move of the board once, in the order in which they are searched: the order that is kept, if one is.
     pub fn order_of(&mut self, board: &Board) -> ArrayVec<Square, 64> {
         if board.empties() < FEWEST_EMPTIES_PREFERRED {
             return order(board);
@@ -112,7 +113,7 @@ impl<'w> Way<'w> {
     }
 }
 
-/// A worker's walk below a move of the root, at a floor.
+/// A worker's search below a root move, begun at the floor `least`.
 #[derive(Drop)]
 pub(crate) struct Walk<'a, 'w> {
     pub shared: &'a Search<'a>,
@@ -122,8 +123,8 @@ pub(crate) struct Walk<'a, 'w> {
 }
 
 impl<'a, 'w> Walk<'a, 'w> {
-    // So many of the last searches under way are looked up after a board with so many empty squares was searched: all
-    // only where that takes little beside the search.
+    // How many of the last searches under way are looked up once a board of `empties` empty squares was searched: all
+    // of them only where that takes little beside the search.
     fn goals_after(&self, empties: u8) -> usize {
         let fewest = self.shared.shape.fewest;
         if empties < fewest {
@@ -135,7 +136,7 @@ impl<'a, 'w> Walk<'a, 'w> {
         }
     }
 
-    // Whether the cells tell what one of so many of the last searches under way is to decide.
+    // Whether the table decides one of the last `most` searches under way.
     fn is_any_decided<C: Cells>(&self, most: usize, cells: &mut C) -> bool
         ensures fixed { C.fixed cells.new ≡ C.fixed cells.old }
     {
@@ -150,7 +151,7 @@ impl<'a, 'w> Walk<'a, 'w> {
     }
 }
 
-// Whether the cells tell what the search is to decide.
+// Whether the table decides the search.
 fn is_decided<C: Cells>(goal: &Goal, cells: &mut C, scoring: Scoring) -> bool
     ensures fixed { C.fixed cells.new ≡ C.fixed cells.old }
 {
@@ -175,7 +176,7 @@ impl<'a, 'w, C: Cells> Company<C> for Walk<'a, 'w> {
         }
     }
 
-    // Another worker seems to search the board, of which this one could learn what it finds.
+    // Another worker seems to search the board, and this one could learn what it finds.
     fn is_left(&mut self, board: &Board) -> bool {
         self.shared.shares() && self.way.hints.is_searched(board)
     }
@@ -201,8 +202,8 @@ impl<'a, 'w, C: Cells> Company<C> for Walk<'a, 'w> {
         self.way.goals.truncate(depth);
     }
 
-    // The floor has risen, the root's move is settled, or the cells tell what one of the searches under way is to
-    // decide. Without a table a search goes on at a higher floor: what it has found so far would be lost.
+    // The floor has risen, the root's move is settled, or the table decides one of the searches under way. Without a
+    // shared table a search goes on at a higher floor: what it has found by now would be lost.
     fn gives_up(&mut self, searched: &Board, cells: &mut C) -> bool {
         let most = self.goals_after(searched.empties());
         self.shared.shares() && self.way.floor() > self.least

@@ -4,9 +4,10 @@ ghost use Rattle.oth_search.specs.Interval.{IsThreshold};
 use crate::tuning::OFF;
 use oth_search::Interval;
 
-/// The threshold that is asked next of a value between these bounds, which seems to be the guess: all who know the same
-/// bounds ask the same. It is the one next to the upper bound, or further below that as the guess is far off. Where
-/// only a lower bound is known it is as far above that as that is above the guess.
+/// The next threshold for a value between `bounds` that seems to be `guess`: one below the upper bound, or lower still
+/// by what the guess is more than `OFF` above that bound, but not below the lower one. With a lower bound alone it is
+/// the guess, or where the lower bound is above that, `lower + (lower - guess) + 1`. Workers that know the same bounds
+/// ask at the same threshold.
 pub(crate) fn shared_threshold(bounds: Interval, guess: i8) -> i8
     ensures { IsThreshold result }
 {
@@ -23,7 +24,7 @@ pub(crate) fn shared_threshold(bounds: Interval, guess: i8) -> i8
     threshold(alpha)
 }
 
-// The nearest number that a null window can ask of.
+// The nearest threshold of a null window, -64 to 63.
 fn threshold(alpha: i8) -> i8
     ensures { IsThreshold result }
 {

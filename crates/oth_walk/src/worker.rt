@@ -17,19 +17,19 @@ use oth_search::{
 };
 use std::alloc::Global;
 
-/// What a worker searches over and with, and what it knows.
+/// One worker: its cells, its view of the others, and its bounds of the root's moves.
 #[derive(Drop)]
 pub struct Worker<'w, C> {
     pub(crate) cells: C,
     pub(crate) way: Way<'w>,
-    // A score that the root seems to have, and its move.
+    // The score that the root seems to have, and the move by which it seems to, once it was guessed.
     guess: Option<Guess>,
-    /// The boards after the root's moves, with what it knows of each, in the order in which they are searched.
+    /// The boards after the root's moves, with the bounds that it knows, in the order in which they are searched.
     pub replies: ArrayVec<Solved, 64>,
 }
 
 impl<'w, C: Cells> Worker<'w, C> {
-    /// A worker that has searched nothing yet. Its lists take memory as they grow; where there is none they keep less.
+    /// A worker that has searched nothing yet. Its lists take memory as they grow; if there is none they keep less.
     pub fn of(
         shared: &Search,
         alloc: Global,
@@ -45,7 +45,7 @@ impl<'w, C: Cells> Worker<'w, C> {
         }
     }
 
-    /// What the root reaches by all that is known.
+    /// The greatest score that the root is known to reach by now: the floor.
     pub fn floor(&mut self) -> i8
         ensures low { negsuc 63 ≤ℤ result }
         ensures high { result ≤ℤ pos 64 }
@@ -53,8 +53,8 @@ impl<'w, C: Cells> Worker<'w, C> {
         self.way.floor()
     }
 
-    /// Asks the root's moves for what the root seems to reach until there is a floor, the move that seems best first.
-    /// Where no move reaches it, they are asked for less.
+    /// Asks the root's moves at the guessed score until there is a floor, the move that seems best first. Where no move
+    /// reaches it, asks at lower scores.
     pub(crate) fn lead(&mut self, shared: &Search) {
         if self.floor() > -64 {
             return;
@@ -70,8 +70,7 @@ impl<'w, C: Cells> Worker<'w, C> {
         self.guess = Some(Guess::of(-asked, guess.square));
     }
 
-    /// Searches the board at this place until it is settled: its value is known, or that the root gets less than the
-    /// floor by it.
+    /// Searches the board at this place until its value is exact, or is known to give the root less than the floor.
     pub(crate) fn settle_at(&mut self, shared: &Search, place: usize) {
         let quest = self.quest(shared);
         let mut others = Others {
@@ -83,8 +82,8 @@ impl<'w, C: Cells> Worker<'w, C> {
         self.note_at(shared, place);
     }
 
-    /// Asks the root's move for what the root seems to reach, unless it is known to miss that. Whether the move may
-    /// reach it.
+    /// Searches the root's move at the guessed score, unless it is known to fall short. Returns whether it may reach
+    /// the guess.
     pub(crate) fn ask(&mut self, root_move: &RootMove) -> bool {
         let most = quest_from(self.guess(root_move.shared).score).start;
         let place = self.place_of(&root_move.child);
@@ -108,7 +107,7 @@ impl<'w, C: Cells> Worker<'w, C> {
         found.interval.lower <= most
     }
 
-    // Tells the others of the root's move to the board at this place, if it needs no further search.
+    // Tells the others that the root's move to the board at this place needs no further search, if that is so.
     fn note_at(&mut self, shared: &Search, place: usize) {
         if let Some(known) = self.replies.get(place).copied() {
             if let Some(root_move) = RootMove::to(&*shared, &known.board) {
@@ -117,7 +116,7 @@ impl<'w, C: Cells> Worker<'w, C> {
         }
     }
 
-    // What is asked of the boards after the root's moves: what the root seems to have, or the floor.
+    // The quest for the root's moves: it starts at the guessed score, or without a guess at the floor.
     fn quest(&mut self, shared: &Search) -> Quest {
         let least = self.floor();
         if least == -64 {
@@ -129,7 +128,7 @@ impl<'w, C: Cells> Worker<'w, C> {
         }
     }
 
-    // The guess that was made, or told by another worker.
+    // The guess that this worker made, or else what another one told.
     fn known_guess(&mut self) -> Option<Guess> {
         match self.guess {
             Some(guess) => Some(guess),
@@ -137,8 +136,8 @@ impl<'w, C: Cells> Worker<'w, C> {
         }
     }
 
-    /// The board, which comes after this move of the root, with closer bounds, by a search that the workers share. They
-    /// decide the window unless it is given up, as where the floor rises.
+    /// The board, which comes after this root move, with closer bounds, by a search that the workers share. They decide
+    /// the window unless the search is given up, as where the floor rises.
     pub(crate) fn narrow(
         &mut self,
         root_move: &RootMove,
@@ -157,7 +156,7 @@ impl<'w, C: Cells> Worker<'w, C> {
         known.narrowed_in(window, &mut self.cells, &mut walk)
     }
 
-    /// What is known of the root: the floor, and what the cells and this worker's own searches tell of the boards after
+    /// Bounds of the root: by the floor, and by what the table and this worker's own searches tell of the boards after
     /// its moves.
     pub(crate) fn known_of_root(&mut self) -> Solved {
         let root = self.way.root();
@@ -169,13 +168,13 @@ impl<'w, C: Cells> Worker<'w, C> {
         root.joined(&known_below(root.board, 1, children.as_slice(), root.scoring))
     }
 
-    /// What the floor tells of the root.
+    /// The root with the floor as its lower bound.
     pub fn root(&mut self) -> Solved {
         self.way.root()
     }
 
-    /// A score that the root seems to have, and its move: what was guessed before, or another worker has told, or else
-    /// a guess that is made now.
+    /// The score that the root seems to have, and its move: the guess made before or told by another worker, or else
+    /// one that is made now.
     pub(crate) fn guess(&mut self, shared: &Search) -> Guess {
         if self.known_guess().is_none() {
             self.make_guess(shared);
@@ -186,8 +185,8 @@ impl<'w, C: Cells> Worker<'w, C> {
         }
     }
 
-    // Makes a guess, together with the others where that pays, and tells it. Where the board is small for that it is a
-    // draw.
+    // Makes the guess, together with the others where that pays, and then tells them. Where workers share the search
+    // but the root is too small for that, the guess is a draw.
     fn make_guess(&mut self, shared: &Search) {
         let asked = if shared.shares() && !shared.guesses() {
             0
@@ -207,7 +206,7 @@ impl<'w, C: Cells> Worker<'w, C> {
         }
     }
 
-    // The value that a reply is first asked for, by a guess that the workers make together where they share it.
+    // The first threshold of the replies, by a guess that the workers make together where they share it.
     fn first_asked(&mut self, shared: &Search) -> i8
         ensures { IsThreshold result }
     {
@@ -220,7 +219,7 @@ impl<'w, C: Cells> Worker<'w, C> {
         first_threshold(&root, replies, &mut self.cells, &mut others)
     }
 
-    // The root's move that comes first.
+    // The root's move that is searched first.
     fn first_move(&self, shared: &Search) -> Square {
         for reply in self.replies.as_slice() {
             if let Some(square) = shared.move_to(&reply.board) {
@@ -230,7 +229,7 @@ impl<'w, C: Cells> Worker<'w, C> {
         Square::numbered(0)
     }
 
-    /// The score that the root's moves are asked for: the floor, or a guess where there is none.
+    /// The score that root moves are tested against: the floor, or the guess where there is none.
     pub(crate) fn aim(&mut self, shared: &Search) -> i8
         ensures low { negsuc 62 ≤ℤ result }
         ensures high { result ≤ℤ pos 64 }
@@ -242,7 +241,7 @@ impl<'w, C: Cells> Worker<'w, C> {
         self.guess(shared).score
     }
 
-    /// The cells, and what it knows of the boards after the root's moves, when nothing more is to be searched.
+    /// The cells, and the bounds of the boards after the root's moves, when nothing more is to be searched.
     pub fn into_parts(self) -> (C, ArrayVec<Solved, 64>) {
         (self.cells, self.replies)
     }
@@ -257,8 +256,8 @@ impl<'w, C: Cells> Worker<'w, C> {
         self.way.settled()
     }
 
-    /// Takes in bounds of the board after a root's move: the floor rises by them, and the others hear where the move
-    /// needs no further search.
+    /// Takes in bounds of the board after a root move: raises the floor by them, and tells the others if the move needs
+    /// no further search.
     pub fn keep(&mut self, root_move: &RootMove, child: &Solved) {
         let place = self.place_of(&root_move.child);
         if place < self.replies.len() {
@@ -269,7 +268,7 @@ impl<'w, C: Cells> Worker<'w, C> {
         }
     }
 
-    /// The place of the board after a root's move, or else how many there are.
+    /// The place of this board among the replies, or their number if it isn't there.
     pub(crate) fn place_of(&self, child: &Board) -> usize {
         for (place, reply) in self.replies.as_slice().iter().enumerate() {
             if reply.board == *child {
@@ -279,7 +278,7 @@ impl<'w, C: Cells> Worker<'w, C> {
         self.replies.len()
     }
 
-    /// Brings the board after the move that seems best to the front, if there is a guess.
+    /// Moves the board after the guessed move to the front of the replies, if there is a guess.
     pub(crate) fn favour(&mut self, shared: &Search) {
         if let Some(guess) = self.known_guess() {
             if let Some(child) = shared.root.play(guess.square) {
@@ -291,7 +290,7 @@ impl<'w, C: Cells> Worker<'w, C> {
         }
     }
 
-    /// What the cells tell of the board.
+    /// The bounds that the table has of the board.
     pub(crate) fn look_up(&mut self, board: &Board, scoring: Scoring) -> Solved
         ensures board { result.board ≡ board.now }
         ensures scoring { result.scoring ≡ scoring }
@@ -299,7 +298,7 @@ impl<'w, C: Cells> Worker<'w, C> {
         Solved::looked_up(board, &mut self.cells, scoring)
     }
 
-    /// Puts what was found into the cells, if that is anything.
+    /// Stores these bounds in the table, unless they are all scores.
     pub(crate) fn put(&mut self, solved: &Solved) {
         put(solved, &mut self.cells);
     }
@@ -319,13 +318,13 @@ impl<'w, C: Cells> Worker<'w, C> {
         self.way.hints.end(board);
     }
 
-    /// Each legal move of the board once, in the order in which it is searched: the one that is kept, where one is.
+    /// Each legal move of the board once, in the order in which they are searched: the order that is kept, if one is.
     pub(crate) fn order(&mut self, board: &Board) -> ArrayVec<Square, 64> {
         self.way.order_of(board)
     }
 }
 
-// Asks for this score first, -63 to 64, and for ties too.
+// Asks at this score first, -63 to 64, and for ties too.
 fn quest_from(score: i8) -> Quest
     requires low { negsuc 63 ≤ℤ score }
     requires high { score ≤ℤ pos 64 }
