@@ -2,8 +2,8 @@
 --     IsHandOf tasks hand      the hand's deque and passes are those of the tasks, and its list is what it has taken
 --     list_of hand, number_of hand, has_ended hand      what it has drawn, its place among the hands, whether it gets no more
 --     room_of hand, HaveRoom hands      for how many numbers it has room; each of them has room for those of any frontier
---     AreHandsOf tasks n hands, AreAllHands tasks hands      so many new hands of the tasks; all hands of the tasks, each at its place
---     Draws tasks old new found      the same but for the number found, which isn't in the list yet
+--     AreHandsOf tasks n hands, AreAllHands tasks hands      n new hands of the tasks; all hands of the tasks, each at its place
+--     Draws tasks old new found      the hand draws the number found, if there is one, which isn't in the list yet
 use Rattle.std.specs.Prelude.{◌≡◌, ℕ, ◌+◌, ◌%◌, ◌<◌, ◌≤◌, Bool, true, false, ◌&&◌, ◌==◌, nat_lt, if◌then◌else◌, List, [], length}
 use Rattle.std.specs.Prelude.{slice_index_or, sum_by, All, vec_len, vec_capacity, Vec, ◌⊎◌, Option, Some, option_to_list}
 use Rattle.std.specs.declared.alloc.Global.{Global}
@@ -38,7 +38,7 @@ Knows tasks deque v = (v.knows ≡ true) × ((x : ℕ) → times x v.put ≡ dea
 abbrev pub Thief : Type 0
 Thief = Stealer ℕ Global Share Deal
 
--- empty, with room for what so many hands hold
+-- empty, with room for what that many hands hold
 pub record HasRoom (hands : ℕ) (room : Parts) : Type 0 where
   pub empty : (vec_len room.owners ≡ 0) × (vec_len room.piles ≡ 0) × (vec_len room.lists ≡ 0)
   pub owners : hands ≤ vec_capacity room.owners
@@ -119,7 +119,7 @@ AreThievesOf owners thieves =
 abbrev pub KnowTheirs : List Owner → Type 0
 KnowTheirs owners = (d : ℕ) (w : Owner) → d < length owners → (worker_view (slice_index_or owners d w)).knows ≡ true
 
--- the same owner, which doesn't push any more
+-- the owner as before, which doesn't push any more
 abbrev pub StaysOwner : Owner → Owner → Type 0
 StaysOwner old new = (worker_deque new ≡ worker_deque old) × (worker_view new ≡ owner_of (worker_view old))
 

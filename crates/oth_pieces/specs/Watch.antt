@@ -34,7 +34,7 @@ pub record Goes (old new : Watcher) : Type 0 where
   pub legal : IsLegal old.root new.seen
   pub since : Since author old.name old.seen new.seen
 
--- the same, but for one further event of it, which is the last
+-- as Goes, but for one further event of the seat, which is the last
 pub record Adds (old new : Watcher) (e : Event) : Type 0 where
   pub same : IsSame old new
   pub ends : Ends old.root old.name old.seen new.seen e

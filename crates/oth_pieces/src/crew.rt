@@ -2,7 +2,7 @@
 ghost use Rattle.std.specs.Prelude.{◌↔◌, IsTrue};
 ghost use Rattle.oth_pieces.specs.Hands.{IsCrew};
 
-/// Whether so many workers may search one board: 1 to 16.
+/// Whether `workers` workers may search one board: 1 to 16.
 pub fn is_crew(workers: u8) -> bool
     ensures { IsTrue result ↔ IsCrew workers }
 {

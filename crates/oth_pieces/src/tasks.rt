@@ -46,8 +46,8 @@ impl From<AllocError> for TasksError {
 }
 
 impl Tasks {
-    /// Tasks of the numbers of the frontier, and so many hands, 1 to 16. Each number `j` is pushed into the deque of
-    /// hand `j` modulo the hands, once. Each hand has room for all numbers of a frontier. Refused where there is no
+    /// Makes tasks of the numbers of the frontier, and `hands` hands, 1 to 16. Each number `j` is pushed into the deque
+    /// of hand `j` modulo `hands`, once. Each hand has room for all numbers of a frontier. Refused if there is no
     /// memory.
     pub fn new(
         alloc: Global,
@@ -64,9 +64,9 @@ impl Tasks {
         Tasks::by_rank(alloc, frontier, &[], hands)
     }
 
-    /// The same tasks and hands, where each deque has its numbers by rising rank. The rank of number `j` is the one at
-    /// `j`; a number that has none goes last, and of equal ranks the lesser number goes first. Which number is drawn
-    /// when rests on this alone.
+    /// As [`Tasks::new`], but each deque has its numbers by rising rank. The rank of number `j` is the one at `j`; a
+    /// number that has none goes last, and of equal ranks the lesser number goes first. Which number is drawn when
+    /// rests on this alone.
     #[inline(never)]
     pub fn by_rank(
         alloc: Global,
@@ -137,7 +137,7 @@ impl Tasks {
         found
     }
 
-    // The same, but the number isn't in the list yet.
+    // As `draw`, but the number isn't in the list yet.
     fn find(&self, hand: &mut Hand) -> Option<u32>
         requires { Fits self.now hand.old }
         ensures { Draws self.now hand.old hand.new result }
@@ -156,7 +156,7 @@ impl Tasks {
         None
     }
 
-    // A number of another hand's deque, if one can be had there.
+    // Steals a number from another hand's deque, if one can be had there.
     fn steal(&self, hand: &mut Hand, deque: usize) -> Option<u32>
         requires hand { Fits self.now hand.old }
         requires deque { deque < vec_len self.now.thieves }
@@ -179,7 +179,7 @@ impl Drawn {
     }
 }
 
-// A number of the deque. A try that another thread foiled is made again, up to `STEAL_TRIES` times.
+// Steals a number of the deque. A try that another thread foiled is made again, up to `STEAL_TRIES` times.
 fn steal_from(thief: &Thief, pass: &mut Token) -> Option<u32>
     requires pass { IsPassOf (stealer_deque thief.now) pass.old }
     requires knows { (view pass.old).knows ≡ true }

@@ -107,8 +107,8 @@ impl Board {
         }
     }
 
-    /// The same as [`Board::moves`], by lines on the board and on the same turned by half a turn: the fastest form for
-    /// one board, for inner loops. A chain of moves makes its [`Twin`] once.
+    /// As [`Board::moves`], by lines on the board and on the board turned by half a turn: the fastest form for one
+    /// board, for inner loops. A chain of moves makes its [`Twin`] once.
     #[inline(always)]
     pub fn moves_by_lines(&self) -> u64
         ensures { result ≡ word_of (is_legal self.now) }
@@ -116,7 +116,7 @@ impl Board {
         Twin::of(self).moves()
     }
 
-    /// The same as [`Board::moves`], a step at a time along each of the eight directions: to compare the others with.
+    /// As [`Board::moves`], a step at a time along each of the eight directions: to compare the other forms with.
     pub fn moves_by_shifts(&self) -> u64
         ensures { result ≡ word_of (is_legal self.now) }
     {
@@ -135,7 +135,7 @@ impl Board {
         back.shifted(back.line(self.own, self.opp))
     }
 
-    /// The same as [`Board::flips`], by the eight rays of the square.
+    /// As [`Board::flips`], by the eight rays of the square.
     pub fn flips_by_rays(&self, square: Square) -> u64
         ensures value { result ≡ word_of (is_flipped self.now square) }
         ensures none { (result ≡ 0) ↔ (is_legal self.now square ≡ false) }
@@ -146,8 +146,8 @@ impl Board {
         self.flips_of_empty(square)
     }
 
-    /// The discs that a move to an empty square flips, by its rays on the board and on the same turned by half a turn;
-    /// 0 where the move is illegal. The fastest form for one move, for inner loops.
+    /// The discs that a move to an empty square flips, by its rays on the board and on the board turned by half a turn;
+    /// 0 if the move is illegal. The fastest form for one move, for inner loops.
     #[inline(always)]
     pub fn flips_of_empty(&self, square: Square) -> u64
         requires { IsTrue (is_empty self.now square) }
@@ -156,7 +156,7 @@ impl Board {
         Twin::of(self).flips(square).word()
     }
 
-    /// The same as [`Board::flips`], a step at a time along each of the eight directions: to compare the others with.
+    /// As [`Board::flips`], a step at a time along each of the eight directions: to compare the other forms with.
     pub fn flips_by_shifts(&self, square: Square) -> u64
         ensures value { result ≡ word_of (is_flipped self.now square) }
         ensures none { (result ≡ 0) ↔ (is_legal self.now square ≡ false) }
@@ -249,7 +249,7 @@ impl Board {
         self.own.count_ones() as i8 - self.opp.count_ones() as i8
     }
 
-    // The same, with the empty squares given to the winner.
+    // The disc difference, with the empty squares given to the winner.
     fn winner_score(&self) -> i8
         ensures { result ≡ winner_score self.now }
     {

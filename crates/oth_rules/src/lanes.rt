@@ -39,7 +39,8 @@ impl Board {
         (six << step).reduce_or()
     }
 
-    // The same for the directions where square numbers rise.
+    // The squares where a disc of the mover would outflank something in a direction where square numbers rise: those
+    // just past a falling line of opposing discs.
     fn outflanking_upwards(&self) -> u64
         ensures { result ≡ word_of (λ s. list_any (outflanks self.now s) rising_directions) }
     {
@@ -82,7 +83,7 @@ impl Board {
         (closing.saturating_sub(u64x4::splat(1)) & rays).reduce_or()
     }
 
-    // The same along the rays of falling squares.
+    // What is outflanked along the rays of falling squares.
     fn flipped_downwards(&self, square: Square) -> u64
         ensures { result ≡ word_of (λ q. list_any (λ d. is_in (flipped_along self.now square d) q) falling_directions) }
     {

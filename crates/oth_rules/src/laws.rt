@@ -11,9 +11,8 @@ ghost use Rattle.oth_rules.specs.Laws.{IsValueOfImages};
 ghost use Rattle.oth_rules.specs.declared.scoring.Scoring.{Scoring};
 ghost use Rattle.oth_rules.specs.declared.scoring.Scoring.TheVariants.{Winner};
 
-/// The value is the greatest negated value after a move where the mover can move; the negated value after a pass
-/// where only the other side can; the score where
-/// the game is over.
+/// The value is the greatest negated value after a move where the mover can move; the negated value after a pass where
+/// only the other side can; the score where the game is over.
 pub fn value_by_the_rules()
     ensures moves { (g : Scoring) → IsValueByMoves (score_of g) }
     ensures pass { (g : Scoring) → IsValueByPass (score_of g) }

@@ -1,4 +1,4 @@
-//! Boards for tests, of this crate and of those above it.
+//! Boards for tests, of this crate and of those above it: crates of tests see none of each other.
 ghost use Rattle.std.specs.Prelude.{◌≡◌, ◌≤◌, IfSome, slice_index_or};
 ghost use Rattle.oth_rules.specs.Position.{empty_count};
 
@@ -17,14 +17,14 @@ pub fn board(words: [u64; 2]) -> Option<Board>
     Some(board)
 }
 
-/// The start of a game, and from there the least-numbered legal moves.
+/// As `least_moves_from`, from the start of a game on.
 pub fn after_least_moves(most_empties: u8) -> Option<Board> {
     let start = Board::of(0x0000_0008_1000_0000, 0x0000_0010_0800_0000).ok()?;
     least_moves_from(start, most_empties)
 }
 
-/// From this board on the least-numbered legal moves, with passes where they are forced, until at most so many squares
-/// are empty or the game is over.
+/// Plays the least-numbered legal moves from `board` on, with forced passes, until at most `most_empties` squares are
+/// empty or the game is over.
 pub fn least_moves_from(board: Board, most_empties: u8) -> Option<Board> {
     let mut board = board;
     for _ in 0..120 {

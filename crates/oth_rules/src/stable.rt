@@ -55,7 +55,7 @@ struct Reach {
 }
 
 impl Reach {
-    // Of the empty squares of a board.
+    // The reach of the empty squares of a board.
     fn of(board: &Board) -> Reach
         ensures { IsReach board.now result.row result.falling result.column result.rising }
     {
@@ -74,7 +74,7 @@ impl Reach {
         reach
     }
 
-    // The same with what is in line with one more square.
+    // The reach with one more empty square.
     fn with(self, square: Square) -> Reach
         ensures row { Adds (record { columns = Forth; rows = Stay }) square self.row result.row }
         ensures falling { Adds (record { columns = Forth; rows = Forth }) square self.falling result.falling }

@@ -6,10 +6,9 @@ ghost use Rattle.oth_rules.specs.Exchange.{exchanged_square, mirrored_square, fl
 
 use std::marker::Model;
 
-/// A symmetry of the board by its number 0 to 7. In this order: where bit 2 is set, columns and rows change
-/// places; where bit 0 is set, the columns are turned
-/// round; where bit 1 is set, the rows. So 0 is the identity, 1 left to right, 2 top to bottom, 3 the half turn,
-/// 4 the main diagonal, 5 and 6 the quarter turns, 7 the other diagonal.
+/// A symmetry of the board by its number 0 to 7. In this order: where bit 2 is set, columns and rows change places;
+/// where bit 0 is set, the columns are turned round; where bit 1 is set, the rows. So 0 is the identity, 1 left to
+/// right, 2 top to bottom, 3 the half turn, 4 the main diagonal, 5 and 6 the quarter turns, 7 the other diagonal.
 #[derive(Clone, Copy, PartialEq, Eq, Debug, Default)]
 pub struct Sym {
     number: u8,
@@ -66,7 +65,7 @@ impl Sym {
     }
 }
 
-// Exchanges the squares of the mask with those that lie so many squares further.
+// Exchanges each square of the mask with the one that lies `shift` further.
 fn exchanged(word: u64, mask: u64, shift: u32) -> u64
     requires short { shift < 64 }
     requires apart { bit_and mask (mask * 2 ^ shift % 2 ^ 64) ≡ 0 }

@@ -70,6 +70,6 @@ IsLegal terms = IsLegalBy author makes (Fits terms)
 abbrev pub Ends : Terms → Name → List Event → List Event → Event → Type 0
 Ends terms = EndsBy author makes (Fits terms)
 
--- the same, where another seat has the cell or has taken it since
+-- ends with a call that did nothing, where another seat has the cell or has taken it since
 abbrev pub GoesAway : Terms → Name → ℕ → Why → List Event → List Event → Type 0
 GoesAway terms s c why earlier later = Ends terms s earlier later (Away s c why) × (publishes c earlier < claims c later)

@@ -1,6 +1,6 @@
 -- The numbers of cells that may be asked for.
---     IsSize cells             a table can have so many
---     IsSizeOrNone cells       the same, or 0 for no table
+--     IsSize cells             a table can have that number of cells
+--     IsSizeOrNone cells       as IsSize, or 0 for no table
 use Rattle.std.specs.Prelude.{◌≡◌, ◌⊎◌, ℕ, ◌^◌, ◌≤◌}
 
 -- 1, 2, 4 .. 262144

@@ -82,7 +82,7 @@ impl<'a> TableCells<'a> {
         self.table.scoring()
     }
 
-    // What is at the place of the board and in its second cell. In a table of one cell one look counts as both.
+    // Looks at both cells of the board. In a table of one cell one look counts as both.
     fn look_both(&mut self, board: &Board) -> (Look, Look)
         requires { IsCanonical board.now }
         ensures fixed { fixed_of self.new ≡ fixed_of self.old }
@@ -168,7 +168,7 @@ impl<'a> Cells for TableCells<'a> {
         }
     }
 
-    /// Nothing, and without a step: for boards of few empty squares a search has a memory of its own.
+    /// Returns nothing, without a step: for boards of few empty squares a search has a local table.
     fn recall(&mut self, _board: &Board, _scoring: Scoring) -> Option<Solved>
         ensures asked { IfSome result (λ s. (s.board ≡ _board.now) × (s.scoring ≡ _scoring)) }
         ensures fixed { fixed_of self.new ≡ fixed_of self.old }

@@ -2,7 +2,7 @@
 ghost use Rattle.std.specs.Prelude.{◌↔◌, IsTrue};
 ghost use Rattle.oth_table.specs.Sizes.{IsSize};
 
-/// Whether a table can have so many cells: 1, 2, 4 .. 262,144.
+/// Whether a table can have `cells` cells: 1, 2, 4 .. 262,144.
 pub fn is_size(cells: u32) -> bool
     ensures { IsTrue result ↔ IsSize cells }
 {

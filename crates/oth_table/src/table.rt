@@ -140,9 +140,9 @@ fn word_at(cell: u32, word: usize) -> usize
 }
 
 impl SharedTable {
-    /// An empty table of `cells` cells for entries under this scoring, and its first seat, which has seen nothing.
-    /// `cells` is 1, 2, 4 .. 262,144; else refusal 1. Refusal 2 comes when out of memory. A cell may be published
-    /// 2^63 - 1 times.
+    /// Makes an empty table of `cells` cells for entries under this scoring, and its first seat, which has seen
+    /// nothing. `cells` is 1, 2, 4 .. 262,144; else refusal 1. Refusal 2 comes when out of memory. A cell may be
+    /// published 2^63 - 1 times.
     pub fn new(
         alloc: Global,
         cells: u32,
@@ -154,8 +154,8 @@ impl SharedTable {
         SharedTable::with_wear(alloc, cells, MOST_WEAR, scoring)
     }
 
-    /// The same, where a cell that was published `wear` times takes no further entry. It is still looked at.
-    /// `wear` is 1 to 2^63 - 1; else refusal 3, which is tested after refusal 1 and before refusal 2.
+    /// As [`SharedTable::new`], but a cell that was published `wear` times takes no further entry. It is still looked
+    /// at. `wear` is 1 to 2^63 - 1; else refusal 3, which is tested after refusal 1 and before refusal 2.
     pub fn with_wear(
         alloc: Global,
         cells: u32,

@@ -24,7 +24,7 @@ pub fn dealt(alloc: Global, turns: &Turns, hands: usize) -> Result<(Tasks, Vec<H
     Ok((tasks, made))
 }
 
-// Room for what so many hands hold.
+// Room for what `hands` hands hold.
 fn room_of(alloc: Global, hands: usize) -> Result<Parts, AllocError>
     ensures { IfOk result (λ room. HasRoom hands room) }
 {
@@ -35,7 +35,7 @@ fn room_of(alloc: Global, hands: usize) -> Result<Parts, AllocError>
     })
 }
 
-// The deques of so many hands, with the numbers in the order of their turns.
+// The deques of `hands` hands, with the numbers in the order of their turns.
 fn deques(alloc: Global, turns: &Turns, hands: usize) -> Result<Vec<Owner>, AllocError>
     ensures { IfOk result (λ owners. (length owners.items ≡ hands)
         × AreDealt hands (length turns.now.numbers.items) owners.items) }
