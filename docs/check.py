@@ -17,7 +17,8 @@ It tests, in each document and, where it says so, in the code:
 - that in each row `| `CONSTANT` | `PATH` | `VALUE` |` of a table the file gives the constant that value, and that in each row
   `| `EXPRESSION` | `PATH` |` the file has this text, and that each constant of a `tuning.rt` has a row in
   docs/TUNING.md;
-- that no page, nor the C header, says one of the phrases that docs/GLOSSARY.md replaces;
+- that no page, nor the C header, says one of the phrases that docs/GLOSSARY.md replaces, and that no comment of the code begins with
+  "The same", nor a line of one;
 - of docs/GLOSSARY.md: that each identifier of the column `In the code` is a word of the code or of `specs/`;
 - of docs/ARCHITECTURE.md: that the lemmas which it lists for a crate are those that proofs of other crates import;
 - that each lemma and each definition is named somewhere else than at its own statement, but those of `Examples`;
@@ -533,6 +534,9 @@ def test_phrases():
         for old, new in OLD.items():
             found = [str(number) for number, line in enumerate(text, 1) if re.search(old, line)]
             test(not found, f"{shown(page)}: line {', '.join(found)} says {old}: {new}")
+    for path in sorted(ROOT.glob("crates/*/src/**/*.rt")):
+        found = [str(number) for number, line in enumerate(lines_of(path), 1) if re.match(r" *//[/!]? The same\b", line)]
+        test(not found, f"{shown(path)}: line {', '.join(found)} begins with The same: say what differs, as `As NAME, of ..`")
 
 
 def test_glossary():
