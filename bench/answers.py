@@ -10,6 +10,7 @@ where it refuses that too: the goal is proved by other means, or is there with t
 the names of the goals, as `a == a && b` does for `b` where the code has `a == c && b`. It prints a line for each goal. Then
 `rt must-fail CRATE` must name no edit that is refused only because a proof file names what it took away: such an answer has to go.
 """
+import argparse
 import pathlib
 import re
 import subprocess
@@ -26,7 +27,7 @@ CHECKS = 6
 
 
 def inside(text, start):
-    """What stands between the angle brackets that open at `start`, if they do."""
+    """Tells what stands between the angle brackets that open at `start`, if they do."""
     if text[start:start + 1] != "<":
         return ""
     depth = 0
@@ -39,13 +40,13 @@ def inside(text, start):
 
 
 def has_types(parameters):
-    """Whether one of the parameters is a type, and not a lifetime."""
+    """Tells whether one of the parameters is a type, and not a lifetime."""
     flat = re.sub(r"[<(].*?[>)]", "", parameters)
     return any(part.strip() and not part.strip().startswith("'") for part in flat.split(","))
 
 
 def cycle_of(lines):
-    """The cycle that the last of the lines, the head of a function, is said to be of by the attributes above it."""
+    """Returns the cycle that the last of the lines, the head of a function, is said to be of by the attributes above it."""
     for line in reversed(lines[:-1]):
         if found := re.match(r"\s*#\[cycle\((\w+)\)\]", line):
             return found[1]
@@ -55,7 +56,7 @@ def cycle_of(lines):
 
 
 def function_at(lines, number):
-    """The folder in `proofs/` of the function that has the line of this number, or of its cycle, and what its goals are given."""
+    """Returns the folder in `proofs/` of the function that has the line of this number, or of its cycle, and what its goals are given."""
     for first in range(number - 1, -1, -1):
         if found := re.search(r"\bfn (\w+)", lines[first].split("//")[0]):
             break
@@ -79,7 +80,7 @@ def function_at(lines, number):
 
 
 def goals_without_answer(crate, log):
-    """The goals that the log tells: of each the folder in `proofs/`, its name, and what it is given."""
+    """Yields the goals that the log tells: of each the folder in `proofs/`, its name, and what it is given."""
     told = re.compile(rf"must-fail {crate}/\S+\.edit: refused.*?: note: src/(\S+)\.rt:(\d+):\d+: .*?\(`([^`]+)`\)")
     for line in log.split("\n"):
         if found := told.search(line):
@@ -90,12 +91,12 @@ def goals_without_answer(crate, log):
 
 
 def imports(module):
-    """A `use` line of this module."""
+    """Returns a `use` line of this module."""
     return re.compile(rf"^use {re.escape(module)}\.\{{([^}}]*)\}}\n", re.M)
 
 
 def with_names(text, needed):
-    """The file with these names imported."""
+    """Returns the file with these names imported."""
     for module, names in needed.items():
         found = imports(module).search(text)
         had = found[1].split(", ") if found else []
@@ -105,7 +106,7 @@ def with_names(text, needed):
 
 
 def without_names(text, needed):
-    """The file without the imports of those of these names that it no longer uses."""
+    """Returns the file without the imports of those of these names that it no longer uses."""
     for module, names in needed.items():
         found = imports(module).search(text)
         rest = re.sub(r"^use .*\n", "", text, flags=re.M)
@@ -142,10 +143,17 @@ def take_out(path, goal, way):
             folder = folder.parent
 
 
+def words():
+    """Reads the command line."""
+    parser = argparse.ArgumentParser(description=__doc__, formatter_class=argparse.RawDescriptionHelpFormatter)
+    parser.add_argument("crate", metavar="CRATE", help="the crate that gets the answers")
+    parser.add_argument("log", metavar="LOG", type=pathlib.Path, help="the file of what was printed")
+    return parser.parse_args()
+
+
 def main():
-    if len(sys.argv) != 3:
-        sys.exit(__doc__)
-    crate, log = sys.argv[1], pathlib.Path(sys.argv[2]).read_text(encoding="utf-8", errors="replace")
+    told = words()
+    crate, log = told.crate, told.log.read_text(encoding="utf-8", errors="replace")
     top = ROOT / "crates" / crate
     # What was added: of each answer what `add` and `take_out` are given, and the ways that were not tried yet.
     added = {}

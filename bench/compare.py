@@ -8,61 +8,61 @@ OURS and OTHER are commands that read board lines and write a report line for ea
 They are run in turn, RUNS times each (3 if not given); the times are the least of the runs, since a shared machine is noisy: wall-clock
 seconds, and in brackets CPU seconds. The exit status is 1 where an answer differs, with the first few lines that do.
 """
-import resource
+import argparse
+import functools
 import shlex
-import subprocess
 import sys
-import time
+
+import timing
+
+OURS, OTHER = "ours", "other"
+MOST_SHOWN = 5
 
 
-def run(command, boards):
-    """What the command writes for the boards, and the wall-clock and the CPU seconds that it took."""
-    before = resource.getrusage(resource.RUSAGE_CHILDREN)
-    began = time.monotonic()
+def solved(command, boards):
+    """Tells what the command writes for the boards, and the wall-clock and the CPU seconds that it took."""
     with open(boards, "rb") as lines:
-        written = subprocess.run(shlex.split(command), stdin=lines, stdout=subprocess.PIPE, check=True).stdout
-    clock = time.monotonic() - began
-    after = resource.getrusage(resource.RUSAGE_CHILDREN)
-    return written, clock, after.ru_utime + after.ru_stime - before.ru_utime - before.ru_stime
-
-
-def main():
-    if len(sys.argv) not in (4, 5):
-        print(__doc__)
-        return 2
-    ours, other, boards = sys.argv[1:4]
-    runs = int(sys.argv[4]) if len(sys.argv) == 5 else 3
-    times = {ours: [], other: []}
-    for _ in range(runs):
-        our_answers, *seconds = run(ours, boards)
-        times[ours].append(seconds)
-        other_answers, *seconds = run(other, boards)
-        times[other].append(seconds)
-        if our_answers != other_answers:
-            report_differences(boards, our_answers, other_answers)
-            return 1
-    count = our_answers.count(b"\n")
-    (a, c), (b, d) = least(times[ours]), least(times[other])
-    print(f"{count} boards of {boards}: same answers; {a:.3f} s ({c:.3f}) and {b:.3f} s ({d:.3f}), ratio {a / max(b, 0.001):.2f} ({c / max(d, 0.001):.2f})")
-    return 0
-
-
-def least(runs):
-    """The least wall-clock and the least CPU seconds."""
-    return min(clock for clock, _ in runs), min(processors for _, processors in runs)
+        run = timing.timed(shlex.split(command), stdin=lines)
+    return run.wrote, (run.clock, run.user + run.system)
 
 
 def report_differences(boards, ours, others):
-    """The first few boards whose answers differ."""
+    """Prints the first few boards whose answers differ."""
     with open(boards, "rb") as lines:
-        rows = zip(lines.read().splitlines(), ours.splitlines(), others.splitlines())
-    shown = 0
-    for board, our, other in rows:
-        if our != other and shown < 5:
-            shown += 1
-            print(f"{board.decode()}: ours {our.decode()}, other {other.decode()}")
-    if shown == 0:
+        rows = zip(lines.read().splitlines(), ours.splitlines(), others.splitlines(), strict=False)
+    differing = [row for row in rows if row[1] != row[2]]
+    for board, our, other in differing[:MOST_SHOWN]:
+        print(f"{board.decode()}: ours {our.decode()}, other {other.decode()}")
+    if not differing:
         print("the answers differ in number")
 
 
-sys.exit(main())
+def words():
+    """Reads the command line."""
+    parser = argparse.ArgumentParser(description=__doc__, formatter_class=argparse.RawDescriptionHelpFormatter)
+    parser.add_argument("ours", metavar="OURS", help="the command of this program")
+    parser.add_argument("other", metavar="OTHER", help="the command of another one")
+    parser.add_argument("boards", metavar="BOARDS", help="the file of board lines")
+    parser.add_argument("runs", metavar="RUNS", nargs="?", type=timing.rounds, default=3, help="how often each is run (3)")
+    return parser.parse_args()
+
+
+def main():
+    given = words()
+    boards = given.boards
+    runs = {OURS: functools.partial(solved, given.ours, boards), OTHER: functools.partial(solved, given.other, boards)}
+    series = timing.Series(runs)
+    for _ in range(given.runs):
+        answers = series.round()
+        if answers[OURS] != answers[OTHER]:
+            report_differences(boards, answers[OURS], answers[OTHER])
+            return 1
+    count = answers[OURS].count(b"\n")
+    (a, c), (b, d) = series.least[OURS], series.least[OTHER]
+    ratios = f"{a / max(b, 0.001):.2f} ({c / max(d, 0.001):.2f})"
+    print(f"{count} boards of {boards}: same answers; {a:.3f} s ({c:.3f}) and {b:.3f} s ({d:.3f}), ratio {ratios}")
+    return 0
+
+
+if __name__ == "__main__":
+    sys.exit(main())

@@ -9,12 +9,12 @@ NAME = re.compile(r"[a-z]\w*\.edit")
 
 
 def edits_of(crate, tiers=TIERS):
-    """The paths of the edits of the crate's folder."""
+    """Returns the paths of the edits of the crate's folder."""
     return [edit for tier in tiers for edit in sorted((crate / tier).glob("*"))]
 
 
 def pairs_of(edit):
-    """Each file, old text and new text that the edit names, in their order."""
+    """Yields each file, old text and new text that the edit names, in their order."""
     path = old = None
     for line in edit.read_text(encoding="utf-8").split("\n"):
         if line.startswith("file: "):
@@ -27,7 +27,7 @@ def pairs_of(edit):
 
 
 def applied(edit, crate):
-    """The texts of the crate's files with the edit, by their paths, and why it can't be applied, or None."""
+    """Returns the texts of the crate's files with the edit, by their paths, and why it can't be applied, or None."""
     texts = {}
     for path, old, new in pairs_of(edit):
         if not path or not old or not path.startswith(("src/", "specs/", "proofs/")) or not (crate / path).is_file():

@@ -10,61 +10,74 @@ turn, RUNS times at the fewest empty squares (48 if not given), half as often wi
 least wall-clock seconds: of each board, added up, or of the whole file. The exit status is 1 where two answers differ. Leave the
 machine alone meanwhile, and run `bench/plot.py` after it.
 """
+import argparse
+import functools
 import pathlib
 import shlex
-import subprocess
 import sys
-import time
+
+import timing
 
 BENCH = pathlib.Path(__file__).resolve().parent
 FIGURES = BENCH / "figures.txt"
 WORKERS = (1, 2, 4)
-HEAD = """# What was measured, a line for each number of empty squares: wall-clock seconds for the ten boards of bench/game-NN.txt, `-` where
+HEAD = """\
+# What was measured, a line for each number of empty squares: wall-clock seconds for the ten boards of bench/game-NN.txt, `-` where
 # nothing was measured. The columns stand in the first line that is no comment. `bench/figures.py` measures and writes this file, and
 # `bench/plot.py` makes the tables and the plot of it.
 empty squares; 1 worker; 2 workers; 4 workers; 4, side by side; reference, v2; reference, v3
 """
 
 
-def timed(command, lines):
-    """The wall-clock seconds that the command takes with these lines, and what it writes."""
-    began = time.monotonic()
-    written = subprocess.run(command, input=lines, stdout=subprocess.PIPE, check=True).stdout
-    return time.monotonic() - began, written
+def solved(command, lines):
+    """Tells what the command writes for these lines, and the wall-clock seconds that it takes."""
+    run = timing.timed(command, input=lines)
+    return run.wrote, (run.clock,)
 
 
 def measured(ours, others, boards, rounds):
-    """The seconds of each column for these board lines."""
+    """Returns the seconds of each column for these board lines."""
     alone = [[ours, "solve", "--workers", str(workers)] for workers in WORKERS]
     at_once = [[ours, "solve", "--workers", "4"]] + [shlex.split(other) for other in others]
-    least = [[float("inf")] * len(boards) for _ in alone]
-    least_at_once = [float("inf")] * len(at_once)
+    runs = {}
+    for place, board in enumerate(boards):
+        for column, command in enumerate(alone):
+            runs[column, place] = functools.partial(solved, command, board)
+    for column, command in enumerate(at_once, len(alone)):
+        runs[column, 0] = functools.partial(solved, command, b"".join(boards))
+    columns = range(len(alone) + len(at_once))
+    series = timing.Series(runs)
     for _ in range(rounds):
-        answers = [b""] * len(alone)
-        for place, board in enumerate(boards):
-            for column, command in enumerate(alone):
-                seconds, written = timed(command, board)
-                least[column][place] = min(least[column][place], seconds)
-                answers[column] += written
-        for column, command in enumerate(at_once):
-            seconds, written = timed(command, b"".join(boards))
-            least_at_once[column] = min(least_at_once[column], seconds)
-            answers.append(written)
-        if len(set(answers)) != 1:
-            sys.exit(f"the answers differ: {sorted(set(answers))}")
-    return [sum(column) for column in least] + least_at_once
+        wrote = series.round()
+        answers = {b"".join(wrote[key] for key in keys_of(column, runs)) for column in columns}
+        if len(answers) != 1:
+            sys.exit(f"the answers differ: {sorted(answers)}")
+    return [sum(series.least[key][0] for key in keys_of(column, runs)) for column in columns]
+
+
+def keys_of(column, runs):
+    """Returns the runs of a column, in the order of the boards."""
+    return [key for key in runs if key[0] == column]
+
+
+def words():
+    """Reads the command line."""
+    parser = argparse.ArgumentParser(description=__doc__, formatter_class=argparse.RawDescriptionHelpFormatter)
+    parser.add_argument("ours", metavar="OURS", help="this program's file")
+    parser.add_argument("v2", metavar="V2", help="the command of another solver, built for x86-64-v2")
+    parser.add_argument("v3", metavar="V3", help="that of the same solver, built for x86-64-v3")
+    parser.add_argument("runs", metavar="RUNS", nargs="?", type=timing.rounds, default=48, help="runs at the fewest empty squares (48)")
+    return parser.parse_args()
 
 
 def main():
-    if len(sys.argv) not in (4, 5):
-        print(__doc__)
-        return 2
-    ours, *others = sys.argv[1:4]
-    rounds = int(sys.argv[4]) if len(sys.argv) == 5 else 48
+    given = words()
+    rounds = given.runs
     text = HEAD
     for path in sorted(BENCH.glob("game-*.txt")):
         boards = path.read_bytes().splitlines(keepends=True)
-        row = [path.stem.split("-")[1]] + [f"{seconds:#.3g}" for seconds in measured(ours, others, boards, rounds)]
+        seconds = measured(given.ours, (given.v2, given.v3), boards, rounds)
+        row = [path.stem.split("-")[1]] + [f"{each:#.3g}" for each in seconds]
         print("; ".join(row), f"({rounds} rounds)", flush=True)
         text += "; ".join(row) + "\n"
         rounds = max(2, rounds // 2)
@@ -72,4 +85,5 @@ def main():
     return 0
 
 
-sys.exit(main())
+if __name__ == "__main__":
+    sys.exit(main())

@@ -15,6 +15,7 @@ it has. Where it has no oth_walk, as commit d59b2f3, the copy counts no boards. 
 
     OUT/plain WORKERS CELLS FILE [RUNS]    as `OUT/plain 1,2,4 65536 bench/game-16.txt 5`; see bench/plain/counting.rs
 """
+import argparse
 import os
 import pathlib
 import re
@@ -28,16 +29,16 @@ FROM_SHIM = r"std::(?:(?:alloc|thread)::|(?=thread;))"
 
 # Where the copy counts: a file, a line (or a part of one) that stands in it once, and what takes its place.
 COUNTS = [
-    ("oth_search/deep.rs", " = recalled(&node.board, cells, scoring);\n",
+    ("oth_search/nws/deep.rs", " = recalled(&node.board, cells, scoring);\n",
      " = recalled(&node.board, cells, scoring);\n    crate::counting::count(&node.board);\n"),
-    ("oth_search/guess.rs", "    let mut bracket = Bracket::from(likely);\n",
+    ("oth_search/root/guess.rs", "    let mut bracket = Bracket::from(likely);\n",
      "    let _guess = crate::counting::For::part(crate::counting::Part::Guess);\n"
      "    let mut bracket = Bracket::from(likely);\n"),
 ]
 
 
 def end_of_braces(text, start):
-    """The place behind the brace that closes the one at `start`."""
+    """Returns the place behind the brace that closes the one at `start`."""
     depth = 0
     for place in range(start, len(text)):
         if text[place] == "{":
@@ -50,7 +51,7 @@ def end_of_braces(text, start):
 
 
 def without_blocks(text, head, behind=""):
-    """The text without what matches `head`, which ends with a brace, up to the brace that closes it and what is behind."""
+    """Returns the text without what matches `head`, which ends with a brace, up to the brace that closes it and what is behind."""
     pattern = re.compile(head, re.M)
     while match := pattern.search(text):
         end = end_of_braces(text, match.end() - 1)
@@ -61,7 +62,7 @@ def without_blocks(text, head, behind=""):
 
 
 def plain(text, crate, crates):
-    """The code of a file of one of the crates without what is there for the prover."""
+    """Returns the code of a file of one of the crates without what is there for the prover."""
     text = re.sub(r"^ *//.*\n", "", text, flags=re.M)
     text = re.sub(r"^ *ghost use [^;]*;\n", "", text, flags=re.M)
     text = without_blocks(text, r"^impl(?:<[^{]*?>)? Model for [^{]*\{")
@@ -89,7 +90,7 @@ def plain(text, crate, crates):
 
 
 def copy_of(tree):
-    """The files of the copy: a text for each path."""
+    """Returns the files of the copy: a text for each path."""
     files = {}
     crates = [crate for crate in CRATES if (tree / "crates" / crate / "src").is_dir()]
     for crate in crates:
@@ -113,7 +114,7 @@ def copy_of(tree):
 
 
 def build(out):
-    """Builds what stands in OUT/src, and ends."""
+    """Builds what stands in OUT/src, and gives the compiler's status."""
     # The copy needs `std::simd`, which a stable compiler takes only so.
     environment = dict(os.environ, RUSTC_BOOTSTRAP="1")
     flags = ["--edition", "2024", "-C", "opt-level=3", "-C", "codegen-units=1", "-C", "panic=abort",
@@ -121,25 +122,44 @@ def build(out):
     built = subprocess.run(["rustc", *flags, "-o", str(out / "plain"), str(out / "src" / "main.rs")], env=environment)
     if built.returncode == 0:
         print(f"{out / 'plain'} WORKERS CELLS FILE [RUNS]")
-    raise SystemExit(built.returncode)
+    return built.returncode
 
 
-def main():
-    if sys.argv[1:] == ["--check"]:
-        copy_of(ROOT)
-        return
-    if len(sys.argv) == 3 and sys.argv[1] == "--build":
-        build(pathlib.Path(sys.argv[2]))
-    if len(sys.argv) not in (2, 3) or sys.argv[1].startswith("-"):
-        raise SystemExit(__doc__)
-    out = pathlib.Path(sys.argv[1])
-    tree = pathlib.Path(sys.argv[2]) if len(sys.argv) == 3 else ROOT
+def write_copy(out, tree):
+    """Writes the copy of the tree into OUT/src."""
     for name, text in copy_of(tree).items():
         path = out / "src" / name
         path.parent.mkdir(parents=True, exist_ok=True)
         path.write_text(text, encoding="utf-8")
-    build(out)
+
+
+def words():
+    """Reads the command line."""
+    parser = argparse.ArgumentParser(description=__doc__, formatter_class=argparse.RawDescriptionHelpFormatter)
+    parser.add_argument("out", metavar="OUT", nargs="?", type=pathlib.Path, help="the folder of the copy")
+    parser.add_argument("tree", metavar="TREE", nargs="?", type=pathlib.Path, help="the tree that is copied (this repository)")
+    kinds = parser.add_mutually_exclusive_group()
+    kinds.add_argument("--build", action="store_true", help="copy nothing, and build what stands in OUT/src")
+    kinds.add_argument("--check", action="store_true", help="test that a copy can be made, and build nothing")
+    given = parser.parse_args()
+    if given.check and given.out:
+        parser.error("--check takes no OUT")
+    if given.build and given.tree:
+        parser.error("--build takes no TREE")
+    if not given.check and not given.out:
+        parser.error("OUT is missing")
+    return given
+
+
+def main():
+    given = words()
+    if given.check:
+        copy_of(ROOT)
+        return 0
+    if not given.build:
+        write_copy(given.out, given.tree or ROOT)
+    return build(given.out)
 
 
 if __name__ == "__main__":
-    main()
+    sys.exit(main())

@@ -7,6 +7,7 @@
 
 It needs no packages. The plot has seconds upwards, each line ten times the one below, and empty squares to the right.
 """
+import argparse
 import math
 import pathlib
 import sys
@@ -24,7 +25,7 @@ DASHES = ("5 4", "", "", "", "2 3", "8 3 2 3", "", "5 2")
 
 
 def read_figures():
-    """The columns and the rows, each a list of texts."""
+    """Returns the columns and the rows, each a list of texts."""
     rows = [line for line in FIGURES.read_text(encoding="utf-8").split("\n") if line.strip() and not line.startswith("#")]
     columns, *rows = [[cell.strip() for cell in row.split(";")] for row in rows]
     for row in rows:
@@ -33,7 +34,7 @@ def read_figures():
 
 
 def table(rows):
-    """The rows as a table of a document, the first one its head."""
+    """Returns the rows as a table of a document, the first one its head."""
     shown = [rows[0], ["---"] * len(rows[0])] + rows[1:]
     return "".join("|" + "|".join(f" {cell} " if cell else " " for cell in row) + "|\n" for row in shown)
 
@@ -43,7 +44,7 @@ def figures(columns, rows):
 
 
 def ratios(columns, rows):
-    """Of each number of workers how many times as fast it was as one."""
+    """Returns a table of how many times as fast each number of workers was as one."""
     one = columns.index(ONE_WORKER)
     chosen = [i for i, column in enumerate(columns) if column.endswith(" workers")]
 
@@ -55,7 +56,7 @@ def ratios(columns, rows):
 
 
 def with_table(text, mark, new):
-    """The text with this table between the marks, where it has them."""
+    """Returns the text with this table between the marks, where it has them."""
     begin, end = f"<!-- {mark} -->\n", f"<!-- end of {mark} -->\n"
     if begin not in text:
         return text
@@ -64,7 +65,7 @@ def with_table(text, mark, new):
 
 
 def plot(columns, rows):
-    """The figures as a drawing."""
+    """Returns the figures as a drawing."""
     empties = [int(row[0]) for row in rows]
     series = [[(int(row[0]), float(row[i])) for row in rows if row[i] != "-"] for i in range(1, len(columns))]
     seconds = [value for points in series for _, value in points]
@@ -105,13 +106,16 @@ def plot(columns, rows):
 
 
 def main():
+    parser = argparse.ArgumentParser(description=__doc__, formatter_class=argparse.RawDescriptionHelpFormatter)
+    parser.add_argument("--check", action="store_true", help="write nothing, and test that all is made of the figures")
+    given = parser.parse_args()
     columns, rows = read_figures()
     wanted = {PLOT: plot(columns, rows)}
     for path in TEXTS:
         text = with_table(path.read_text(encoding="utf-8"), "figures", figures(columns, rows))
         wanted[path] = with_table(text, "ratios", ratios(columns, rows))
     stale = [path for path, text in wanted.items() if not path.exists() or path.read_text(encoding="utf-8") != text]
-    if "--check" in sys.argv[1:]:
+    if given.check:
         if stale:
             print("not made of bench/figures.txt: " + ", ".join(str(path.relative_to(ROOT)) for path in stale))
         return 1 if stale else 0
@@ -120,4 +124,5 @@ def main():
     return 0
 
 
-sys.exit(main())
+if __name__ == "__main__":
+    sys.exit(main())

@@ -10,6 +10,7 @@ are, and what they took. Then come the edits that took most, and the wall-clock 
 was last looked at is not seen, so a row is short by up to a second a process. Leave the machine alone meanwhile. The exit status is
 the command's.
 """
+import argparse
 import collections
 import os
 import pathlib
@@ -18,12 +19,13 @@ import sys
 import threading
 import time
 
+import crates
 import edits
 
 ROOT = pathlib.Path(__file__).resolve().parent.parent
 PARTS = ("proof", "tests", "second proof", "edits")
 TICKS = os.sysconf("SC_CLK_TCK")
-# So many edits are shown.
+# How many edits are shown.
 DEAREST = 40
 
 
@@ -55,7 +57,7 @@ class Seen:
                 self.edits[key] = edit_of(crate, folder)
 
     def table(self):
-        """Seconds by crate and part, and how many edits of each crate took them."""
+        """Returns the seconds by crate and part, and how many edits of each crate took them."""
         sums = collections.defaultdict(collections.Counter)
         for key, (crate, name, seconds) in self.taken.items():
             sums[crate]["second proof" if name == "edits" and not self.edits[key] else name] += seconds
@@ -64,7 +66,7 @@ class Seen:
         return sums
 
     def dearest(self):
-        """The edits with the seconds that each took, the dearest first; the second proofs of whole crates are none."""
+        """Returns the edits with the seconds that each took, the dearest first; the second proofs of whole crates are none."""
         sums = collections.Counter()
         for key, edit in self.edits.items():
             if edit:
@@ -73,7 +75,7 @@ class Seen:
 
 
 def edit_of(crate, folder):
-    """The edit of either tier that was made in this copy of the crate, if any."""
+    """Returns the edit of either tier that was made in this copy of the crate, if any."""
     whole = ROOT / "crates" / crate
     for edit in edits.edits_of(whole):
         try:
@@ -86,7 +88,7 @@ def edit_of(crate, folder):
 
 
 def part(crate, words, folder):
-    """What a process of the prover works for: a part of the gate in this repository, or something beside it."""
+    """Tells what a process of the prover works for: a part of the gate in this repository, or something beside it."""
     if os.path.basename(folder).startswith("rt-edit-"):
         return "edits"
     if not folder.startswith(f"{ROOT}/"):
@@ -94,25 +96,27 @@ def part(crate, words, folder):
     return "tests" if any(word.endswith(f"{crate}_tests.o") for word in words) else "proof"
 
 
-def crates():
-    """The crates of crates.txt, in its order."""
-    lines = (ROOT / "crates.txt").read_text(encoding="utf-8").split("\n")
-    return [line.split(":")[0].split()[0] for line in lines if line.strip() and not line.startswith("#")]
-
-
 def show(sums):
     """Prints the table, and what was made beside the gate."""
     columns = (*PARTS[:-1], "count", PARTS[-1])
     print("| Crate | Proof | Tests | Second proof | Mutants | Seconds of them |\n|---|---|---|---|---|---|")
-    for crate in crates():
+    for crate in crates.names():
         print(f"| `{crate}` | " + " | ".join(f"{sums[crate][name]:.0f}" if sums[crate][name] else "" for name in columns) + " |")
     whole = {name: sum(row[name] for row in sums.values()) / (1 if name == "count" else 60) for name in (*columns, "beside")}
     print("| all, in minutes | " + " | ".join(f"{whole[name]:.0f}" for name in columns) + " |")
     print(f"beside the gate: {whole['beside']:.1f} minutes")
 
 
+def words():
+    """Reads the command line: a command with its words."""
+    how = {"description": __doc__, "formatter_class": argparse.RawDescriptionHelpFormatter}
+    parser = argparse.ArgumentParser(usage="%(prog)s [-h] [COMMAND ..]", **how)
+    parser.add_argument("command", metavar="COMMAND", nargs=argparse.REMAINDER, help="a command with its words (./check)")
+    return parser.parse_args().command or ["./check"]
+
+
 def main():
-    command = sys.argv[1:] or ["./check"]
+    command = words()
     began = time.monotonic()
     seen = Seen()
     ran = subprocess.Popen(command, cwd=ROOT, stdout=subprocess.PIPE, stderr=subprocess.STDOUT, text=True, errors="replace")
@@ -136,4 +140,5 @@ def main():
     return ran.returncode
 
 
-sys.exit(main())
+if __name__ == "__main__":
+    sys.exit(main())

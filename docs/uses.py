@@ -3,11 +3,12 @@
 
     docs/uses.py [--write]
 
-In front of each block stands a line with the file's name alone, as `crates/oth_uses/src/game.rt`, in backquotes and with a colon. A block has to be
-that file word for word, and each caller of crates/oth_uses, the C example and the header's build line have to be shown. The line of `crates.txt` above a
-caller has to name the crates that it uses. Each problem is a line; the last line is `N passed, M failed`, and the exit status is 1 where something failed.
-With `--write` the blocks are first filled from the files.
+In front of each block stands a line with the file's name alone, as `crates/oth_uses/src/game.rt`, in backquotes and with a colon. A block
+has to be that file word for word, and each caller of crates/oth_uses, the C example and the header's build line have to be shown. The line
+of `crates.txt` above a caller has to name the crates that it uses. Each problem is a line; the last line is `N passed, M failed`, and the
+exit status is 1 where something failed. With `--write` the blocks are first filled from the files.
 """
+import argparse
 import glob
 import os
 import re
@@ -22,24 +23,26 @@ BUILD = re.compile(r"cc -O2 -I\. worked\.c libothsolve\.a -o worked")
 
 
 def read(name):
+    """Returns the text of a file of this repository."""
     with open(f"{TOP}/{name}", encoding="utf-8") as file:
         return file.read()
 
 
 def write_blocks():
+    """Fills the blocks of the page from their files."""
     filled = BLOCK.sub(lambda block: f"`{block[1]}`:\n\n```{block[2]}\n{read(block[1])}```", read(PAGE))
     with open(f"{TOP}/{PAGE}", "w", encoding="utf-8") as file:
         file.write(filled)
 
 
 def wanted():
-    """The files that the page has to show."""
+    """Returns the files that the page has to show."""
     callers = (os.path.relpath(file, TOP) for file in sorted(glob.glob(f"{TOP}/crates/oth_uses/src/*.rt")))
     return [*(file for file in callers if os.path.basename(file) not in NOT_SHOWN), "examples/c/worked.c"]
 
 
 def problems():
-    """For each thing that is compared its problem, or None."""
+    """Yields for each thing that is compared its problem, or None."""
     page = read(PAGE)
     shown = {block[1]: block[3] for block in BLOCK.finditer(page)}
     for name in wanted():
@@ -58,7 +61,9 @@ def problems():
 
 
 def main():
-    if "--write" in sys.argv[1:]:
+    parser = argparse.ArgumentParser(description=__doc__, formatter_class=argparse.RawDescriptionHelpFormatter)
+    parser.add_argument("--write", action="store_true", help="first fill the blocks from the files")
+    if parser.parse_args().write:
         write_blocks()
     found = list(problems())
     for problem in found:

@@ -8,6 +8,7 @@ prove them all from nothing once more. So this does what `rt lib` does last, ove
 build` proves oth_c alone and compiles it. Where an earlier `rt check` has left libraries of its own, which know whether they are still
 up to date, and where that build fails, `rt lib` makes everything that is missing.
 """
+import argparse
 import os
 import pathlib
 import subprocess
@@ -21,12 +22,12 @@ ARCHIVE = "out/liboth_c.a"
 
 
 def library_of(crate):
-    """Where the library of a crate lies."""
+    """Tells where the library of a crate lies."""
     return CRATE.parent / crate / "out/rlib"
 
 
 def left_by_ci(crate):
-    """Whether the library that lies there was left by `rt ci`, which puts no stamp beside it."""
+    """Tells whether the library that lies there was left by `rt ci`, which puts no stamp beside it."""
     return (library_of(crate) / f"{crate}.rlib/format").is_file() and not (library_of(crate) / "stamp").exists()
 
 
@@ -35,7 +36,8 @@ def built_over():
     kit = pathlib.Path(subprocess.run(["rt", "doc"], stdout=subprocess.PIPE, check=True, text=True).stdout.strip()).parent
     words = ["build", "--crate-name", "oth_c", "src/lib.rt", "--crate-type", "staticlib"]
     words += [word for crate in KIT for word in ("--extern", f"{crate}={kit}/rlibs/{crate}.rlib")]
-    words += ["-L", f"dependency={kit}/rlibs", "--antt-project", f"{kit}/rattle/logic/antt-project.json", "--logic-built", f"{kit}/logic_built"]
+    words += ["-L", f"dependency={kit}/rlibs", "--antt-project", f"{kit}/rattle/logic/antt-project.json"]
+    words += ["--logic-built", f"{kit}/logic_built"]
     words += [word for crate in USED for word in ("--extern", f"{crate}={library_of(crate)}/{crate}.rlib")]
     words += [word for crate in BELOW for word in ("-L", f"dependency={library_of(crate)}")]
     words += ["--toolchain", f"{kit}/toolchain", "--jobs", str(len(os.sched_getaffinity(0))), "-o", ARCHIVE]
@@ -47,9 +49,11 @@ def built_over():
 
 
 def main():
+    argparse.ArgumentParser(description=__doc__, formatter_class=argparse.RawDescriptionHelpFormatter).parse_args()
     if all(map(left_by_ci, BELOW)) and built_over():
         return 0
     return subprocess.run(["rt", "lib"], cwd=CRATE, stdout=subprocess.DEVNULL).returncode
 
 
-sys.exit(main())
+if __name__ == "__main__":
+    sys.exit(main())

@@ -11,6 +11,7 @@ import textwrap
 
 import differential
 import minimax
+from running import TOP, text_of
 
 SEED = 20261124
 BOARDS = 1000
@@ -21,7 +22,6 @@ SCORED, MOST_EMPTIES_SCORED = 300, 6
 PATIENCE = 300
 BUILD_PATIENCE = 1_800
 MOST_REQUESTS = 6
-TOP = os.path.dirname(os.path.dirname(os.path.abspath(__file__)))
 VALGRIND = ["valgrind", "-q", "--error-exitcode=99", "--leak-check=full", "--show-leak-kinds=all", "--errors-for-leak-kinds=all"]
 FLAGS = ["-std=c99", "-O2", "-Wall", "-Wextra", "-Werror"]
 WORKED = {
@@ -31,7 +31,7 @@ WORKED = {
 
 
 def steps(crates):
-    """A step for each build and run: its name, and what is wrong with it, if anything."""
+    """Yields a step for each build and run: its name, and what is wrong with it, if anything."""
     with tempfile.TemporaryDirectory() as folder, tempfile.TemporaryDirectory() as tests:
         program = os.path.abspath(f"{crates}/othsolve/out/othsolve")
         unmade = ran_wrong([f"{TOP}/examples/c/library.sh", folder, crates], patience=BUILD_PATIENCE)
@@ -60,12 +60,12 @@ def steps(crates):
 
 
 def ran_wrong(words, given="", wanted="", patience=PATIENCE, **how):
-    """What is wrong with a run that is to print just this with status 0, if anything."""
+    """Tells what is wrong with a run that is to print just this with status 0, if anything."""
     try:
         ran = subprocess.run(words, input=given, stdout=subprocess.PIPE, stderr=subprocess.PIPE, text=True, timeout=patience, **how)
     except (OSError, subprocess.TimeoutExpired) as error:
         return f"{words[0]}: {error}"
-    for at, (found, want) in enumerate(zip(ran.stdout.splitlines(), wanted.splitlines())):
+    for at, (found, want) in enumerate(zip(ran.stdout.splitlines(), wanted.splitlines(), strict=False)):
         if found != want:
             return f"line {at + 1}: {found!r} in place of {want!r}"
     if ran.returncode != 0 or ran.stdout != wanted:
@@ -74,18 +74,15 @@ def ran_wrong(words, given="", wanted="", patience=PATIENCE, **how):
 
 
 def printed(words, given):
-    """What a run prints."""
+    """Tells what a run prints."""
     return subprocess.run(words, input=given, stdout=subprocess.PIPE, text=True, timeout=PATIENCE, check=False).stdout
 
 
-def text_of(lines):
-    return "".join(f"{line}\n" for line in lines)
-
-
 def example(folder):
-    """The example by its build line, in a folder with nothing but the header, the library and the example."""
+    """Builds the example by its build line, in a folder with nothing but the header, the library and the example."""
     build = build_line(f"{folder}/worked.c")
-    yield "the C example's folder has nothing else", None if sorted(os.listdir(folder)) == ["libothsolve.a", "othsolve.h", "worked.c"] else "more files"
+    alone = sorted(os.listdir(folder)) == ["libothsolve.a", "othsolve.h", "worked.c"]
+    yield "the C example's folder has nothing else", None if alone else "more files"
     yield f"the C example is built: {' '.join(build)}", ran_wrong([*build, *FLAGS], cwd=folder)
     if shutil.which("c++"):
         words = ["c++", "-x", "c++", "-fsyntax-only", "-Wall", "-Wextra", "-Werror", "othsolve.h"]
@@ -99,7 +96,7 @@ def example(folder):
 
 
 def shown(folder):
-    """The program that docs/LIBRARY.md shows, by the line that it shows, writes what the page says."""
+    """Tests that the program that docs/LIBRARY.md shows, by the line that it shows, writes what the page says."""
     with open(f"{TOP}/docs/LIBRARY.md", encoding="utf-8") as file:
         page = file.read().split("### The score of every move\n")[1].split("\n### ")[0]
     code, told = page.split("```c\n")[1].split("```\n\n")
@@ -111,7 +108,7 @@ def shown(folder):
 
 
 def build_line(source):
-    """The words behind `Build line:` in the example."""
+    """Returns the words behind `Build line:` in the example."""
     with open(source, encoding="ascii") as file:
         return file.read().split("Build line: ")[1].split("*/")[0].split()
 
@@ -121,7 +118,7 @@ def board_lines():
 
 
 def against_program(program, calls, lines):
-    """The same replies as the program: by one thread, by four at once, and by eight over one table."""
+    """Tests that C replies as the program does: by one thread, by four at once, and by eight over one table."""
     text = text_of([*lines, *faulty_lines()])
     for scoring in ("winner", "discs"):
         for cells in ("0", "4096"):
@@ -142,13 +139,13 @@ def against_program(program, calls, lines):
 
 
 def scores(program, calls):
-    """The scores of all moves: as a small solver tells them, and as the program answers the boards after the moves."""
+    """Tests the scores of all moves: as a small solver tells them, and as the program answers the boards after the moves."""
     few = minimax.boards(SEED + 1, SCORED, MOST_EMPTIES_SCORED)
     values = [[minimax.value(*child) for _, child in boards_after(board)] for board in few]
     many = minimax.boards(SEED, BOARDS, MOST_EMPTIES)
     faulty = text_of(faulty_lines())
     for at, scoring in enumerate(("winner", "discs")):
-        wanted = [scores_line(board, [value[at] for value in each]) for board, each in zip(few, values)]
+        wanted = [scores_line(board, [value[at] for value in each]) for board, each in zip(few, values, strict=True)]
         told = by_children(program, many, scoring)
         refused = printed([program, "solve"], faulty)
         for cells in ("0", "64"):
@@ -163,49 +160,51 @@ def scores(program, calls):
 
 
 def boards_after(board):
-    """The legal squares of a board with the boards after a move there, by rising squares; where there is none no square, and the board itself."""
+    """Returns the legal squares of a board with the boards after a move there, by rising squares; or None and the board itself."""
     cells, side = board
     moves = [(square, (minimax.after(cells, side, square, turned), minimax.other(side))) for square, turned in minimax.moves(cells, side)]
     return moves or [(None, board)]
 
 
 def scores_line(board, scores):
-    """The moves with their scores, the greatest first and equal ones by rising squares; else the score, and `pass` or `end`.
+    """Returns the moves with their scores, the greatest first and equal ones by rising squares; else the score, and `pass` or `end`.
 
     Given are the scores of the boards behind the moves, in their order and for who is to move there."""
-    found = [(score, square) if square is None else (-score, square) for (square, _), score in zip(boards_after(board), scores)]
+    behind = zip(boards_after(board), scores, strict=True)
+    found = [(score, square) if square is None else (-score, square) for (square, _), score in behind]
+    found.sort(key=lambda each: -each[0])
     word = "pass" if minimax.moves(board[0], minimax.other(board[1])) else "end"
-    return " ".join(minimax.report(score, word if square is None else minimax.name(square)) for score, square in sorted(found, key=lambda each: -each[0]))
+    return " ".join(minimax.report(score, word if square is None else minimax.name(square)) for score, square in found)
 
 
 def by_children(program, boards, scoring):
-    """The same line of each board, by what the program answers of the boards after its moves."""
+    """Returns the scores line of each board, by what the program answers of the boards after its moves."""
     lines = text_of(minimax.board_line(*child) for board in boards for _, child in boards_after(board))
     told = (int(line.split()[0]) for line in printed([program, "solve", "--scoring", scoring], lines).splitlines())
     return [scores_line(board, [next(told) for _ in boards_after(board)]) for board in boards]
 
 
 def moves_on_boards(calls):
-    """Random moves on boards lead to the boards, or have the faults, that the small solver's rules give."""
+    """Tests that random moves on boards lead to the boards, or have the faults, that the small solver's rules give."""
     draw = random.Random(SEED)
     games = [differential.some_moves(draw, *board) for board in minimax.boards(SEED, PLAYED, differential.MOST_EMPTIES_PLAYED)]
-    lines, wanted = zip(*games)
+    lines, wanted = zip(*games, strict=True)
     yield f"moves on {PLAYED} boards in C as by the small solver's rules", ran_wrong([calls, "play"], text_of(lines), text_of(wanted))
 
 
 def deeper_lines():
-    """Boards of 6 to 15 empty squares, two of each."""
+    """Returns boards of 6 to 15 empty squares, two of each."""
     return [minimax.board_line(*board) for board in minimax.boards(SEED, 10 * 16, 15)[-20:]]
 
 
 def faulty_lines():
-    """Board lines with each fault."""
+    """Returns board lines with each fault."""
     start = minimax.board_line(minimax.START, "X")
     return [start, start[:-1], f"{start}X", f"x{start[1:]}", f"{start[:63]}x{start[64:]}", f"{start[:64]}XX", f"{start[:65]}x", " "]
 
 
 def transcripts():
-    """Beginnings of random games, with and without a fault."""
+    """Returns beginnings of random games, with and without a fault."""
     draw = random.Random(SEED)
     games = ["", "f5d", "F5", "f5f5", "e6f4e3f6g5d6e7f5c5a1", "f5i1"]
     while len(games) < GAMES:
@@ -221,7 +220,7 @@ def transcripts():
 
 
 def without_memory(program, calls, lines):
-    """Want of memory changes no answer, whichever request of a call is refused."""
+    """Tests that being out of memory changes no answer, whichever request of a call is refused."""
     text = text_of(lines)
     for cells in ("0", "64"):
         wanted = printed([program, "solve", "--cells", cells], text)
@@ -238,15 +237,18 @@ def without_memory(program, calls, lines):
 
 
 def under_valgrind(program, calls, lines):
-    """No error and nothing lost."""
+    """Tests that valgrind finds no error, and nothing lost."""
     yield "valgrind: each refusal of a C call", ran_wrong([*VALGRIND, calls, "refusals"])
     text = text_of([*lines, *faulty_lines()])
     for cells in ("0", "64"):
         wanted = printed([program, "solve", "--cells", cells], text)
-        yield f"valgrind: {len(lines)} boards, {cells} cells, four threads", ran_wrong([*VALGRIND, calls, "solve", "winner", cells, "4"], text, wanted)
+        words = [*VALGRIND, calls, "solve", "winner", cells, "4"]
+        yield f"valgrind: {len(lines)} boards, {cells} cells, four threads", ran_wrong(words, text, wanted)
     wanted = printed([program, "solve"], text)
-    yield f"valgrind: {len(lines)} boards by calls that are ended, over one table", ran_wrong([*VALGRIND, calls, "within", "winner", "64", "1"], text, wanted)
-    yield f"valgrind: {len(lines)} boards, four threads over one table", ran_wrong([*VALGRIND, calls, "share", "winner", "64", "4"], text, wanted)
+    words = [*VALGRIND, calls, "within", "winner", "64", "1"]
+    yield f"valgrind: {len(lines)} boards by calls that are ended, over one table", ran_wrong(words, text, wanted)
+    words = [*VALGRIND, calls, "share", "winner", "64", "4"]
+    yield f"valgrind: {len(lines)} boards, four threads over one table", ran_wrong(words, text, wanted)
     scored = printed([calls, "scores", "winner", "64", "1"], text)
     for command in ("scores", "share-scores"):
         yield f"valgrind: {command} of {len(lines)} boards", ran_wrong([*VALGRIND, calls, command, "winner", "64", "4"], text, scored)

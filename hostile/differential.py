@@ -4,7 +4,7 @@ import random
 import tempfile
 
 import minimax
-from running import ran
+from running import ran, text_of
 
 SEED = 20261123
 BOARDS = 2000
@@ -16,14 +16,14 @@ WAITING = 1000
 MOST_EMPTIES_WAITING = 12
 TOGETHER = 40
 EMPTIES_TOGETHER = (13, 14)
-PATIENCE = 120
+PATIENCE = 600
 WORKERS = (1, 2, 16)
 CELLS = (0, 1, 65536)
 SCORINGS = ("winner", "discs")
 
 
 def steps(program):
-    """A step for each scoring, number of workers and table, and then for boards that take longer: its name, and what is wrong with it, if anything."""
+    """Yields a step for each scoring, number of workers and table, then for longer boards: its name, and what is wrong, if anything."""
     yield from small_steps(program)
     yield from side_by_side(program)
     yield from together(program)
@@ -31,7 +31,7 @@ def steps(program):
 
 
 def small_steps(program):
-    """The steps of boards that take no time."""
+    """Yields the steps of boards that take no time."""
     boards = minimax.boards(SEED, BOARDS, MOST_EMPTIES)
     lines = [minimax.board_line(*board) for board in boards]
     wanted = [minimax.reports(*board) for board in boards]
@@ -54,16 +54,16 @@ def small_steps(program):
 
 
 def moves_on_boards(program):
-    """A step: random moves on boards lead to the boards, or have the faults, that the small solver's rules give."""
+    """Returns a step: random moves on boards lead to the boards, or have the faults, that the small solver's rules give."""
     draw = random.Random(SEED + 3)
     games = [some_moves(draw, *board) for board in minimax.boards(SEED + 3, GAMES, MOST_EMPTIES_PLAYED)]
-    lines, wanted = map(list, zip(*games))
+    lines, wanted = map(list, zip(*games, strict=True))
     name = f"{GAMES} boards of 0 to {MOST_EMPTIES_PLAYED} empty squares with moves played on them"
     return name, difference([program, "play"], lines, wanted)
 
 
 def some_moves(draw, cells, side):
-    """A board line with some moves behind it, of which one may be faulty, and the line that answers it."""
+    """Returns a board line with some moves behind it, of which one may be faulty, and the line that answers it."""
     line, names, faulty_at = minimax.board_line(cells, side), [], draw.randrange(2 * MOST_EMPTIES_PLAYED)
     for at in range(draw.randrange(MOST_EMPTIES_PLAYED + 1)):
         cells, side = minimax.awake(cells, side)
@@ -80,10 +80,10 @@ def some_moves(draw, cells, side):
 
 
 def side_by_side(program):
-    """Boards that are searched side by side by several workers have the answers and the scores that one worker gives."""
+    """Tests that boards that are searched side by side by several workers have the answers and the scores that one worker gives."""
     boards = minimax.boards(SEED + 1, WAITING, MOST_EMPTIES_WAITING)
     lines = [minimax.board_line(*board) for board in boards]
-    text = "".join(f"{line}\n" for line in lines)
+    text = text_of(lines)
     for command in ("solve", "scores"):
         alone = printed([program, command], text)[1]
         for workers in ("2", "4", "16"):
@@ -92,20 +92,21 @@ def side_by_side(program):
 
 
 def together(program):
-    """Boards that come alone, each of which several workers search together, have the answers that one worker gives."""
+    """Tests that boards that come alone, each of which several workers search together, have the answers that one worker gives."""
     draw = random.Random(SEED + 2)
     boards = [minimax.game_board(draw, EMPTIES_TOGETHER[at % 2]) for at in range(TOGETHER)]
     lines = [minimax.board_line(*board) for board in boards]
-    alone = printed([program, "solve"], "".join(f"{line}\n" for line in lines))[1]
+    alone = printed([program, "solve"], text_of(lines))[1]
     name = f"{TOGETHER} boards of {' or '.join(map(str, EMPTIES_TOGETHER))} empty squares, each by 4 workers together as by one"
-    wrong = [difference([program, "solve", "--workers", "4"], [line], [answer]) for line, answer in zip(lines, alone)]
+    words = [program, "solve", "--workers", "4"]
+    wrong = [difference(words, [line], [answer]) for line, answer in zip(lines, alone, strict=False)]
     yield name, next(filter(None, wrong), None) if len(alone) == TOGETHER else f"{len(alone)} answers by one"
 
 
 def book_side_by_side(program):
-    """A book that several workers add to and verify is that of one worker, and so is the wrong entry that they name."""
+    """Tests that a book that several workers add to and verify is that of one worker, and so is the wrong entry that they name."""
     boards = minimax.boards(SEED + 1, WAITING, MOST_EMPTIES_WAITING)
-    text = "".join(f"{minimax.board_line(*board)}\n" for board in boards).encode()
+    text = text_of(minimax.board_line(*board) for board in boards).encode()
     with tempfile.NamedTemporaryFile() as empty, tempfile.NamedTemporaryFile() as wrong:
         empty.write(b"OBOOK2 W\nEND 000000\n")
         empty.flush()
@@ -124,29 +125,29 @@ def book_side_by_side(program):
 
 
 def output(words, text):
-    """The status, and what was written on standard output and on standard error."""
+    """Returns the status, and what was written on standard output and on standard error."""
     return tuple(ran(words, text, PATIENCE))
 
 
 def printed(words, text):
-    """The status, and the lines that were written."""
+    """Returns the status, and the lines that were written."""
     done = ran(words, text.encode(), PATIENCE)
     return done.status, done.wrote.decode(errors="replace").splitlines()
 
 
 def with_another_score(entry):
-    """The line of an exact entry, with bounds that are another number."""
+    """Returns the line of an exact entry, with bounds that are another number."""
     score = int(entry[65:68])
     other = f"{score - 2 if score > 0 else score + 2:+03d}".encode()
     return entry[:65] + other + b" " + other + entry[72:]
 
 
 def by_book(program, scoring, lines, wanted):
-    """What is wrong with a book that the first boards were added to, if anything: it is verified, and all boards are answered over it."""
+    """Tells what is wrong with a book that the first boards were added to, if anything: it is verified, and all boards are asked of it."""
     with tempfile.NamedTemporaryFile() as empty, tempfile.NamedTemporaryFile() as book:
         empty.write(f"OBOOK2 {scoring[0].upper()}\nEND 000000\n".encode())
         empty.flush()
-        text = "".join(f"{line}\n" for line in lines[:BOOKED])
+        text = text_of(lines[:BOOKED])
         added = ran([program, "book-add", empty.name], text.encode(), PATIENCE, stdout=book)
         if added.status != 0 or added.said:
             return f"book-add: status {added.status}, {added.said[:200]!r}"
@@ -157,10 +158,10 @@ def by_book(program, scoring, lines, wanted):
 
 
 def difference(words, lines, wanted):
-    """The first board that the program answers otherwise, or None."""
-    text = "".join(f"{line}\n" for line in lines)
+    """Returns the first board that the program answers otherwise, or None."""
+    text = text_of(lines)
     status, answers = printed(words, text)
-    for line, answer, want in zip(lines, answers, wanted):
+    for line, answer, want in zip(lines, answers, wanted, strict=False):
         if answer != want:
             return f"{line}: {answer}, and not {want}"
     if len(answers) != len(lines) or status != 0:

@@ -3,10 +3,11 @@
 
     hostile/flow.py PROGRAM
 
-prints in wall-clock seconds how they come: the first answer, the longest silence and the whole, by 1 and by 4 workers. By 4 on an idle machine of 4
-processors 0.1 and 0.5 seconds are the goals, and to be 3 times as fast as one. As a part of hostile/run.py it knows no seconds: a busy
-machine is slow throughout, so the first answer and each silence are measured by the whole of the same run.
+prints in wall-clock seconds how they come: the first answer, the longest silence and the whole, by 1 and by 4 workers. By 4 on an idle
+machine of 4 processors 0.1 and 0.5 seconds are the goals, and to be 3 times as fast as one. As a part of hostile/run.py it knows no
+seconds: a busy machine is slow throughout, so the first answer and each silence are measured by the whole of the same run.
 """
+import argparse
 import os
 import select
 import signal
@@ -33,7 +34,7 @@ TRIES = 3
 
 
 def opened(given):
-    """An open file with these bytes, to be read from its beginning."""
+    """Opens a file with these bytes, to be read from its beginning."""
     file = tempfile.TemporaryFile()
     file.write(given)
     file.seek(0)
@@ -67,18 +68,18 @@ class Flow:
 
 
 def read_before(deadline, pipe):
-    """The next bytes of a pipe, none at its end; None where they don't come in time."""
+    """Returns the next bytes of a pipe, none at its end; None where they don't come in time."""
     ready, _, _ = select.select([pipe], [], [], max(0, deadline - time.monotonic()))
     return os.read(pipe, 65536) if ready else None
 
 
 def longest(moments):
-    """The longest time from one moment to the next."""
-    return max((after - before for before, after in zip(moments, moments[1:])), default=0.0)
+    """Returns the longest time from one moment to the next."""
+    return max((after - before for before, after in zip(moments, moments[1:], strict=False)), default=0.0)
 
 
 def flow_wrong(words, given, wanted):
-    """What is wrong with how answers come, if anything."""
+    """Tells what is wrong with how answers come, if anything."""
     for _ in range(TRIES):
         flow = Flow(words, given)
         if flow.status != 0 or flow.wrote != wanted:
@@ -92,7 +93,7 @@ class Ended:
     """A run into a file that is ended by a signal in the middle: its status, what it left, and when the file grew."""
 
     def __init__(self, words, given, number, after, most):
-        """The signal is sent so many seconds after the start, or when so many lines are there."""
+        """Sends the signal `after` seconds after the start, or when `most` lines are there."""
         begin, seen = time.monotonic(), b""
         self.moments = [0.0]
         with opened(given) as source, tempfile.TemporaryFile() as file:
@@ -109,13 +110,13 @@ class Ended:
         self.seen = seen
 
     def wrong(self, wanted):
-        """What is wrong with what it left, if anything, however busy the machine is."""
+        """Tells what is wrong with what it left, if anything, however busy the machine is."""
         if self.left and not self.left.endswith(b"\n") or not wanted.startswith(self.left):
             return f"left {self.left[-100:]!r}, which is no beginning of the answers"
         return None if self.left.startswith(self.seen) else f"{len(self.seen)} bytes were there, and {len(self.left)} are left"
 
     def late(self):
-        """What came too late, if anything: all answers, or some for a long time."""
+        """Tells what came too late, if anything: all answers, or some for a long time."""
         still = longest([*self.moments, self.elapsed])
         if not self.left:
             return f"no answer was there after {self.elapsed:.2f} s"
@@ -123,12 +124,12 @@ class Ended:
 
 
 def contents(file):
-    """What a file has, whoever writes it."""
+    """Tells what a file has, whoever writes it."""
     return os.pread(file.fileno(), os.fstat(file.fileno()).st_size, 0)
 
 
 def ended_wrong(words, given, wanted, number, whole):
-    """What is wrong with a run that is ended in the middle, if anything. To its end it may take so many seconds as the whole."""
+    """Tells what is wrong with a run that is ended in the middle, if anything. To its end it may take `whole` seconds."""
     for _ in range(TRIES):
         ended = Ended(words, given, number, whole / 2, BOARDS // 2)
         if wrong := ended.wrong(wanted):
@@ -143,7 +144,7 @@ def ended_wrong(words, given, wanted, number, whole):
 
 
 def left_wrong(words, given, whole):
-    """What is wrong with a run whose reader leaves behind the first answer, if anything: it ends, by half of the whole time at most."""
+    """Tells what is wrong with a run whose reader leaves behind the first answer, if anything: it ends within half of the whole time."""
     for _ in range(TRIES):
         with opened(given) as source, subprocess.Popen(words, stdin=source, stdout=subprocess.PIPE, stderr=subprocess.PIPE) as started:
             started.stdout.readline()
@@ -159,7 +160,7 @@ def left_wrong(words, given, whole):
 
 
 def steps(program):
-    """A step for each run: its name, and what is wrong with it, if anything."""
+    """Yields a step for each run: its name, and what is wrong with it, if anything."""
     given = board_lines(SEED, BOARDS, EMPTIES)
     alone = Flow([program, "solve"], given)
     good = alone.status == 0 and alone.wrote.count(b"\n") == BOARDS
@@ -177,12 +178,12 @@ def steps(program):
 
 
 def main():
-    if len(sys.argv) != 2:
-        print(__doc__)
-        return 2
+    parser = argparse.ArgumentParser(description=__doc__, formatter_class=argparse.RawDescriptionHelpFormatter)
+    parser.add_argument("program", metavar="PROGRAM", type=os.path.abspath, help="the built program")
+    program = parser.parse_args().program
     given, wholes = board_lines(SEED, BOARDS, EMPTIES), []
     for workers in (1, 4):
-        flow = Flow([os.path.abspath(sys.argv[1]), "solve", "--workers", str(workers)], given)
+        flow = Flow([program, "solve", "--workers", str(workers)], given)
         wholes.append(flow.whole)
         print(f"{workers} workers, {flow.wrote.count(10)} answers: {flow.figures()}", flush=True)
     print(f"4 workers are {wholes[0] / wholes[1]:.2f} times as fast as one")

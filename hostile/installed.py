@@ -1,7 +1,7 @@
 """Installs what is built into an empty folder, builds programs there as a stranger would, and takes it away again.
 
-It needs `cc`, `ar`, `nm`, `readelf` and bash. Where pkg-config isn't installed, what it would say is read from `othsolve.pc` by hand; where man or zsh
-isn't, the files are compared and no program is asked.
+It needs `cc`, `ar`, `nm`, `readelf` and bash. Where pkg-config isn't installed, what it would say is read from `othsolve.pc` by hand; where
+man or zsh isn't, the files are compared and no program is asked.
 """
 import os
 import re
@@ -13,9 +13,8 @@ import textwrap
 
 import c_library
 import minimax
-from running import ran
+from running import TOP, ran, text_of
 
-TOP = c_library.TOP
 INSTALL = f"{TOP}/install"
 PYTHON = f"{TOP}/examples/python"
 VERSION = "0.1.0"
@@ -130,6 +129,13 @@ Table(64).solve_within(Board.of_line(A), 1 << 40) | Answer(score=-50, best=('h1'
 type(Table(64).solve_within(Board.of_line(A), 0)).__name__ | 'Bounds'
 Board.of_line(A).solve(cells=3) | Refused: the cells are neither 0 nor one of 1, 2, 4 .. 262144
 Board.of_line(A).solve(cells=-1) | Refused: the cells are neither 0 nor one of 1, 2, 4 .. 262144
+Table(64).solve_within(Board.of_line(A), -1) | ValueError: `most` is -1, and 0 to 2**64 - 1 can be asked for
+Table(64).solve_within(Board.of_line(A), 1 << 64) | ValueError: `most` is 18446744073709551616, and 0 to 2**64 - 1 can be asked for
+Board.of_line(None) | TypeError: a line is a str, not NoneType
+Board.start().play_game(b"f5") | TypeError: a line is a str, not bytes
+list(solve_all([Board.of_line(A)], 0)) | ValueError: `threads` is 0, and has to be 1 or more
+str(again(refusal("f5d6a1"))) | 'the move of pair 3 is illegal'
+again(refusal("f5d6a1")).code, again(refusal("f5d6a1")).place | (23, 3)
 Board.of_line(A).solve(cells=1 << 32) | Refused: the cells are neither 0 nor one of 1, 2, 4 .. 262144
 Board.of_line(A).solve(2) | ValueError: 2 is not a valid Scoring
 Board.start().play("a1") | Refused: the move is illegal
@@ -146,15 +152,48 @@ Board.of_transcript("f5i9") | Refused: pair 2 is no letter from a to h and a dig
 Board.of_transcript("e6f4e3f6g5d6e7f5c5a1") | Refused: the game is over before pair 10
 """
 EVALUATES = """
+import pickle
 import sys
 from othsolve import *
 A = "--OXOOO-" + "O" * 56 + " X"
 PASSES = A[:65] + "O"
+def again(thing):
+    return pickle.loads(pickle.dumps(thing))
+def refusal(moves):
+    try:
+        Board.of_transcript(moves)
+    except Refused as refused:
+        return refused
 for line in sys.stdin:
     try:
         print(repr(eval(line)))
-    except ValueError as error:
+    except (TypeError, ValueError) as error:
         print(f"{type(error).__name__}: {error}")
+"""
+# Makes more tables than there is memory for, each dropped or closed before the next one; closes one while a thread solves over it.
+TABLES = """
+import resource
+import threading
+import time
+from othsolve import Board, Refused, Table
+resource.setrlimit(resource.RLIMIT_AS, (1 << 30, 1 << 30))
+for _ in range(200):
+    Table(262_144)
+for _ in range(200):
+    with Table(262_144):
+        pass
+board = Board.of_transcript(input())
+table, answers = Table(64), []
+solving = threading.Thread(target=lambda: answers.append(table.solve(board)))
+solving.start()
+time.sleep(0.05)
+table.close()
+solving.join()
+table.close()
+try:
+    table.solve(board)
+except Refused as refused:
+    print(len(answers), refused)
 """
 # What is typed, and what completion offers.
 COMPLETES = {
@@ -185,6 +224,13 @@ _othsolve
 [ ${#COMPREPLY[@]} = 0 ] || printf '%s\\n' "${COMPREPLY[@]}"
 """
 
+# Copies, and ends whoever called it after the copy of number AT. (SIGINT is ignored where a run is begun in the background.)
+INTERRUPTING_CP = """#!/bin/sh
+"$CP" "$@" || exit
+echo >> "$COUNT"
+[ "$(wc -l < "$COUNT")" -ne "$AT" ] || kill -TERM "$PPID"
+"""
+INTERRUPTED_AT = range(2, 40, 3)
 # Copies as `cp` does, but fails once at the file AT.
 FAILING_CP = """#!/bin/sh
 for last; do :; done
@@ -197,7 +243,7 @@ exec "$CP" "$@"
 
 
 def steps(crates):
-    """A step for each thing that is asked: its name, and what is wrong, if anything."""
+    """Yields a step for each thing that is asked: its name, and what is wrong, if anything."""
     with tempfile.TemporaryDirectory() as folder:
         os.mkdir(f"{folder}/work")
         if not os.path.isfile(f"{crates}/oth_c/out/liboth_c.a"):
@@ -213,7 +259,7 @@ def steps(crates):
         yield from program(prefix)
         yield from shared_object(prefix)
         yield from c_programs(folder, prefix)
-        yield from python(prefix)
+        yield from python(folder, prefix)
         yield from bash_completion(folder, prefix)
         yield from zsh_completion(prefix)
         yield from again_and_away(folder, prefix, crates)
@@ -226,7 +272,7 @@ def differs(found, wanted):
 
 
 def files(folder):
-    """All files below a folder, and links."""
+    """Returns all files below a folder, and links."""
     return sorted(os.path.relpath(f"{at}/{name}", folder) for at, _, names in os.walk(folder) for name in names)
 
 
@@ -236,7 +282,7 @@ def read(path):
 
 
 def refused(folder, crates):
-    """Installations that can't be made leave nothing, and say why."""
+    """Tests that installations that can't be made leave nothing, and say why."""
     os.mkdir(f"{folder}/empty")
     os.mkdir(f"{folder}/no_crates")
     rows = [
@@ -260,13 +306,14 @@ def refused(folder, crates):
         yield f"install says how {crate} is built", None if told in said else said
     os.makedirs(f"{folder}/taken/bin/othsolve")
     found = ran([INSTALL, f"{folder}/taken", crates])
-    yield "install is refused where a folder stands in a file's place", None if found.status == 1 and not files(f"{folder}/taken") else f"{found}"
+    right = found.status == 1 and not files(f"{folder}/taken")
+    yield "install is refused where a folder stands in a file's place", None if right else f"{found}"
 
 
 def program(prefix):
-    """The program, and its page."""
+    """Tests the program, and its page."""
     boards = read(f"{TOP}/examples/boards.txt")
-    wanted = c_library.text_of(c_library.WORKED["winner"].replace("refused: 5", "error 5 60").split("|"))
+    wanted = text_of(c_library.WORKED["winner"].replace("refused: 5", "error 5 60").split("|"))
     yield "the worked boards by the installed program", c_library.ran_wrong([f"{prefix}/bin/othsolve", "solve"], boards, wanted)
     page = f"{prefix}/share/man/man1/othsolve.1"
     yield "the installed page is docs/othsolve.1", differs(read(page), read(f"{TOP}/docs/othsolve.1"))
@@ -276,7 +323,7 @@ def program(prefix):
 
 
 def shared_object(prefix):
-    """What the shared object is called, what is seen of it, and what it needs."""
+    """Tests what the shared object is called, what is seen of it, and what it needs."""
     library = f"{prefix}/lib/libothsolve.so"
     seen = ran(["nm", "-D", "--defined-only", library]).wrote.decode().split("\n")
     declared = re.findall(r"^(?:uint32_t|void) (oth_\w+)\(", read(f"{prefix}/include/othsolve.h"), re.MULTILINE)
@@ -287,13 +334,13 @@ def shared_object(prefix):
 
 
 def dynamic(file, kind):
-    """The names of this kind that a file for the dynamic linker tells."""
+    """Returns the names of this kind that a file for the dynamic linker tells."""
     text = ran(["readelf", "-dW", file]).wrote.decode()
     return re.findall(rf"\({kind}\).*\[(.*)\]", text)
 
 
 def flags_by_hand(prefix):
-    """The words for the C compiler and the linker, and the folder of the libraries, as `othsolve.pc` says them."""
+    """Returns the words for the C compiler and the linker, and the folder of the libraries, as `othsolve.pc` says them."""
     names, text = {}, read(f"{prefix}/lib/pkgconfig/othsolve.pc")
     for line in text.split("\n"):
         pair = re.fullmatch(r"(\w+)(=|: )(.*)", line)
@@ -303,7 +350,7 @@ def flags_by_hand(prefix):
 
 
 def flags(prefix):
-    """The same by pkg-config, where that is installed."""
+    """Returns what `flags_by_hand` does, but by pkg-config where that is installed."""
     if not shutil.which("pkg-config"):
         return flags_by_hand(prefix)
     told = {**os.environ, "PKG_CONFIG_PATH": f"{prefix}/lib/pkgconfig"}
@@ -313,7 +360,7 @@ def flags(prefix):
 
 
 def c_programs(folder, prefix):
-    """A fresh program and the example, over the shared object and over the archive."""
+    """Tests a fresh program and the example, over the shared object and over the archive."""
     words, libraries, version = flags(prefix)
     yield "what othsolve.pc says", differs((words, libraries, version), flags_by_hand(prefix))
     printed = ran([f"{prefix}/bin/othsolve", "--version"]).wrote.decode()
@@ -325,7 +372,7 @@ def c_programs(folder, prefix):
     shutil.copy(f"{TOP}/examples/c/worked.c", here)
     archive = [word for word in words if not word.startswith(("-L", "-l"))] + [f"{libraries}/libothsolve.a"]
     given = read(f"{TOP}/examples/boards.txt")
-    rows = c_library.text_of(c_library.WORKED["winner"].split("|"))
+    rows = text_of(c_library.WORKED["winner"].split("|"))
     for kind, ends, needed, around in (("shared object", words, [SONAME], {"LD_LIBRARY_PATH": libraries}), ("archive", archive, [], {})):
         for name, boards, wanted in (("fresh", "", FRESH_WRITES), ("worked", given, rows)):
             made = ["cc", *c_library.FLAGS, f"{name}.c", *ends, "-o", f"{name}_{len(needed)}"]
@@ -336,24 +383,24 @@ def c_programs(folder, prefix):
             yield f"{name}.c over the installed {kind}", run
 
 
-def python(prefix):
-    """The example for Python, over the installed shared object."""
+def python(folder, prefix):
+    """Tests the module for Python, over the installed shared object."""
     told = {**os.environ, "OTHSOLVE_LIBRARY": f"{prefix}/lib/{SONAME}", "PYTHONPATH": PYTHON, "PYTHONDONTWRITEBYTECODE": "1"}
     rows = [line.split(" | ") for line in PYTHON_ROWS.strip().split("\n")]
-    given, wanted = (c_library.text_of(column) for column in zip(*rows))
+    given, wanted = (text_of(column) for column in zip(*rows, strict=True))
     yield f"{len(rows)} expressions in Python", c_library.ran_wrong([sys.executable, "-c", EVALUATES], given, wanted, env=told)
     yield "each refusal says in Python what the header says", refusals_differ(told)
     yield from python_shown(told)
     boards = list(minimax.boards(THREADS_SEED, THREADS_BOARDS, THREADS_EMPTIES))
-    lines = c_library.text_of(minimax.board_line(*board) for board in boards)
-    reports = list(zip(*(minimax.reports(*board) for board in boards)))
-    for scoring, answers in zip(("winner", "discs"), reports):
+    lines = text_of(minimax.board_line(*board) for board in boards)
+    reports = list(zip(*(minimax.reports(*board) for board in boards), strict=True))
+    for scoring, answers in zip(("winner", "discs"), reports, strict=True):
         for threads in ("1", "4"):
             name = f"{len(boards)} boards in Python by {threads} threads as a small solver answers them: {scoring}"
             words = [sys.executable, "-c", SOLVES, threads, scoring]
-            yield name, c_library.ran_wrong(words, lines, c_library.text_of(answers), env=told)
+            yield name, c_library.ran_wrong(words, lines, text_of(answers), env=told)
         words = [sys.executable, "-c", SHARES, scoring]
-        yield f"the same by 4 threads over one table: {scoring}", c_library.ran_wrong(words, lines, c_library.text_of(answers), env=told)
+        yield f"the same by 4 threads over one table: {scoring}", c_library.ran_wrong(words, lines, text_of(answers), env=told)
     games = read(f"{TOP}/examples/games.txt")
     analyse = [sys.executable, f"{PYTHON}/analyse.py"]
     yield "a game analysed from 12 empty squares on", c_library.ran_wrong(analyse, games.splitlines(True)[0], ANALYSED, env=told)
@@ -363,14 +410,46 @@ def python(prefix):
     faulty = ran(analyse, b"f5d6a1\n", env=told)
     right = (faulty.status, faulty.wrote) == (1, b"game 1\nrefused: the move of pair 3 is illegal\n")
     yield "a game with a fault is refused", None if right else f"{faulty}"
+    yield from python_games(analyse, games.splitlines(True)[0], told)
+    yield "tables are freed, also one that is closed while it is used", c_library.ran_wrong(
+        [sys.executable, "-c", TABLES], games[:88] + "\n", "1 there is no seat\n", env=told)
+    yield from python_package(folder, told)
     unfound = ran(analyse, b"", env={**told, "OTHSOLVE_LIBRARY": f"{prefix}/nowhere.so"})
     right = unfound.status == 1 and f"{prefix}/nowhere.so".encode() in unfound.said.splitlines()[-1]
     yield "a library that isn't there is named", None if right else f"{unfound}"
 
 
+def python_games(analyse, game, told):
+    """Tests games as people write them, one with a fault near its end, and a reader who leaves."""
+    lines = ANALYSED.splitlines(True)
+    spaced = " ".join(game[at : at + 2].upper() for at in range(0, len(game) - 1, 2)) + "\r\n"
+    yield "a game in capitals, with spaces and a carriage return", c_library.ran_wrong(analyse, spaced, ANALYSED, env=told)
+    faulty = ran(analyse, game[:-3].encode() + b"a1\n", env=told)
+    wanted = "".join(lines[:-2]) + f"refused: the move of pair {len(game) // 2} is illegal\n"
+    right = (faulty.status, faulty.wrote.decode()) == (1, wanted)
+    yield "the moves before a fault are analysed", None if right else f"{faulty}"
+    left = ran(["bash", "-c", '"$@" | head -n 1', "bash", *analyse], game.encode() * 20, env=told)
+    yield "a reader who leaves is no fault", None if (left.wrote, left.said) == (b"game 1\n", b"") else f"{left}"
+    none = ran([*analyse, "--threads", "0"], game.encode(), env=told)
+    yield "no threads are refused in words", None if none.status == 2 and b"0 is less than 1" in none.said else f"{none}"
+
+
+def python_package(folder, told):
+    """Tests the module as `pip` puts it elsewhere, without a network."""
+    elsewhere = f"{folder}/site"
+    words = [sys.executable, "-m", "pip", "install", "--no-index", "--quiet", "--disable-pip-version-check", "--target", elsewhere, PYTHON]
+    yield "pip installs the module without a network", c_library.ran_wrong(words, env=told)
+    code = "import othsolve; print(othsolve.Board.start().moves_line(), othsolve.__file__)"
+    found = c_library.ran_wrong([sys.executable, "-c", code], "", f"d3 c4 f5 e6 {elsewhere}/othsolve/__init__.py\n",
+                                cwd=folder, env={**told, "PYTHONPATH": elsewhere})
+    yield "the module that pip installed", found
+    typed = os.path.exists(f"{elsewhere}/othsolve/py.typed")
+    yield "its types are marked", None if typed else "there is no py.typed"
+
+
 def python_shown(told):
-    """What the head of the module and docs/LIBRARY.md show of Python, run as it stands there."""
-    head, page = read(f"{PYTHON}/othsolve.py"), read(f"{TOP}/docs/LIBRARY.md").split("## From Python\n")[1]
+    """Tests what the head of the module and docs/LIBRARY.md show of Python, run as it stands there."""
+    head, page = read(f"{PYTHON}/othsolve/__init__.py"), read(f"{TOP}/docs/LIBRARY.md").split("## From Python\n")[1]
     code, wanted = block_behind("Nothing else is needed.", head), block_behind("This prints", head)
     yield "what the Python module's head shows", c_library.ran_wrong([sys.executable, "-c", code], "", wanted, env=told)
     shown = page.split("```python\n")[1].split("```")[0], block_behind("It prints", page)
@@ -381,20 +460,20 @@ def python_shown(told):
 
 
 def block_behind(mark, text):
-    """The indented lines behind a line that ends so."""
+    """Returns the indented lines behind a line that ends so."""
     block = re.search(rf"{re.escape(mark)}\n\n((?:    .*\n|\n(?=    ))+)", text)[1]
     return textwrap.dedent(block)
 
 
 def refusals_differ(told):
-    """What is wrong with the words of the module's refusals, beside those of the header's lines."""
+    """Tells what is wrong with the words of the module's refusals, beside those of the header's lines."""
     rows = re.findall(r"^    OTH_\w+ = (\d+),? +/\* (.*) \*/$", read(f"{TOP}/include/othsolve.h"), re.MULTILINE)
     given = "import othsolve; print({str(code): words for code, words in othsolve._WORDS.items()})"
     return differs(ran([sys.executable, "-c", given], env=told).wrote.decode().strip(), repr(dict(rows)))
 
 
 def analysed(number, game):
-    """What the example has to say of a game, by the small solver."""
+    """Tells what the example has to say of a game, by the small solver."""
     cells, side, lost, lines = list(minimax.START), "X", {"X": 0, "O": 0}, [f"game {number}"]
     for at in range(0, len(game), 2):
         legal = dict(minimax.moves(cells, side))
@@ -409,18 +488,18 @@ def analysed(number, game):
             lost[side] += loss
             lines.append(f"{empties:2} {side} {game[at:at + 2]} {worth:+d}" + (f", lost {loss}: {best}" if loss else ""))
         cells, side = child, minimax.other(side)
-    return c_library.text_of([*lines, f"X lost {lost['X']}, O lost {lost['O']}"])
+    return text_of([*lines, f"X lost {lost['X']}, O lost {lost['O']}"])
 
 
 def bash_completion(folder, prefix):
-    """What is offered for words as they are typed, and that it is all that the program takes."""
+    """Tests what is offered for words as they are typed, and that it is all that the program takes."""
     script, here = f"{prefix}/share/bash-completion/completions/othsolve", f"{folder}/typed"
     os.makedirs(f"{here}/other")
     with open(f"{here}/one.book", "wb"):
         pass
 
     def offered(typed):
-        """What is offered where the last word, which may be empty, is typed; `=` and `<` are words of their own, as bash has them."""
+        """Tells what is offered where the last word, which may be empty, is typed; `=` and `<` are words of their own, as bash has them."""
         words = re.sub(r"(--\w+)=", r"\1 = ", typed).split(" ")
         return sorted(ran(["bash", "--norc", "-c", COMPLETION, "bash", script, *words], cwd=here).wrote.decode().split())
 
@@ -436,20 +515,20 @@ def bash_completion(folder, prefix):
 
 
 def commands_of(prefix):
-    """The commands that the program's help names, but for `help`."""
+    """Returns the commands that the program's help names, but for `help`."""
     text = ran([f"{prefix}/bin/othsolve", "--help"]).wrote.decode()
     named = re.findall(r"^  ([a-z-]+) +\S", text.split("Commands:\n")[1].split("\n\n")[0], re.MULTILINE)
     return [name for name in named if name != "help"]
 
 
 def options_of(prefix, command):
-    """The long options that help of a command names at the head of a line."""
+    """Returns the long options that help of a command names at the head of a line."""
     text = ran([f"{prefix}/bin/othsolve", command, "--help"]).wrote.decode()
     return sorted(set(re.findall(r"^ +(?:-\w, )?(--[a-z]+)", text.split("Options:\n")[1].split("\n\n")[0], re.MULTILINE)))
 
 
 def zsh_completion(prefix):
-    """That the file for zsh names each command with its options; and that zsh can read it, where there is one."""
+    """Tests that the file for zsh names each command with its options; and that zsh can read it, where there is one."""
     text = read(f"{prefix}/share/zsh/site-functions/_othsolve")
     yield "zsh is told what the file completes", differs(text.split("\n")[0], "#compdef othsolve")
     arrays = dict(re.findall(r"^local -a (\w+)=\((.*?)\)$", text, re.MULTILINE | re.DOTALL))
@@ -464,14 +543,15 @@ def zsh_completion(prefix):
 
 
 def again_and_away(folder, prefix, crates):
-    """A second installation is as the first; taking it away leaves what was not of it, and no more."""
+    """Tests that a second installation is as the first, and that taking it away leaves what was not of it, and no more."""
     found = ran([INSTALL, prefix, crates])
     yield "an installation once more", None if found.status == 0 else f"{found}"
     yield "what is installed then", differs(files(prefix), FILES)
     with open(f"{prefix}/bin/mine", "wb"):
         pass
     found = ran([INSTALL, "--uninstall", prefix])
-    yield "what is left when it is taken away", differs((found.status, files(prefix), sorted(os.listdir(prefix))), (0, ["bin/mine"], ["bin"]))
+    left = found.status, files(prefix), sorted(os.listdir(prefix))
+    yield "what is left when it is taken away", differs(left, (0, ["bin/mine"], ["bin"]))
     found = ran([INSTALL, "--uninstall", prefix])
     yield "it can't be taken away twice", differs((found.status, files(prefix)), (1, ["bin/mine"]))
     mine = f"{folder}/own place"
@@ -484,10 +564,11 @@ def again_and_away(folder, prefix, crates):
 
 
 def below_destdir(folder, crates):
-    """As those who make packages install."""
+    """Tests an installation below DESTDIR, as those who make packages install."""
     told, root = {**os.environ, "DESTDIR": f"{folder}/package"}, f"{folder}/package/opt/othsolve"
     found = ran([INSTALL, "/opt/othsolve", crates], env=told)
-    yield "an installation below DESTDIR", differs((found.status, files(f"{folder}/package")), (0, [f"opt/othsolve/{name}" for name in FILES]))
+    wanted = [f"opt/othsolve/{name}" for name in FILES]
+    yield "an installation below DESTDIR", differs((found.status, files(f"{folder}/package")), (0, wanted))
     pc = read(f"{root}/lib/pkgconfig/othsolve.pc")
     yield "othsolve.pc names PREFIX and not DESTDIR", None if pc.startswith("prefix=/opt/othsolve\n") and "package" not in pc else pc
     found = ran([INSTALL, "--uninstall", "/opt/othsolve"], env=told)
@@ -495,7 +576,7 @@ def below_destdir(folder, crates):
 
 
 def without_room(folder, crates):
-    """Where a file can't be written nothing is left, and an earlier installation stays as it was."""
+    """Tests that nothing is left where a file can't be written, and that an earlier installation stays as it was."""
     prefix, shims, failed = f"{folder}/full", f"{folder}/shims", f"{folder}/failed"
     os.mkdir(shims)
     with open(f"{shims}/cp", "w", encoding="utf-8") as file:
@@ -516,12 +597,33 @@ def without_room(folder, crates):
     right = found.status == 1 and b"the earlier installation is back" in found.said and os.path.exists(failed)
     yield "one over an earlier one says that it is back", None if right else f"{found}"
     yield "the earlier one is as it was", None if before and contents(prefix) == before else f"{files(prefix)}"
+    yield from interrupted(folder, prefix, crates, before)
     found = ran([INSTALL, "--uninstall", prefix])
     yield "it can be taken away", differs((found.status, os.listdir(prefix)), (0, []))
 
 
+def interrupted(folder, prefix, crates, before):
+    """Tests that an installation which is interrupted leaves the earlier one as it was, after whichever file."""
+    shims, count = f"{folder}/interrupting", f"{folder}/count"
+    os.mkdir(shims)
+    with open(f"{shims}/cp", "w", encoding="utf-8") as file:
+        file.write(INTERRUPTING_CP)
+    os.chmod(f"{shims}/cp", 0o755)
+    told = {**os.environ, "PATH": f"{shims}:{os.environ['PATH']}", "CP": shutil.which("cp"), "COUNT": count}
+    broken_off = 0
+    for at in INTERRUPTED_AT:
+        open(count, "w", encoding="utf-8").close()
+        found = ran([INSTALL, prefix, crates], env={**told, "AT": str(at)})
+        if found.status == 0:
+            break
+        broken_off += 1
+        if contents(prefix) != before:
+            yield f"interrupted after copy {at}", f"{found}, {files(prefix)}"
+    yield "an installation that is interrupted leaves the earlier one as it was", None if broken_off > 5 else f"{broken_off} were interrupted"
+
+
 def contents(folder):
-    """What each file and each link below a folder is, and its mode."""
+    """Tells what each file and each link below a folder is, and its mode."""
     found = {}
     for name in files(folder):
         path = f"{folder}/{name}"

@@ -7,13 +7,14 @@ Status 0 wants all answers, status 1, 2 or 3 a text on standard error and a begi
 memory is wanting at a bad moment many are narrow: `--fine` tries one each 500 kB, and takes half a minute where the coarse walk takes ten
 seconds.
 """
+import argparse
 import os
 import signal
 import sys
 import tempfile
 from concurrent.futures import ThreadPoolExecutor
 
-from running import board_lines, book_of, ran
+from running import board_lines, book_of, ran, tell
 
 SEED = 20261126
 BOARDS = 20
@@ -23,6 +24,9 @@ WORKERS = (1, 2, 4, 8, 16)
 COARSE_MEMORY = sorted((*range(4000, 40001, 4000), 10500, 11500, 19000, 20500, 28500, 29000, 36500, 37000))
 FINE_MEMORY = range(4000, 40001, 500)
 STACKS = (128, 192, 256, 320, 384, 448, 512, 768, 1024)
+# The environment lies on the stack: below the second of these there is none, from there on one of a usual size, in bytes.
+WITH_ENVIRONMENT = STACKS[1]
+ENVIRONMENT = {"USUAL": "x" * 16_000}
 USUAL_STACK = 8192
 AT_ONCE = 4
 # A shell sets both limits, soft and hard, and becomes the program.
@@ -36,18 +40,19 @@ class Walk:
         self.words, self.given, self.limits = [program, *words], given, limits
 
     def wrong(self):
-        """What is wrong under which limits, if anything."""
+        """Tells what is wrong under which limits, if anything."""
         wanted = ran(self.words, self.given)
         if wanted.status != 0:
             return f"status {wanted.status} without limits"
         with ThreadPoolExecutor(AT_ONCE) as at_once:
             found = at_once.map(lambda limits: self.wrong_under(*limits, wanted.wrote), self.limits)
-            told = [f"{shown(limits)}: {wrong}" for limits, wrong in zip(self.limits, found) if wrong]
+            told = [f"{shown(limits)}: {wrong}" for limits, wrong in zip(self.limits, found, strict=True) if wrong]
         return "; ".join(told) or None
 
     def wrong_under(self, stack, memory, wanted):
-        """What is wrong under these limits, if anything."""
-        done = ran(["sh", "-c", UNDER, str(stack), str(memory), *self.words], self.given, env={})
+        """Tells what is wrong under these limits, if anything."""
+        environment = ENVIRONMENT if stack >= WITH_ENVIRONMENT else {}
+        done = ran(["sh", "-c", UNDER, str(stack), str(memory), *self.words], self.given, env=environment)
         if done.status == 0:
             return None if done.wrote == wanted else "other answers"
         if done.status not in (1, 2, 3):
@@ -67,7 +72,7 @@ def shown(limits):
 
 
 def walks(program, fine):
-    """Each walk with its name. Threads have the stack of their process, so that of an address space is told too."""
+    """Yields each walk with its name. Threads have the stack of their process, so that of an address space is told too."""
     memory = [(USUAL_STACK, size) for size in (FINE_MEMORY if fine else COARSE_MEMORY)]
     stacks = [(size, "unlimited") for size in STACKS]
     given = board_lines(SEED, BOARDS, EMPTIES)
@@ -92,19 +97,17 @@ def walks(program, fine):
 
 
 def steps(program, fine=False):
-    """A step for each walk: its name, and what is wrong with it, if anything."""
+    """Yields a step for each walk: its name, and what is wrong with it, if anything."""
     for name, walk in walks(program, fine):
         yield name, walk.wrong()
 
 
 def main():
-    if len(sys.argv) < 2 or sys.argv[2:] not in ([], ["--fine"]):
-        print(__doc__)
-        return 2
-    failed = 0
-    for name, wrong in steps(os.path.abspath(sys.argv[1]), sys.argv[2:] == ["--fine"]):
-        print(f"FAILED {name}\n    {wrong}" if wrong else f"ok {name}", flush=True)
-        failed += bool(wrong)
+    parser = argparse.ArgumentParser(description=__doc__, formatter_class=argparse.RawDescriptionHelpFormatter)
+    parser.add_argument("program", metavar="PROGRAM", type=os.path.abspath, help="the built program")
+    parser.add_argument("--fine", action="store_true", help="try an address space each 500 kB")
+    given = parser.parse_args()
+    _, failed = tell(steps(given.program, given.fine))
     return 1 if failed else 0
 
 

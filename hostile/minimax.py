@@ -10,7 +10,7 @@ START = list("---------------------------OX------XO---------------------------")
 
 
 def ray(square, right, down):
-    """The squares from a square to the edge, in one direction."""
+    """Returns the squares from a square to the edge, in one direction."""
     column, row = square % 8 + right, square // 8 + down
     squares = []
     while 0 <= column < 8 and 0 <= row < 8:
@@ -28,7 +28,7 @@ def other(side):
 
 
 def flips(cells, side, square):
-    """The discs that a move of the side to the empty square turns over; none where the move is illegal."""
+    """Returns the discs that a move of the side to the empty square turns over; none where the move is illegal."""
     turned = []
     for squares in RAYS[square]:
         line = []
@@ -43,13 +43,13 @@ def flips(cells, side, square):
 
 
 def moves(cells, side):
-    """The legal moves of the side with the discs that each turns over, by rising squares."""
+    """Returns the legal moves of the side with the discs that each turns over, by rising squares."""
     found = ((square, flips(cells, side, square)) for square in SQUARES if cells[square] == "-")
     return [(square, turned) for square, turned in found if turned]
 
 
 def final(cells, side):
-    """The value of a finished game for the side."""
+    """Returns the value of a finished game for the side."""
     mine, theirs = cells.count(side), cells.count(other(side))
     left = 64 - mine - theirs
     difference = mine - theirs
@@ -58,7 +58,7 @@ def final(cells, side):
 
 
 def after(cells, side, square, turned):
-    """The cells after the move."""
+    """Returns the cells after the move."""
     child = list(cells)
     for at in (square, *turned):
         child[at] = side
@@ -66,13 +66,13 @@ def after(cells, side, square, turned):
 
 
 def awake(cells, side):
-    """The board after a pass, where the side has to pass and the other side can move."""
+    """Returns the board after a pass, where the side has to pass and the other side can move."""
     passes = not moves(cells, side) and moves(cells, other(side))
     return cells, other(side) if passes else side
 
 
 def value(cells, side):
-    """The value of a board for the side to move, by the whole tree of the game."""
+    """Returns the value of a board for the side to move, by the whole tree of the game."""
     legal = moves(cells, side)
     if legal:
         values = [value(after(cells, side, *move), other(side)) for move in legal]
@@ -92,7 +92,7 @@ def report(score, best):
 
 
 def reports(cells, side):
-    """The report lines of a board, by winner and by discs."""
+    """Returns the report lines of a board, by winner and by discs."""
     legal = moves(cells, side)
     if not legal:
         word = "pass" if moves(cells, other(side)) else "end"
@@ -106,7 +106,7 @@ def reports(cells, side):
 
 
 def scores(cells, side):
-    """The scores lines of a board, by winner and by discs: of equal moves that of the lesser square comes first."""
+    """Returns the scores lines of a board, by winner and by discs: of equal moves that of the lesser square comes first."""
     legal = moves(cells, side)
     if not legal:
         return reports(cells, side)
@@ -120,7 +120,7 @@ def board_line(cells, side):
 
 
 def game_board(draw, empties):
-    """A board with so many empty squares that a game of random moves leads to; a game that ends before is begun anew."""
+    """Returns a board with `empties` empty squares that a game of random moves leads to; a game that ends before is begun anew."""
     while True:
         cells, side = list(START), "X"
         while cells.count("-") > empties:
@@ -135,7 +135,7 @@ def game_board(draw, empties):
 
 
 def scattered_board(draw, empties):
-    """A board with so many empty squares and discs thrown on the others."""
+    """Returns a board with `empties` empty squares and discs thrown on the others."""
     cells = [draw.choice("XO") for _ in SQUARES]
     for square in draw.sample(SQUARES, empties):
         cells[square] = "-"
@@ -143,7 +143,7 @@ def scattered_board(draw, empties):
 
 
 def boards(seed, count, most_empties):
-    """So many boards of 0, 1, .. empty squares in turn, met by games and scattered in turn."""
+    """Returns `count` boards of 0, 1, .. empty squares in turn, met by games and scattered in turn."""
     draw = random.Random(seed)
     kinds = (game_board, scattered_board)
     return [kinds[at % 2](draw, at // 2 % (most_empties + 1)) for at in range(count)]

@@ -1,5 +1,8 @@
-"""Runs the built program on boards of which one takes seconds. On a terminal a line has to come that shows how far the search is, be renewed
-in place and be gone when the answer is written; where standard error is no terminal not a byte of it may come."""
+"""Runs the built program on boards of which one takes seconds, and looks at the line of progress.
+
+On a terminal that line has to come, show how far the search is, be renewed in place, and be gone when the answer is written; where
+standard error is no terminal not a byte of it may come.
+"""
 import os
 import pty
 import re
@@ -7,7 +10,6 @@ import select
 import subprocess
 import time
 
-import running
 from running import ran
 
 PATIENCE = 600
@@ -47,12 +49,12 @@ class Said:
             self.moments.append(self.rows[-1].rstrip())
 
     def left(self):
-        """What stands there at the end."""
+        """Tells what stands there at the end."""
         return [row.rstrip() for row in self.rows]
 
 
 def read_all(terminal, started):
-    """What is written to the terminal until the run has ended."""
+    """Tells what is written to the terminal until the run has ended."""
     said, end = b"", time.monotonic() + PATIENCE
     while time.monotonic() < end:
         ready, _, _ = select.select([terminal], [], [], 0.1)
@@ -67,7 +69,7 @@ def read_all(terminal, started):
 
 
 def on_terminal(words, output_too, given=BOARDS):
-    """The status of a run whose standard error is a terminal, what it wrote to standard output where that is a pipe, and what it said."""
+    """Runs the words with standard error on a terminal; returns the status, what they wrote where that is a pipe, and what they said."""
     terminal, end = pty.openpty()
     output = end if output_too else subprocess.PIPE
     with subprocess.Popen(words, stdin=subprocess.PIPE, stdout=output, stderr=end) as started:
@@ -83,7 +85,7 @@ def on_terminal(words, output_too, given=BOARDS):
 
 
 def wrong_line(said, score):
-    """What is wrong with the line, if anything: it has to come at least twice, be of the long board, and enclose its score."""
+    """Tells what is wrong with the line, if anything: it has to come at least twice, be of the long board, and enclose its score."""
     lines = [moment for moment in said.moments if moment.startswith("line ")]
     if len(set(lines)) < 2:
         return f"the line was not renewed: {lines!r}"
@@ -100,7 +102,7 @@ def wrong_line(said, score):
 
 
 def wrong_moves(said, scores):
-    """What is wrong with the lines of a run that scores moves, if anything: each is of the board, and encloses the score of a move of it."""
+    """Tells what is wrong with the lines of a run that scores moves, if anything: each is of the board, and encloses a move's score."""
     lines = [moment for moment in said.moments if moment.startswith("line ")]
     told = 0
     for line in lines:
@@ -115,18 +117,19 @@ def wrong_moves(said, scores):
 
 
 def scoring(program):
-    """A step: by `scores` the line shows which move is searched."""
+    """Yields a step: by `scores` the line shows which move is searched."""
     words = [program, "scores"]
     plain = ran(words, SCORED_BOARDS, PATIENCE)
     status, wrote, said = on_terminal(words, False, SCORED_BOARDS)
     wrong = None if (plain.status, status, wrote) == (0, 0, plain.wrote) else f"status {status}, wrote {wrote!r}"
     fields = plain.wrote.decode("ascii").splitlines()[1].split() if wrong is None else []
-    wrong = wrong or wrong_moves(said, dict(zip(fields[1::2], map(int, fields[0::2]))))
-    yield "the line of progress comes by scores, and tells of its moves", wrong or (None if said.left() == [""] else f"left {said.left()!r}")
+    wrong = wrong or wrong_moves(said, dict(zip(fields[1::2], map(int, fields[0::2]), strict=False)))
+    left = None if said.left() == [""] else f"left {said.left()!r}"
+    yield "the line of progress comes by scores, and tells of its moves", wrong or left
 
 
 def steps(program):
-    """A step for each way to run it: its name, and what is wrong with it, if anything."""
+    """Yields a step for each way to run it: its name, and what is wrong with it, if anything."""
     words = [program, "solve", "--workers", "4", "--cells", "262144"]
     plain = ran(words, BOARDS, PATIENCE)
     answers = plain.wrote.decode("ascii").splitlines()

@@ -1,9 +1,9 @@
 """Runs each recipe of docs/RECIPES.md as it stands there, and wants the output that the page shows.
 
-A recipe is a section of the page. Each of its blocks marked `bash` is run, in their order by one shell, and has to end with status 0 and to write
-the block marked `text` that comes right behind it, word for word, or nothing where there is none. A recipe begins in an empty folder with a copy
-of examples, and with `othsolve` on the PATH. One whose tool isn't installed is passed over, and its step is named so. What is written to standard
-error isn't compared.
+A recipe is a section of the page. Each of its blocks marked `bash` is run, in their order by one shell, and has to end with status 0 and to
+write the block marked `text` that comes right behind it, word for word, or nothing where there is none. A recipe begins in an empty folder
+with a copy of examples, and with `othsolve` on the PATH. One whose tool isn't installed is passed over, and its step is named so. What is
+written to standard error isn't compared.
 """
 import os
 import re
@@ -11,7 +11,8 @@ import shutil
 import subprocess
 import tempfile
 
-TOP = os.path.dirname(os.path.dirname(os.path.abspath(__file__)))
+from running import TOP
+
 PAGE = f"{TOP}/docs/RECIPES.md"
 SECTION = re.compile(r"^## (.*)$", re.MULTILINE)
 BLOCK = re.compile(r"^```bash\n(.*?)^```\n(?:\n```text\n(.*?)^```\n)?", re.MULTILINE | re.DOTALL)
@@ -53,15 +54,15 @@ LEFT = "3\ncollection.txt\nexamples\nmy.book\nmy.book.lock\nold.book\n"
 
 
 def recipes():
-    """The sections of the page that have blocks: title, and the blocks, each with what it writes."""
+    """Returns the sections of the page that have blocks: title, and the blocks, each with what it writes."""
     with open(PAGE, encoding="utf-8") as file:
         parts = SECTION.split(file.read())
-    sections = zip(parts[1::2], parts[2::2])
+    sections = zip(parts[1::2], parts[2::2], strict=True)
     return {title: blocks for title, text in sections if (blocks := BLOCK.findall(text))}
 
 
 def steps(program):
-    """A step for each recipe: its name, and what is wrong with it, if anything."""
+    """Yields a step for each recipe: its name, and what is wrong with it, if anything."""
     page = recipes()
     yield f"recipes: at least {LEAST} stand on the page", None if len(page) >= LEAST else f"found {list(page)}"
     for title, blocks in page.items():
@@ -81,24 +82,24 @@ def steps(program):
 
 
 def missing_tools(blocks):
-    """The tools that the blocks name and that aren't installed."""
+    """Returns the tools that the blocks name and that aren't installed."""
     code = "".join(code for code, _ in blocks)
     return [tool for tool in TOOLS if not shutil.which(tool) and re.search(rf"\b{tool}\b", code)]
 
 
 def passed_over(name, blocks):
-    """A step that says that it wasn't run."""
+    """Returns a step that says that it wasn't run."""
     return f"passed over and not run, since {' and '.join(missing_tools(blocks))} isn't installed: {name}", None
 
 
 def begin(blocks):
-    """What is wrong with the first lines of the page, if anything: from the top of the repository they lead to a copy of examples."""
+    """Tells what is wrong with the first lines of the page, if anything: from the top of the repository they lead to a copy of examples."""
     with tempfile.TemporaryDirectory() as folder:
         return wrong(blocks + [("ls\n", "examples\n")], TOP, {"TMPDIR": folder})
 
 
 def cooked(program, blocks, stand_in=None):
-    """What is wrong with a recipe, if anything."""
+    """Tells what is wrong with a recipe, if anything."""
     with tempfile.TemporaryDirectory() as folder, tempfile.TemporaryDirectory() as tools:
         shutil.copytree(f"{TOP}/examples", f"{folder}/examples")
         os.symlink(program, f"{tools}/othsolve")
@@ -110,7 +111,7 @@ def cooked(program, blocks, stand_in=None):
 
 
 def wrong(blocks, folder, environment):
-    """What is wrong with what a shell makes of the blocks in the folder, if anything."""
+    """Tells what is wrong with what a shell makes of the blocks in the folder, if anything."""
     script = "".join(f"{code}printf '\\nstatus %s\\0' $?\n" for code, _ in blocks)
     wanted = [f"{text}\nstatus 0" for _, text in blocks]
     environment = {**os.environ, "SHELL": "/bin/bash", **environment}
@@ -129,14 +130,14 @@ def wrong(blocks, folder, environment):
     except subprocess.TimeoutExpired as error:
         return str(error)
     found = ran.stdout.split("\0")[:-1]
-    for at, (got, want) in enumerate(zip(found, wanted), 1):
+    for at, (got, want) in enumerate(zip(found, wanted, strict=False), 1):
         if got != want:
             return f"block {at} wrote {got!r} in place of {want!r}, and {ran.stderr[:300]!r}"
     return None if len(found) == len(wanted) else f"{len(found)} blocks of {len(wanted)} were run, {ran.stderr[:300]!r}"
 
 
 def lost_machines(program, blocks):
-    """Where one of two machines is lost, the answers are the same; where the only one is, they are missing and the status counts them."""
+    """Tests that the answers are whole where one of two machines is lost; where the only one is, the status counts what is missing."""
     for machine in LOST:
         yield f"several machines, and one {machine}", cooked(program, among(blocks, f"1/:,1/{machine}"), STAND_IN)
     yield "several machines by ssh", cooked(program, among(blocks, "1/one,2/two"), STAND_IN)
@@ -145,12 +146,12 @@ def lost_machines(program, blocks):
 
 
 def book_kept(program, blocks):
-    """Additions at once are all in the book; one that fails leaves the book as it was, and no other file."""
+    """Tests that additions at once are all in the book; one that fails leaves the book as it was, and no other file."""
     first, further = blocks[0], (AT_ONCE, "book ok 16\n")
     yield "a book that eight add to at once", cooked(program, [first, further])
     yield "a book-add that fails", cooked(program, [first, (FAILING, LEFT)])
 
 
 def among(blocks, machines):
-    """The blocks with other machines."""
+    """Returns the blocks with other machines."""
     return [(code.replace(HERE, f"machines={machines}\n"), text) for code, text in blocks]

@@ -8,7 +8,7 @@ of the table are asked for. It needs `cc`.
 import os
 import tempfile
 
-from running import Preloaded, ran
+from running import Preloaded, tests_of
 
 # Stands in front of the C library: counts in the file COUNTED, and refuses the request of the number REFUSED.
 REFUSING = r"""
@@ -80,13 +80,11 @@ class Walk:
         self.library = Preloaded(folder, REFUSING, 1)
 
     def tests(self):
-        """The tests that hold whichever request is refused."""
-        listed = ran([self.program, "--list"]).wrote.decode()
-        names = [line.removesuffix(": test") for line in listed.splitlines() if line.endswith(": test")]
-        return [name for name in names if "::refused::" in name]
+        """Returns the tests that hold whichever request is refused."""
+        return [name for name in tests_of(self.program) if "::refused::" in name]
 
     def run(self, test, refused):
-        """What is wrong with the run, if anything, and how many requests it made."""
+        """Tells what is wrong with the run, if anything, and how many requests it made."""
         done, (count,) = self.library.ran([self.program, test], REFUSED=str(refused))
         if done.status == 0:
             return None, count
@@ -94,7 +92,7 @@ class Walk:
         return f"status {done.status} where request {refused} is refused (0: none)\n{told}", count
 
     def all(self, test):
-        """What is wrong with the test, if anything, and the requests that it makes where none is refused."""
+        """Tells what is wrong with the test, if anything, and the requests that it makes where none is refused."""
         wrong, count = self.run(test, 0)
         refused = 0
         made = count
@@ -105,7 +103,7 @@ class Walk:
 
 
 def steps(crates):
-    """A step for each test of refusals: its name, and what is wrong with it, if anything. The argument is the folder of the crates."""
+    """Yields a step for each test of refusals of the crates in the folder `crates`: its name, and what is wrong with it, if anything."""
     for crate, modules in MODULES.items():
         with tempfile.TemporaryDirectory() as folder:
             walk = Walk(f"{crates}/{crate}/out/{crate}_tests", folder)
@@ -114,6 +112,8 @@ def steps(crates):
             for module in modules:
                 if not any(test.startswith(f"{module}::") for test in tests):
                     yield f"{crate} has tests of refusals in {module}", "there are none"
+            if not tests:
+                continue
             for test in tests:
                 wrong, counts[test.rsplit("::", 1)[1]] = walk.all(test)
                 yield f"{test}: holds whichever request is refused", wrong
@@ -124,13 +124,13 @@ def steps(crates):
 
 
 def run_cells(counts):
-    """What is wrong with the numbers of requests of a run, if anything."""
+    """Tells what is wrong with the numbers of requests of a run, if anything."""
     over, without = counts["a_run_over_64_cells"], counts["a_run_without_cells"]
     return None if over > without else f"{over} requests over 64 cells, {without} without"
 
 
 def table(counts):
-    """What is wrong with the numbers of requests, if anything."""
+    """Tells what is wrong with the numbers of requests, if anything."""
     more = counts["a_over_64_cells"] - counts["a_without_cells"]
     alone = counts["a_table_of_64_cells"]
     return None if more > alone else f"{more} requests more, the table alone {alone}"

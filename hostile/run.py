@@ -1,13 +1,14 @@
 #!/usr/bin/env python3
 """Runs the programs that `rt ci` leaves against hostile surroundings and against a small solver of its own.
 
-    hostile/run.py [CRATES] [WORD ..]
+    hostile/run.py [CRATES] [PART ..]
 
 CRATES is the folder of the crates, `crates` if not given. Each step is a line, `ok` or `FAILED` and its name, and after a failure what is
-wrong. With words only the steps are run whose part is one of them: `statuses`, `texts`, `flow`, `limits`, `seen`, `terminal`, `progress`,
-`differential`, `recipes`, `refusals`, `c_library`, `installed`. As many parts run at once as there are processors, and the lines come in the
-order of the parts. The last line is `N passed, M failed`; the exit status is 1 where a step failed.
+wrong. Where parts are named only their steps are run: `statuses`, `texts`, `flow`, `limits`, `seen`, `terminal`, `progress`,
+`differential`, `recipes`, `refusals`, `c_library`, `installed`. As many parts run at once as there are processors, and the lines come
+in the order of the parts. The last line is `N passed, M failed`; the exit status is 1 where a step failed.
 """
+import argparse
 import concurrent.futures
 import functools
 import os
@@ -22,6 +23,7 @@ import limits
 import progress
 import recipes
 import refusals
+import running
 import seen
 import statuses
 import terminal
@@ -29,7 +31,7 @@ import texts
 
 
 def every_part(crates):
-    """The parts by their names."""
+    """Returns the parts by their names."""
     program = os.path.abspath(f"{crates}/othsolve/out/othsolve")
     return {
         "statuses": lambda: statuses.steps(program),
@@ -48,7 +50,7 @@ def every_part(crates):
 
 
 def steps_of(crates, part):
-    """The steps of the part."""
+    """Returns the steps of the part."""
     steps = []
     try:
         for step in every_part(crates)[part]():
@@ -59,25 +61,29 @@ def steps_of(crates, part):
 
 
 def steps(crates, parts):
-    """The steps of the parts, which run beside each other, one part after the other."""
+    """Yields the steps of the parts, which run beside each other, one part after the other."""
     with concurrent.futures.ProcessPoolExecutor() as pool:
         for found in pool.map(functools.partial(steps_of, crates), parts):
             yield from found
 
 
+def words():
+    """Reads the command line."""
+    parser = argparse.ArgumentParser(description=__doc__, formatter_class=argparse.RawDescriptionHelpFormatter)
+    parser.add_argument("crates", metavar="CRATES", nargs="?", default="crates", help="the folder of the crates (crates)")
+    parser.add_argument("parts", metavar="PART", nargs="*", help="a part that is run (all)")
+    given = parser.parse_args()
+    every = list(every_part(given.crates))
+    for part in given.parts:
+        if part not in every:
+            parser.error(f"no part {part}; there are {', '.join(every)}")
+    given.parts = given.parts or every
+    return given
+
+
 def main():
-    crates = sys.argv[1] if len(sys.argv) > 1 else "crates"
-    every = list(every_part(crates))
-    parts = sys.argv[2:] or every
-    if unknown := [part for part in parts if part not in every]:
-        sys.exit(f"hostile/run.py: no part {unknown[0]}; there are {', '.join(every)}")
-    passed = failed = 0
-    for name, wrong in steps(crates, parts):
-        print(f"{'FAILED' if wrong else 'ok'} {name}", flush=True)
-        if wrong:
-            print(f"    {wrong}", flush=True)
-        failed += bool(wrong)
-        passed += not wrong
+    given = words()
+    passed, failed = running.tell(steps(given.crates, given.parts))
     print(f"{passed} passed, {failed} failed")
     return 1 if failed else 0
 

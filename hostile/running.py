@@ -1,5 +1,7 @@
-"""What several parts need: runs that come to an end or are killed, libraries in front of the C library, lines of boards, and books."""
+"""Holds what several parts need: runs that come to an end or are killed, steps that are told, libraries in front of the C library, lines of
+boards, and books."""
 import mmap
+import os
 import random
 import struct
 import subprocess
@@ -7,6 +9,8 @@ from typing import NamedTuple
 
 import minimax
 
+# The top of this repository.
+TOP = os.path.dirname(os.path.dirname(os.path.abspath(__file__)))
 PATIENCE = 60
 LONG = 8
 EMPTY_BOOK = b"OBOOK2 W\nEND 000000\n"
@@ -35,13 +39,13 @@ def ran(words, given=b"", patience=PATIENCE, **how):
 
 
 def board_lines(seed, count, empties):
-    """Lines of so many boards that random games lead to."""
+    """Returns lines of `count` boards that random games lead to."""
     draw = random.Random(seed)
-    return "".join(f"{minimax.board_line(*minimax.game_board(draw, empties))}\n" for _ in range(count)).encode()
+    return text_of(minimax.board_line(*minimax.game_board(draw, empties)) for _ in range(count)).encode()
 
 
 def file_of(folder, name, given):
-    """The path of a file that is made with these bytes."""
+    """Returns the path of a file that is made with these bytes."""
     path = f"{folder}/{name}"
     with open(path, "wb") as file:
         file.write(given)
@@ -49,9 +53,32 @@ def file_of(folder, name, given):
 
 
 def book_of(program, folder, given):
-    """The path of a book that the program makes of these lines."""
+    """Returns the path of a book that the program makes of these lines."""
     empty = file_of(folder, "empty.book", EMPTY_BOOK)
     return file_of(folder, "made.book", ran([program, "book-add", empty], given).wrote)
+
+
+def text_of(lines):
+    """Returns the lines as a text, each with its end."""
+    return "".join(f"{line}\n" for line in lines)
+
+
+def tests_of(program):
+    """Returns the names of the tests of a program of tests."""
+    listed = ran([program, "--list"]).wrote.decode()
+    return [line.removesuffix(": test") for line in listed.splitlines() if line.endswith(": test")]
+
+
+def tell(steps, indent="    "):
+    """Prints a line for each step, and below it what is wrong with it, if anything; gives how many passed and how many failed."""
+    passed = failed = 0
+    for name, wrong in steps:
+        print(f"{'FAILED' if wrong else 'ok'} {name}", flush=True)
+        if wrong:
+            print(f"{indent}{wrong}", flush=True)
+        failed += bool(wrong)
+        passed += not wrong
+    return passed, failed
 
 
 class Preloaded:
@@ -64,7 +91,7 @@ class Preloaded:
         subprocess.run(["cc", "-shared", "-fPIC", "-O1", "-o", self.library, text, "-ldl"], check=True)
 
     def ran(self, words, given=b"", **environment):
-        """How a run of the words ends, and the numbers that it leaves, of which each was 0."""
+        """Tells how a run of the words ends, and the numbers that it leaves, of which each was 0."""
         with open(self.counted, "wb") as file:
             file.write(bytes(LONG * self.numbers))
         done = ran(words, given, env={"LD_PRELOAD": self.library, "COUNTED": self.counted, **environment})

@@ -77,19 +77,19 @@ UNDER = 'ulimit -v "$0" && exec "$@"; exit 99'
 
 
 def counts(library, words, given):
-    """The threads that a run starts and the bytes that it asks for; (-1, -1) where it ends with another status than 0."""
+    """Returns the threads that a run starts and the bytes that it asks for; (-1, -1) where it ends with another status than 0."""
     done, numbers = library.ran(words, given)
     return numbers if done.status == 0 else (-1, -1)
 
 
 def threads_wrong(library, words, given):
-    """What is wrong with the threads that a run by 4 workers starts beside one by 1, if anything. One may be the program's own."""
+    """Tells what is wrong with the threads that a run by 4 workers starts beside one by 1, if anything. One may be the program's own."""
     alone, by_four = (counts(library, [*words, "--workers", workers], given)[0] for workers in ("1", "4"))
     return None if 0 <= alone < 2 and by_four >= max(3, alone + 2) else f"1 worker starts {alone} threads, and 4 start {by_four}"
 
 
 def cells_wrong(library, words, given):
-    """What is wrong with the bytes that runs with more and more cells ask for, if anything."""
+    """Tells what is wrong with the bytes that runs with more and more cells ask for, if anything."""
     none, few, many = (counts(library, [*words, "--cells", cells], given)[1] for cells in CELLS)
     if 0 <= none and few >= none + FEW_CELLS and many >= few + MORE_CELLS:
         return None
@@ -97,13 +97,15 @@ def cells_wrong(library, words, given):
 
 
 def book_wrong(library, words, boards):
-    """What is wrong with a run over a book and its boards, if anything: its answers are the book's, and no table is made for them."""
+    """Tells what is wrong with a run over a book and its boards, if anything: its answers are the book's, and no table is made for them."""
     none, known = (counts(library, words, given)[1] for given in (b"", boards))
-    return None if 0 <= none and known < none + MORE_CELLS else f"{none} bytes are asked for without a line, and {known} with the book's boards"
+    if 0 <= none and known < none + MORE_CELLS:
+        return None
+    return f"{none} bytes are asked for without a line, and {known} with the book's boards"
 
 
 def settings(program, library, folder):
-    """Each command that takes numbers of workers and of cells obeys them."""
+    """Tests that each command that takes numbers of workers and of cells obeys them."""
     boards, large = board_lines(SEED, 8, 13), board_lines(SEED, 1, 18)
     book, empty = book_of(program, folder, boards), f"{folder}/empty.book"
     for name, words, given in (
@@ -123,7 +125,7 @@ def settings(program, library, folder):
 
 
 def longest_book():
-    """The longest book: boards where nobody can move, with a disc of the mover on d1 and discs of the other side but for some squares."""
+    """Returns the longest book: boards where nobody can move, with one disc of the mover, on d1, and the other side on most squares."""
     line = bytearray(b"OOOX" + b"O" * 60 + b" -62 -62 0000000000000000\n")
     lines = []
     for number in range(ENTRIES):
@@ -134,7 +136,7 @@ def longest_book():
 
 
 def long_books(program, folder):
-    """The longest book is read to its end, and one byte more is seen."""
+    """Tests that the longest book is read to its end, and one byte more is seen."""
     book = longest_book()
     path, longer = file_of(folder, "longest.book", book), file_of(folder, "longer.book", book + b"\n")
     yield f"the longest book has {LONGEST} bytes", None if len(book) == LONGEST else f"{len(book)}"
@@ -149,7 +151,7 @@ def long_books(program, folder):
 
 
 def memory_wrong(program, book):
-    """What is wrong with runs that have little memory, if anything. At least once it has to be wanting for the text of the book."""
+    """Tells what is wrong with runs that have little memory, if anything. At least once it has to be wanting for the text of the book."""
     found = set()
     for memory in LITTLE_MEMORY:
         done = ran(["sh", "-c", UNDER, str(memory), program, "book-verify", book])
@@ -160,7 +162,7 @@ def memory_wrong(program, book):
 
 
 def steps(program):
-    """A step for each look: its name, and what is wrong, if anything."""
+    """Yields a step for each look: its name, and what is wrong, if anything."""
     with tempfile.TemporaryDirectory() as folder:
         library = Preloaded(folder, COUNTING, 2)
         yield from settings(program, library, folder)

@@ -1,4 +1,4 @@
-"""Runs the built program on command lines, files and devices of every kind, and wants the status and the texts that docs/FORMATS.md names."""
+"""Runs the built program on command lines, files and devices of every kind, and wants the status and texts that docs/FORMATS.md names."""
 import os
 import re
 import resource
@@ -30,7 +30,7 @@ class Case:
         self.wrote, self.said, self.how = wrote, said, how
 
     def wrong(self, program):
-        """What is wrong with the run, if anything."""
+        """Tells what is wrong with the run, if anything."""
         done = ran([program, *self.words], self.given, **self.how)
         if done.status != self.status:
             return f"status {done.status} in place of {self.status}"
@@ -42,17 +42,17 @@ class Case:
 
 
 def fits(found, wanted):
-    """Whether the bytes are the wanted ones, or have the wanted pattern; where nothing is wanted any do."""
+    """Tells whether the bytes are the wanted ones, or have the wanted pattern; where nothing is wanted any do."""
     return found == wanted if isinstance(wanted, bytes) else wanted is None or bool(wanted.search(found))
 
 
 def helps(*names):
-    """A pattern of help that has a line of usage and names each of these, each behind the one before."""
+    """Returns a pattern of help that has a line of usage and names each of these, each behind the one before."""
     return re.compile(rb"Usage: othsolve.*" + b".*".join(rb"\b%s\b" % name.encode() for name in names), re.DOTALL)
 
 
 def done(folder):
-    """Status 0."""
+    """Yields the cases of status 0."""
     lines = f"{START}\n{CORNERS}\n{FULL_BOARD}\n".encode()
     yield Case("no input", ["solve"], wrote=b"", said=b"")
     yield Case("solve", ["solve"], lines, wrote=b"error 5 60\n+64 h8\n+64 end\n", said=b"")
@@ -78,7 +78,7 @@ def done(folder):
 
 
 def lines_of_every_kind():
-    """Faulty lines have their fault in their place, whatever their bytes and their length."""
+    """Yields lines of every kind: faulty ones have their fault in their place, whatever their bytes and their length."""
     good = FULL_BOARD.encode()
     yield Case("a carriage return", ["solve"], good + b"\r\n" + good + b"\n", wrote=b"error 1\n+64 end\n")
     yield Case("a NUL byte", ["solve"], b"\0" + good[1:] + b"\n" + good + b"\n", wrote=b"error 2 at 1\n+64 end\n")
@@ -103,7 +103,7 @@ def little_memory():
 
 
 def command_line(folder):
-    """Status 2, with the devices as they were."""
+    """Yields the cases of status 2, with the devices as they were."""
     book = f"{folder}/empty.book"
     for words in (
         [],
@@ -138,7 +138,7 @@ def command_line(folder):
 
 
 def devices(folder):
-    """Status 1: files and devices that fail."""
+    """Yields the cases of status 1: files and devices that fail."""
     read, write = b"run error 1\n", b"run error 2\n"
     line = f"{FULL_BOARD}\n".encode()
     for words in (["book-verify"], ["book-add"], ["solve", "--book"]):
@@ -167,19 +167,19 @@ def close_output():
 
 
 def broken_pipe():
-    """The end for writing of a pipe that nobody reads."""
+    """Returns the end for writing of a pipe that nobody reads."""
     reading, writing = os.pipe()
     os.close(reading)
     return writing
 
 
 def entry(cells, lower, upper, best):
-    """A book by winner of one entry."""
+    """Returns a book by winner of one entry."""
     return f"OBOOK2 W\n{cells} {lower} {upper} {best:016x}\nEND 000001\n"
 
 
 def books(folder):
-    """Status 3: FILE is no book, or no true one."""
+    """Yields the cases of status 3: FILE is no book, or no true one."""
     texts = {
         "no bytes": ("", "book error 5"),
         "no header": ("no book\n", "book error 1"),
@@ -198,7 +198,7 @@ def books(folder):
 
 
 def is_answered_at_once(program, words, lines):
-    """What is wrong with lines that come one by one, if anything: the answer to each is wanted while the input is still open."""
+    """Tells what is wrong with lines that come one by one, if anything: the answer to each is wanted while the input is still open."""
     with subprocess.Popen([program, *words], stdin=subprocess.PIPE, stdout=subprocess.PIPE, bufsize=0) as started:
         try:
             for line, wanted in lines:
@@ -217,7 +217,7 @@ def is_answered_at_once(program, words, lines):
 
 
 def lines_one_by_one(program):
-    """A step for each command that answers lines."""
+    """Yields a step for each command that answers lines."""
     boards = [(FULL_BOARD, "+64 end"), (TWO_CORNERS, "+64 a1 h1"), ("X", "error 1"), (FULL_BOARD, "+64 end")]
     scores = [(FULL_BOARD, "+64 end"), (TWO_CORNERS, "+64 a1 +64 h1"), ("X", "error 1"), (EDGE, "-50 h1 -64 b1")]
     moves = [(START, "d3 c4 f5 e6"), ("X", "error 1"), (FULL_BOARD, "end")]
@@ -237,7 +237,7 @@ def lines_one_by_one(program):
 
 
 def steps(program, in_little_memory=True):
-    """A step for each run, also for those in little memory unless these are left out: its name, and what is wrong with it, if anything."""
+    """Yields a step for each run, also in little memory unless these are left out: its name, and what is wrong with it, if anything."""
     with tempfile.TemporaryDirectory() as folder:
         file_of(folder, "empty.book", EMPTY_BOOK)
         for cases in (done(folder), lines_of_every_kind(), command_line(folder), devices(folder), books(folder)):

@@ -1,5 +1,7 @@
-"""Runs the built program with standard error on a terminal, where a second line has to say in words what the first says by a number, and on a
-pipe, where not a byte may be added."""
+"""Runs the built program with standard error on a terminal and on a pipe, and wants words on the terminal alone.
+
+On a terminal a second line has to say in words what the first says by a number; on a pipe not a byte may be added.
+"""
 import os
 import pty
 import subprocess
@@ -64,7 +66,8 @@ def cases():
     yield Case(["solve", "--book", "discs.book"], 0, "", "discs.book: by the other scoring, so it is not asked", line)
     yield Case(["solve", "--scoring", "discs", "--book", "empty.book"], 0, "", "empty.book: by the other scoring, so it is not asked", line)
     yield Case(["solve", "--book", "empty.book"], 0, "", "", line)
-    for words in (["solve", "--cells", "3"], ["solve", "--cells", "3", "--book", "missing.book"], ["book-add", "--cells", "3", "missing.book"]):
+    for command, *more in (("solve",), ("solve", "--book", "missing.book"), ("book-add", "missing.book")):
+        words = [command, "--cells", "3", *more]
         yield Case(words, 2, "run error 4", "the cells must be 0 or a power of two up to 262144")
     yield Case(["solve"], 1, "run error 1", "standard input: is a directory", stdin=lambda: os.open(".", os.O_RDONLY))
     yield Case(["solve"], 1, "run error 1", "standard input: not ready (it is in non-blocking mode)", stdin=silent_pipe)
@@ -76,7 +79,7 @@ def cases():
 
 
 def silent_pipe():
-    """The end for reading of a pipe that is open for writing, has nothing to read, and does not wait."""
+    """Returns the end for reading of a pipe that is open for writing, has nothing to read, and does not wait."""
     reading, _ = os.pipe()
     os.set_blocking(reading, False)
     return reading
@@ -95,7 +98,7 @@ USAGES = (
 
 
 def run(program, folder, case, on_terminal):
-    """The status of a run, and what it says on standard error, on a terminal or on a pipe."""
+    """Returns the status of a run, and what it says on standard error, on a terminal or on a pipe."""
     made = {name: make() for name, make in case.how.items()}
     how = {"stdin": subprocess.PIPE, "stdout": subprocess.DEVNULL, "stderr": subprocess.PIPE, **made}
     if on_terminal:
@@ -111,7 +114,7 @@ def run(program, folder, case, on_terminal):
 
 
 def said_on(terminal):
-    """What was written to a terminal that nobody writes to any more. It ends lines by byte 13 and byte 10."""
+    """Tells what was written to a terminal that nobody writes to any more. It ends lines by byte 13 and byte 10."""
     said = b""
     try:
         while part := os.read(terminal, MOST):
@@ -123,7 +126,7 @@ def said_on(terminal):
 
 
 def wrong(program, folder, case):
-    """What is wrong with a case, if anything."""
+    """Tells what is wrong with a case, if anything."""
     for on_terminal in (False, True):
         wanted = case.number + case.told if on_terminal else case.number
         status, said = run(program, folder, case, on_terminal)
@@ -136,7 +139,7 @@ def wrong(program, folder, case):
 
 
 def wrong_usage(program, folder, words, usage):
-    """What is wrong with a run whose words are refused, if anything: it says how lines are read, the same on a terminal and on a pipe."""
+    """Tells what is wrong with a run whose words are refused, if anything: on a terminal and on a pipe it says how lines are read."""
     case = Case(words, 2, "", "")
     told = [run(program, folder, case, on_terminal) for on_terminal in (False, True)]
     if told[0] != told[1] or told[0][0] != 2:
@@ -147,7 +150,7 @@ def wrong_usage(program, folder, words, usage):
 
 
 def make(folder):
-    """The files of the cases."""
+    """Returns the files of the cases."""
     os.mkdir(f"{folder}/folder")
     for name, text in TEXTS.items():
         with open(f"{folder}/{name}", "w", encoding="ascii") as file:
@@ -158,7 +161,7 @@ def make(folder):
 
 
 def steps(program):
-    """A step for each case: its name, and what is wrong with it, if anything."""
+    """Yields a step for each case: its name, and what is wrong with it, if anything."""
     with tempfile.TemporaryDirectory() as folder:
         make(folder)
         for case in cases():

@@ -1,7 +1,11 @@
+#!/usr/bin/env python3
 """Compares the texts that the program says of its words, each help and one fault of each kind, with the files of `texts/`.
 
+    hostile/texts.py PROGRAM            compares them, as a part of hostile/run.py does
     hostile/texts.py PROGRAM --write    writes the files anew, to be read before they are committed
 """
+import argparse
+import os
 import pathlib
 import shlex
 import sys
@@ -19,14 +23,14 @@ ERRORS = "-- standard error:"
 
 
 def cases_of(path):
-    """The cases of a file: words, and the lines below them."""
-    for case in path.read_text().split(f"\n{PROMPT}")[0:]:
+    """Yields the cases of a file: words, and the lines below them."""
+    for case in path.read_text().split(f"\n{PROMPT}"):
         words, _, told = case.removeprefix(PROMPT).partition("\n")
         yield words.strip(), told.rstrip("\n")
 
 
 def told_by(program, words, folder):
-    """What the program tells of the words: its status, what it wrote, and what it said."""
+    """Tells what the program tells of the words: its status, what it wrote, and what it said."""
     done = running.ran([program, *shlex.split(words)], cwd=folder)
     wrote = done.wrote.decode(errors="backslashreplace").rstrip("\n")
     said = done.said.decode(errors="backslashreplace").rstrip("\n")
@@ -39,7 +43,7 @@ def told_by(program, words, folder):
 
 
 def steps(program):
-    """A step for each case of each file."""
+    """Yields a step for each case of each file."""
     with tempfile.TemporaryDirectory() as folder:
         for path in sorted(FOLDER.glob("*.txt")):
             for words, told in cases_of(path):
@@ -55,5 +59,17 @@ def write(program):
             path.write_text("".join(cases))
 
 
+def main():
+    parser = argparse.ArgumentParser(description=__doc__, formatter_class=argparse.RawDescriptionHelpFormatter)
+    parser.add_argument("program", metavar="PROGRAM", type=os.path.abspath, help="the built program")
+    parser.add_argument("--write", action="store_true", help="write the files anew")
+    given = parser.parse_args()
+    if given.write:
+        write(given.program)
+        return 0
+    _, failed = running.tell(steps(given.program))
+    return 1 if failed else 0
+
+
 if __name__ == "__main__":
-    write(sys.argv[1])
+    sys.exit(main())

@@ -1,5 +1,11 @@
 //! Boards that wait together, solved or scored side by side, each by one worker; and the claims of a book, tested so.
 //! How boards are shared out (`effort`, `tuning`) affects speed only: no answer depends on it.
+//!
+//! A collection of small boards keeps several workers busy only where each has a board of its own. Each `Answer` is
+//! true by its type, and so are `Scores`; which boards have them rests on no theorem. `boards` has those that wait:
+//! at most 1,024, of at most 18 empty squares each. `effort` decides by an estimate of each board's effort: there are
+//! no jobs where no two boards are small enough for a worker each, and a board that is worth more than a worker's
+//! share is left to all workers together.
 #![tactic(auto)]
 
 mod asked;

@@ -19,9 +19,6 @@ pub(crate) fn effort_of(empties: u8) -> u64 {
     1 << (u32::from(empties) * 5 / 4).min(40)
 }
 
-/// Tries of a steal from another worker's deque that lost a race.
-pub(crate) const TAKE_TRIES: u32 = 1_000;
-
 /// Empty squares: from here on all workers together solve a claim of a book that no batch had. Below it the caller's
 /// thread does, since starting others takes longer.
 pub(crate) const FEWEST_EMPTIES_TOGETHER: u8 = 13;

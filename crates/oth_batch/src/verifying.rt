@@ -1,4 +1,9 @@
 //! The test of a book's claims by several workers.
+//!
+//! `verify_by` is `oth_book::verify_knowing`, told what is found of the claims' boards. Where the next claim wasn't
+//! looked at, the boards of as many claims as make a batch are solved side by side, so a wrong entry is met at most a
+//! batch late. A board that the batch left is solved by all workers together, and one of fewer than 13 empty squares
+//! by the search of `verify` itself.
 
 ghost use Rattle.std.specs.Prelude.{◌≡◌, IfOk, IfErr};
 ghost use Rattle.std.specs.Thread.{IsSync};

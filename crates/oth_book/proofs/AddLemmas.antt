@@ -16,12 +16,12 @@ use Rattle.oth_rules.specs.Value.{value}
 use Rattle.oth_rules.specs.declared.scoring.Scoring.{Scoring}
 use Rattle.oth_rules.proofs.Values.{int_max-keeps}
 use Rattle.oth_rules.proofs.Canonical.{value-canonical, IsBoard-canonical, canonical-canonical}
-use Rattle.oth_search.specs.Interval.{Encloses}
-use Rattle.oth_search.specs.declared.solved.Solved.{Solved}
+use Rattle.oth_search.specs.Bounds.Interval.{Encloses}
+use Rattle.oth_search.specs.declared.bounds.solved.Solved.{Solved}
 use Rattle.oth_book.specs.declared.claim.Claim.{Claim}
 use Rattle.oth_book.specs.Order.{IsBelow}
 use Rattle.oth_book.specs.Book.{IsBookEntry, IsGap, IsEntryOf}
-use Rattle.oth_search.specs.declared.answer.Answer.{Answer}
+use Rattle.oth_search.specs.declared.bounds.answer.Answer.{Answer}
 use Rattle.oth_book.specs.Contents.{Contents}
 use Rattle.oth_book.specs.declared.add.Added.{Added}
 use Rattle.oth_book.specs.declared.add.Added.TheVariants as added

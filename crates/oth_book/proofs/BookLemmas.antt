@@ -22,8 +22,8 @@ use Rattle.oth_rules.proofs.Exchanges.{unmap_map}
 use Rattle.oth_rules.proofs.Words.{word_fits}
 use Rattle.oth_rules.proofs.SearchLaws.{IsScore-value}
 use Rattle.oth_rules.specs.Laws.{IsScore}
-use Rattle.oth_search.specs.Interval.{Encloses, IsInterval}
-use Rattle.oth_search.specs.declared.answer.Answer.{Answer}
+use Rattle.oth_search.specs.Bounds.Interval.{Encloses, IsInterval}
+use Rattle.oth_search.specs.declared.bounds.answer.Answer.{Answer}
 use Rattle.oth_book.specs.declared.claim.Claim.{Claim}
 use Rattle.oth_book.specs.Order.{cells, board_cmp, IsBelow}
 use Rattle.oth_book.specs.True.{best_word, IsExact}

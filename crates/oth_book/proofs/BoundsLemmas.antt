@@ -2,8 +2,8 @@
 use Rattle.std.proofs.Common.{◌≡◌, ◌≢◌, ℕ, ◌+◌, ◌<◌, ◌↔◌, ℤ, unsigned_abs, true, false, List, ◌∷◌, ◌++◌, arith, sym, ap, ◌∙◌, refl, append-nil, lit<, eqb-true, IsSome, IfSome, IfNone}
 use Rattle.std.specs.Prelude.{Option, Some, None}
 use Rattle.std.proofs.lemmas.List.{drop_all}
-use Rattle.oth_search.specs.Interval.{IsInterval}
-use Rattle.oth_search.specs.declared.interval.Interval.{Interval}
+use Rattle.oth_search.specs.Bounds.Interval.{IsInterval}
+use Rattle.oth_search.specs.declared.bounds.interval.Interval.{Interval}
 use Rattle.oth_rules.specs.declared.scoring.Scoring.{Scoring}
 use Rattle.oth_book.specs.declared.version.Version.{Version}
 use Rattle.oth_book.specs.declared.version.Version.TheVariants.{One, Two}

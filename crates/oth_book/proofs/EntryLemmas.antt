@@ -7,7 +7,7 @@ use Rattle.std.proofs.lemmas.Bool.Decides.{nat_tests}
 use Rattle.oth_rules.specs.Position.{IsBoard, Position}
 use Rattle.std.proofs.lemmas.Int.{ints}
 use Rattle.oth_rules.specs.Symmetry.{canonical}
-use Rattle.oth_search.specs.Interval.{IsInterval}
+use Rattle.oth_search.specs.Bounds.Interval.{IsInterval}
 use Rattle.oth_book.specs.declared.claim.Claim.{Claim}
 use Rattle.oth_book.specs.declared.version.Version.{Version}
 use Rattle.oth_book.specs.declared.version.Version.TheVariants.{One, Two}

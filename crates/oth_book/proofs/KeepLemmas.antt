@@ -8,7 +8,7 @@ use Rattle.std.specs.Prelude.{Result, Ok, Err}
 use Rattle.oth_rules.specs.Score.{score_of}
 use Rattle.oth_rules.specs.Value.{value}
 use Rattle.oth_rules.specs.declared.scoring.Scoring.{Scoring}
-use Rattle.oth_search.specs.declared.solved.Solved.{Solved}
+use Rattle.oth_search.specs.declared.bounds.solved.Solved.{Solved}
 use Rattle.oth_book.specs.declared.claim.Claim.{Claim}
 use Rattle.oth_book.specs.declared.add.Added.{Added}
 use Rattle.oth_book.specs.declared.add.AddError.{AddError}
@@ -16,7 +16,7 @@ use Rattle.oth_book.specs.Contents.{Contents}
 use Rattle.oth_book.specs.True.{IsExact}
 use Rattle.oth_book.specs.Book.{Has, HasExact, IsBookEntry, IsEntryOf, IsTrueBook}
 use Rattle.oth_book.specs.Add.{HasWithin, Inserts, IsAdded, Keeps, Replaces, answer_entry, closer}
-use Rattle.oth_search.specs.declared.answer.Answer.{Answer}
+use Rattle.oth_search.specs.declared.bounds.answer.Answer.{Answer}
 use Rattle.oth_rules.specs.Symmetry.{canonical}
 use Rattle.oth_book.specs.declared.add.Added.TheVariants as added
 use Rattle.oth_rules.specs.Position.{Position}

@@ -5,7 +5,7 @@ use Rattle.std.proofs.lemmas.List.Elements.{All-push}
 use Rattle.std.proofs.lemmas.Option.{slice_get-get_or}
 use Rattle.std.proofs.lemmas.Int.{ints}
 use Rattle.oth_rules.specs.declared.scoring.Scoring.{Scoring}
-use Rattle.oth_search.specs.Interval.{Encloses, Decides}
+use Rattle.oth_search.specs.Bounds.Interval.{Encloses, Decides}
 use Rattle.oth_book.specs.declared.claim.Claim.{Claim}
 use Rattle.oth_book.specs.declared.wrong.Cause.{Cause}
 use Rattle.oth_book.specs.True.{IsTrueClaim, IsFirstUntrue, IsCause}

@@ -8,8 +8,8 @@ use Rattle.std.specs.Prelude.{◌≡◌, ◌≢◌, ◌<◌, ◌≤◌, ◌⊎�
 use Rattle.std.specs.Int.{int_max, int_min}
 use Rattle.oth_rules.specs.Position.{Position, empty_count}
 use Rattle.oth_rules.specs.Symmetry.{canonical}
-use Rattle.oth_search.specs.declared.answer.Answer.{Answer}
-use Rattle.oth_search.specs.declared.solved.Solved.{Solved}
+use Rattle.oth_search.specs.declared.bounds.answer.Answer.{Answer}
+use Rattle.oth_search.specs.declared.bounds.solved.Solved.{Solved}
 use Rattle.oth_book.specs.declared.claim.Claim.{Claim}
 use Rattle.oth_book.specs.declared.add.Added.{Added}
 use Rattle.oth_book.specs.declared.add.Added.TheVariants as added

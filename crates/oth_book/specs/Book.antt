@@ -6,7 +6,7 @@ use Rattle.std.specs.List.{AllWithin}
 use Rattle.oth_rules.specs.Position.{Position, IsBoard}
 use Rattle.oth_rules.specs.Symmetry.{canonical}
 use Rattle.oth_rules.specs.declared.scoring.Scoring.{Scoring}
-use Rattle.oth_search.specs.Interval.{IsInterval}
+use Rattle.oth_search.specs.Bounds.Interval.{IsInterval}
 use Rattle.oth_book.specs.declared.claim.Claim.{Claim}
 use Rattle.oth_book.specs.Order.{IsBelow}
 use Rattle.oth_book.specs.True.{IsTrueClaim}

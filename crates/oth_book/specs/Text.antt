@@ -9,7 +9,7 @@ use Rattle.std.specs.Prelude.{[], ◌∷◌, ◌++◌, length, codes, All, AllPa
 use Rattle.std.specs.List.{flat_map}
 use Rattle.oth_rules.specs.Position.{IsBoard}
 use Rattle.oth_rules.specs.Symmetry.{canonical}
-use Rattle.oth_search.specs.Interval.{IsInterval}
+use Rattle.oth_search.specs.Bounds.Interval.{IsInterval}
 use Rattle.oth_book.specs.declared.version.Version.{Version}
 use Rattle.oth_book.specs.declared.version.Version.TheVariants.{One, Two}
 use Rattle.oth_book.specs.declared.claim.Claim.{Claim}

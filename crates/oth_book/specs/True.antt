@@ -8,7 +8,7 @@ use Rattle.oth_rules.specs.Position.{Position, empty_count}
 use Rattle.oth_rules.specs.Score.{score_of}
 use Rattle.oth_rules.specs.Value.{value, is_best}
 use Rattle.oth_rules.specs.declared.scoring.Scoring.{Scoring}
-use Rattle.oth_search.specs.Interval.{Encloses}
+use Rattle.oth_search.specs.Bounds.Interval.{Encloses}
 use Rattle.oth_book.specs.declared.claim.Claim.{Claim}
 use Rattle.oth_book.specs.declared.wrong.Cause.{Cause}
 use Rattle.oth_book.specs.declared.wrong.Cause.TheVariants as cause

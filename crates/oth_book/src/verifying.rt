@@ -2,7 +2,7 @@
 
 ghost use Rattle.std.specs.Prelude.{◌≡◌, ◌≤◌, ◌<◌, ◌≤ℤ◌, ℕ, ◌↔◌, IsTrue, IfOk, IfErr, OnOk, length, All};
 ghost use Rattle.oth_rules.specs.Position.{empty_count};
-ghost use Rattle.oth_search.specs.Interval.{IsInterval};
+ghost use Rattle.oth_search.specs.Bounds.Interval.{IsInterval};
 ghost use Rattle.oth_book.specs.declared.version.Version.{Version as AnyVersion};
 ghost use Rattle.oth_book.specs.Text.{AreClaims};
 ghost use Rattle.oth_book.specs.True.{IsTrueClaim, IsExact, IsCause, IsWrong, HoldsValue};
@@ -13,7 +13,7 @@ use crate::claim::Claim;
 use crate::claims::Claims;
 use crate::wrong::{Cause, Wrong};
 use oth_rules::Scoring;
-use oth_search::{Answer, Interval, MemoCells, NoCells, search, solve_with};
+use oth_search::{Answer, Interval, NoCells, WithLocal, search, solve_with};
 use std::alloc::Global;
 
 /// Tests each claim anew, by a search of its board. Returns the book of the claims where all are true, else the first
@@ -122,7 +122,7 @@ fn check_exact(alloc: Global, claim: &Claim, scoring: Scoring) -> Result<(), Cau
     ensures ok { OnOk result (IsTrueClaim scoring claim.now) }
     ensures cause { IfErr result (λ why. IsCause scoring claim.now why) }
 {
-    let mut cells = MemoCells::alone(alloc, claim.board.empties());
+    let mut cells = WithLocal::alone(alloc, claim.board.empties());
     let answer = solve_with(claim.board, &mut cells, scoring);
     check_by(claim, &answer)
 }

@@ -4,7 +4,7 @@ ghost use Rattle.std.specs.Prelude.{◌≡◌, ◌+◌, ◌≤◌, ◌++◌, [],
 ghost use Rattle.std.specs.Io.KnownBytes.{Appends};
 ghost use Rattle.arrayvec.specs.ArrayVec.{array_vec_len};
 ghost use Rattle.oth_rules.specs.declared.scoring.Scoring.{Scoring as AnyScoring};
-ghost use Rattle.oth_search.specs.Interval.{IsInterval};
+ghost use Rattle.oth_search.specs.Bounds.Interval.{IsInterval};
 ghost use Rattle.oth_text.specs.Device.{AppendsBeginning};
 ghost use Rattle.oth_book.specs.Order.{cells};
 ghost use Rattle.oth_book.specs.Numeral.{numeral};

@@ -8,8 +8,8 @@ use Rattle.oth_rules.specs.Move.{is_legal, after, legal_squares}
 use Rattle.oth_rules.specs.Score.{score_of}
 use Rattle.oth_rules.specs.Value.{value}
 use Rattle.oth_rules.proofs.SearchLaws.{Contains-legal_squares}
-use Rattle.oth_search.specs.declared.scores.ScoredMove.{ScoredMove}
-use Rattle.oth_search.specs.Scores.{AreScores, place_of}
+use Rattle.oth_search.specs.declared.root.scores.ScoredMove.{ScoredMove}
+use Rattle.oth_search.specs.Root.Scores.{AreScores, place_of}
 use Rattle.oth_c.specs.Scores.{no_score, score_at}
 
 -- a square to which no move is listed is not legal

@@ -9,9 +9,9 @@ use Rattle.oth_rules.specs.Square.{word_of}
 use Rattle.oth_rules.specs.Position.{Position}
 use Rattle.oth_rules.specs.Score.{score_of}
 use Rattle.oth_rules.specs.Value.{value, is_best}
-use Rattle.oth_search.specs.declared.kind.Kind.{Kind}
-use Rattle.oth_search.specs.declared.kind.Kind.TheVariants.{Move, Pass, End}
-use Rattle.oth_search.specs.Answer.{kind_of}
+use Rattle.oth_search.specs.declared.bounds.kind.Kind.{Kind}
+use Rattle.oth_search.specs.declared.bounds.kind.Kind.TheVariants.{Move, Pass, End}
+use Rattle.oth_search.specs.Bounds.Answer.{kind_of}
 use Rattle.oth_c.specs.declared.answer.OthAnswer.{OthAnswer}
 
 abbrev pub scoring_of : ℕ → Scoring

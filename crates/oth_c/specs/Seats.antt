@@ -12,10 +12,10 @@ use Rattle.oth_rules.specs.Position.{empty_count}
 use Rattle.oth_rules.specs.declared.scoring.Scoring.{Scoring}
 use Rattle.oth_rules.specs.Score.{score_of}
 use Rattle.oth_rules.specs.Value.{value}
-use Rattle.oth_search.specs.Interval.{Encloses}
-use Rattle.oth_search.specs.Full.{IsFullMinimax}
-use Rattle.oth_search.specs.declared.solved.Solved.{Solved}
-use Rattle.oth_search.specs.declared.answer.Answer.{Answer}
+use Rattle.oth_search.specs.Bounds.Interval.{Encloses}
+use Rattle.oth_search.specs.Bounds.Full.{IsFullMinimax}
+use Rattle.oth_search.specs.declared.bounds.solved.Solved.{Solved}
+use Rattle.oth_search.specs.declared.bounds.answer.Answer.{Answer}
 use Rattle.oth_table.specs.SharedTable.{IsSame, Makes}
 use Rattle.oth_table.specs.Parts.{Use, fixed_of}
 use Rattle.oth_table.specs.Sizes.{IsSize}

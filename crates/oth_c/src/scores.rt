@@ -3,7 +3,7 @@
 ghost use Rattle.std.specs.Prelude.{◌≡◌, ◌≢◌, ◌<◌, ◌≤◌, IfOk, IfErr};
 ghost use Rattle.oth_rules.specs.declared.scoring.Scoring.{Scoring as ScoredBy};
 ghost use Rattle.oth_rules.specs.Position.{Position};
-ghost use Rattle.oth_search.specs.Scores.{AreScores};
+ghost use Rattle.oth_search.specs.Root.Scores.{AreScores};
 ghost use Rattle.oth_c.specs.Answers.{scoring_of};
 ghost use Rattle.oth_c.specs.Boards.{position};
 ghost use Rattle.oth_c.specs.Codes.{code_of};
@@ -18,7 +18,7 @@ use crate::refusal::{DONE, Refusal, deliver};
 use crate::seat::OthSeat;
 use crate::sharing::lifted;
 use crate::solving::{accepted, cells_over, own_table};
-use oth_search::{MemoCells, ScoredMove, Scores, scores_with};
+use oth_search::{ScoredMove, Scores, WithLocal, scores_with};
 use std::alloc::Global;
 
 /// A board's answer, its legal squares, bit `n` for square `n`, and the score of each move at its square: the value of
@@ -105,7 +105,7 @@ fn scored(alloc: Global, board: OthBoard, scoring: u8, cells: u32) -> Result<Oth
             scores_with(board, &mut cells, scoring)
         }
         None => {
-            let mut alone = MemoCells::alone(alloc, board.empties());
+            let mut alone = WithLocal::alone(alloc, board.empties());
             scores_with(board, &mut alone, scoring)
         }
     };

@@ -1,7 +1,7 @@
 //! A seat with the table that it is at.
 
 ghost use Rattle.std.specs.Prelude.{◌≡◌, IfOk, IfErr};
-ghost use Rattle.oth_search.specs.Full.{IsFullMinimax};
+ghost use Rattle.oth_search.specs.Bounds.Full.{IsFullMinimax};
 ghost use Rattle.oth_table.specs.SharedTable.{IsSeatOf, IsSame, Makes};
 ghost use Rattle.oth_table.specs.Sizes.{IsSize};
 ghost use Rattle.oth_table.specs.Parts.{fixed_of};

@@ -2,7 +2,7 @@
 
 ghost use Rattle.std.specs.Prelude.{◌≡◌, ◌≢◌, ◌<◌, ◌≤◌, IfOk, IfErr, IfSome};
 ghost use Rattle.oth_rules.specs.Position.{empty_count};
-ghost use Rattle.oth_search.specs.Full.{IsFullMinimax};
+ghost use Rattle.oth_search.specs.Bounds.Full.{IsFullMinimax};
 ghost use Rattle.oth_table.specs.SharedTable.{IsSeatOf};
 ghost use Rattle.oth_c.specs.Answers.{IsAnswer, scoring_of};
 ghost use Rattle.oth_c.specs.Boards.{position};
@@ -15,7 +15,7 @@ use crate::answer::OthAnswer;
 use crate::board::OthBoard;
 use crate::refusal::{DONE, Refusal, deliver};
 use oth_rules::{Board, Scoring};
-use oth_search::{Answer, MOST_EMPTIES, MemoCells, Memories, solve_alone, solve_with};
+use oth_search::{Answer, LocalTables, MOST_EMPTIES, WithLocal, solve_alone, solve_with};
 use oth_table::{SharedTable, TableCells, TableSeat, is_size};
 use std::alloc::Global;
 
@@ -101,13 +101,13 @@ pub fn cells_over<'t>(
     table: &'t SharedTable,
     seat: TableSeat,
     is_alone: bool,
-) -> MemoCells<TableCells<'t>>
+) -> WithLocal<TableCells<'t>>
     requires { IsSeatOf table.now seat }
     ensures table { result.cells.table ≡ table.now }
     ensures seat { result.cells.seat ≡ seat }
 {
-    let memories = Memories::of(alloc, board.empties(), is_alone);
-    MemoCells::of(TableCells::of(table, seat), memories)
+    let memories = LocalTables::of(alloc, board.empties(), is_alone);
+    WithLocal::of(TableCells::of(table, seat), memories)
 }
 
 // The answer by a search without a table.

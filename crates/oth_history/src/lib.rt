@@ -1,4 +1,9 @@
 //! The words of sequential histories, in which the calls of a shared table and of a floor say what they did.
+//!
+//! A history is a list of events, the newest first. `specs/History` says what such a list begins with, which events
+//! are a seat's, which seats there are and when each event may come. The author of an event, the seat that it makes
+//! and what fits are parameters: `oth_table` and `oth_pieces` give them in a file of that name, with what is their
+//! own, such as what a cell holds or which number the floor is at.
 #![tactic(auto)]
 
 mod laws;

@@ -5,7 +5,7 @@ use Rattle.std.specs.Prelude.{nat_lt}
 use Rattle.std.proofs.lemmas.Bool.{lt-ltb, ltb-true}
 use Rattle.oth_rules.specs.Position.{empty_count}
 use Rattle.oth_rules.specs.Symmetry.{canonical}
-use Rattle.oth_search.specs.declared.answer.Answer.{Answer}
+use Rattle.oth_search.specs.declared.bounds.answer.Answer.{Answer}
 use Rattle.oth_text.specs.BoardLine.{KeepsLine, if_solvable, most_empties, reading, solvable_reading}
 use Rattle.oth_text.specs.Transcript.{is_nil}
 use Rattle.oth_text.specs.declared.fault.LineFault.{LineFault}

@@ -9,7 +9,7 @@ use Rattle.std.specs.Prelude.{◌≡◌, ◌⊎◌, ⊤, ℕ, Bool, true, List, 
 use Rattle.std.specs.Io.KnownBytes.{Appends, Consumes, IsAtEnd}
 use Rattle.oth_rules.specs.Symmetry.{canonical}
 use Rattle.oth_text.specs.BoardLine.{KeepsLine, solvable_reading}
-use Rattle.oth_search.specs.declared.answer.Answer.{Answer}
+use Rattle.oth_search.specs.declared.bounds.answer.Answer.{Answer}
 use Rattle.oth_text.specs.declared.fault.LineFault.{LineFault}
 use Rattle.oth_text.specs.declared.position.Position.{Position}
 use Rattle.oth_book.specs.Add.{HasNoRoom, IsAbsent, Keeps}

@@ -171,15 +171,16 @@ fn pass_line<T: Threads + Sync>(
     alloc: Global,
     book: &Book,
     bytes: &[u8],
-    asked: &Lawful,
+    settings: Lawful,
 ) {
     let solver = Solver {
         rt,
         alloc,
         gate: &Open,
         book: Some(book),
+        settings,
     };
-    ahead.pass(&solver, asked, bytes);
+    ahead.pass(&solver, bytes);
 }
 
 // Adds the lines of the input to the book, and writes it.
@@ -309,7 +310,7 @@ impl Addition {
         let mut rest = bytes;
         while let Some((line, others)) = split_line(rest) {
             let asked = self.asked();
-            pass_line(&mut self.ahead, rt, self.alloc, &self.book, rest, &asked);
+            pass_line(&mut self.ahead, rt, self.alloc, &self.book, rest, asked);
             self.take_line(rt, line, errors)?;
             rest = others;
         }
@@ -399,14 +400,14 @@ impl Addition {
         ensures few { IfOk result (λ a. empty_count a.board ≤ 30) }
     {
         let position = self.line.read()?;
-        let asked = self.asked();
         let solver = Solver {
             rt,
             alloc: self.alloc,
             gate: &Open,
             book: Some(&self.book),
+            settings: self.asked(),
         };
-        match self.ahead.answer_of(&solver, &position.board, &asked) {
+        match self.ahead.answer_of(&solver, &position.board) {
             Ok(answer) => Ok(answer),
             Err(many) => Err(LineFault::Empties(many.empties)),
         }

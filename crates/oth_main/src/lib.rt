@@ -1,4 +1,10 @@
 //! The commands of the book, and what a terminal shows. What a program calls of `oth_run` is handed on from there.
+//!
+//! `book_file` reads and verifies the bytes of a file, `book_commands` prints and writes. `message` has the lines
+//! that a command of the book prints, and `reasons` what it prints them to: standard error, whether it is a terminal,
+//! and the reason, which is kept until the program tells it in words. `showing` has a terminal with the line that
+//! shows how far a long search is, by what `Progress` (`progress`) hears of each search (`under_search`) as the gate
+//! of a run, and the sink that takes the line away before each answer (`Report`).
 #![tactic(auto)]
 
 mod book_commands;

@@ -85,28 +85,31 @@ impl State {
     }
 }
 
-/// The gate of a run whose progress is shown: it keeps what it hears. Its calls never wait.
+/// The gate of a run: it keeps what it hears, where the run's progress is shown. Its calls never wait.
 #[derive(Drop)]
 pub struct Progress {
+    is_shown: bool,
     state: Mutex<State>,
     bell: Condvar,
 }
 
 impl Progress {
-    /// Nothing was heard yet.
-    pub fn new() -> Progress {
-        Progress::of(UnderSearch {
+    /// Nothing was heard yet. `is_shown`: the run's progress is shown.
+    pub fn new(is_shown: bool) -> Progress {
+        let nothing = UnderSearch {
             root: Solved::default(),
             settled: 0,
-        })
-    }
-
-    // Nothing was heard yet; `nothing` stands at the place of each search.
-    fn of(nothing: UnderSearch) -> Progress {
+        };
         Progress {
+            is_shown,
             state: Mutex::new(State::of(nothing)),
             bell: Condvar::new(),
         }
+    }
+
+    /// Whether the run's progress is shown.
+    pub(crate) fn is_shown(&self) -> bool {
+        self.is_shown
     }
 
     // Locks the state. None where another thread keeps it through `LOCK_TRIES` tries.
@@ -127,6 +130,9 @@ impl Gate for Progress {
     fn after(&self, _task: u32) {}
 
     fn awaits(&self, board: &Board) {
+        if !self.is_shown {
+            return;
+        }
         if let Some(mut state) = self.heard() {
             state.is_awaited = true;
             state.board = *board;
@@ -135,7 +141,7 @@ impl Gate for Progress {
     }
 
     fn follows(&self) -> bool {
-        true
+        self.is_shown
     }
 
     fn goes_on(&self, root: &Solved, settled: u64) {

@@ -57,7 +57,8 @@ impl<E: Sink> Screen<E> {
     }
 }
 
-/// A terminal, and what a run tells of how far it is: where a board takes longer than a second, a line shows it.
+/// A terminal, and what a run tells of how far it is: where a board takes longer than a second, a line shows it. Where
+/// the device is no terminal, nothing is shown, and a run is as one that nobody watches.
 #[derive(Drop)]
 pub struct Watch<E> {
     progress: Progress,
@@ -65,12 +66,12 @@ pub struct Watch<E> {
 }
 
 impl<E: Sink + Send> Watch<E> {
-    /// Nothing is shown yet on this terminal.
-    pub fn on(terminal: E) -> Watch<E> {
+    /// Nothing is shown yet on this device, and nothing will be where it is no terminal.
+    pub fn on(device: E, is_terminal: bool) -> Watch<E> {
         Watch {
-            progress: Progress::new(),
+            progress: Progress::new(is_terminal),
             screen: Mutex::new(Screen {
-                sink: terminal,
+                sink: device,
                 width: 0,
             }),
         }
@@ -93,6 +94,9 @@ impl<E: Sink + Send> Watch<E> {
         requires { W.pre work.old }
         ensures { W.step work.old result work.new }
     {
+        if !self.progress.is_shown() {
+            return work();
+        }
         let mut showing = || self.show(rt, alloc);
         let mut working = || -> X
             requires { W.pre work.now }
@@ -179,6 +183,9 @@ impl<'w, R: Wait, W: Sink, E: Sink> Sink for Report<'w, R, W, E> {
     ghost flushed = { λ s. W.flushed s.writer };
 
     fn write(&mut self, buffer: &[u8]) -> Result<usize, Failed> {
+        if !self.watch.progress.is_shown() {
+            return self.writer.write(buffer);
+        }
         let mut screen = self.watch.screen.lock(self.rt);
         screen.clear();
         let written = self.writer.write(buffer);

@@ -14,7 +14,7 @@ use Rattle.oth_rules.specs.declared.scoring.Scoring.{Scoring}
 use Rattle.oth_rules.specs.Position.{Position}
 use Rattle.oth_rules.specs.Score.{score_of}
 use Rattle.oth_rules.specs.Value.{value}
-use Rattle.oth_search.specs.Interval.{Encloses}
+use Rattle.oth_search.specs.Bounds.Interval.{Encloses}
 use Rattle.oth_pieces.specs.declared.floor.root.Root.{Root}
 use Rattle.oth_pieces.specs.declared.floor.event.Event.{Event}
 use Rattle.oth_pieces.specs.declared.floor.event.Event.TheVariants.{Raise, Made}

@@ -7,7 +7,7 @@ use Rattle.std.specs.Prelude.{slice_set, Option, Some, None, Result, Ok, Err, re
 use Rattle.oth_rules.specs.Position.{Position}
 use Rattle.oth_rules.specs.declared.scoring.Scoring.{Scoring}
 use Rattle.oth_rules.specs.declared.scoring.Scoring.TheVariants.{Winner, Discs}
-use Rattle.oth_search.specs.declared.solved.Solved.{Solved}
+use Rattle.oth_search.specs.declared.bounds.solved.Solved.{Solved}
 use Rattle.oth_pieces.specs.declared.frontier.item.Item.{Item}
 use Rattle.oth_pieces.specs.declared.reply.Reply.{Reply}
 use Rattle.oth_pieces.specs.declared.reply.Refusal.{Refusal}

@@ -1,5 +1,9 @@
 //! The shared lower bound of a search: the greatest score that is known of a root, which threads raise together. Its
 //! calls stand in one sequential history (Herlihy and Wing, Linearizability, 1990).
+//!
+//! Its words, of an `atomic_table`: the root's own and opposing discs, the floor plus 64, the scoring. There are
+//! two kinds of step, load and fetch_max. The rule: there is one legal history; the third word is the floor after
+//! it plus 64; what each seat has seen begins it and has all events of that seat.
 ghost use Rattle.std.specs.Prelude.{◌≡◌, ◌↔◌, OnOk, IfOk, OnErr, IsOk, [], ◌≤◌, pos, negsuc, ◌-ℤ◌, ◌≤ℤ◌};
 ghost use Rattle.oth_history.specs.History.{Begins};
 ghost use Rattle.oth_pieces.specs.History.{floor_after, root_value};

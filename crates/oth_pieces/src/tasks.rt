@@ -1,5 +1,10 @@
 //! The numbers of a frontier, dealt out to the hands of several threads, by work stealing: each hand has the deque of
 //! Chase and Lev (Dynamic circular work-stealing deque, 2005), and takes from the others where its own is empty.
+//!
+//! Number `j` lies in deque `j` modulo the hands, once, pushed in the order of the ranks that the caller gives
+//! (`Tasks::by_rank`; the order is a permutation by its type, `Turns`). A hand pops from its own deque and steals
+//! from the others, at most 64 tries for each deque in a round. Invariant of a deque: each pushed number is either
+//! still in it, or in the list of what exactly one pass took.
 ghost use Rattle.std.specs.Prelude.{◌≡◌, ◌<◌, ◌≤◌, true, false, IfNone, IfOk, IfSome, [], ◌∷◌, ◌++◌, MatchOption, map};
 ghost use Rattle.std.specs.Prelude.{length, vec_len};
 ghost use Rattle.crossbeam_deque.specs.Handles.{view, IsPassOf, stealer_deque};

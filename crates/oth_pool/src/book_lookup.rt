@@ -1,4 +1,8 @@
 //! What a book tells of a board before it is searched.
+//!
+//! A book of the same scoring is asked after the three refusals, before any worker starts. An exact entry is the
+//! answer, without a call of the gate. The search begins with the bounds of another entry: by several workers the
+//! lower one raises the floor, one worker starts from both. Where the mover must pass they change their signs.
 ghost use Rattle.std.specs.Prelude.{◌≡◌, IfSome};
 ghost use Rattle.oth_rules.specs.Symmetry.{canonical};
 ghost use Rattle.oth_book.specs.Book.{Has, HasBoard};

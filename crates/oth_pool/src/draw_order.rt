@@ -1,4 +1,7 @@
 //! The order in which the items of a frontier are drawn: the most promising first.
+//!
+//! All replies to the first move come first, in the order of the search, then the best reply to each other move, then
+//! the second ones.
 use arrayvec::ArrayVec;
 use oth_pieces::{MOST_ITEMS, awake};
 use oth_rules::{Board, Square};
@@ -11,18 +14,18 @@ const BEYOND: u32 = 64;
 /// Returns the rank of each item of the frontier; the least is drawn first. First come the replies to the root's first
 /// move in their order, then the best reply to each other move, then the second reply to each, up to the last.
 #[inline(never)]
-pub(crate) fn ranks(shared: &Search) -> ArrayVec<u32, MOST_ITEMS> {
+pub(crate) fn ranks(search: &Search) -> ArrayVec<u32, MOST_ITEMS> {
     let mut ranks = ArrayVec::new();
     let mut replies = ArrayVec::<Board, 64>::new();
     let mut to = None;
-    for number in 0..shared.frontier.len() {
+    for number in 0..search.frontier.len() {
         let mut rank = u32::MAX;
-        if let Some(item) = shared.frontier.entry(number) {
+        if let Some(item) = search.frontier.entry(number) {
             if to != Some(item.square) {
-                replies = replies_to(shared, item.square);
+                replies = replies_to(search, item.square);
                 to = Some(item.square);
             }
-            let of_move = place_of(shared.squares, &item.square);
+            let of_move = place_of(search.squares, &item.square);
             rank = rank_of(of_move, place_of(replies.as_slice(), &item.board));
         }
         let _ = ranks.try_push(rank);
@@ -42,9 +45,9 @@ fn rank_of(of_move: u32, of_reply: u32) -> u32 {
 
 // Returns the boards after the replies to the root's move, in the order in which they are searched. A forced pass
 // before or after a reply is played too.
-fn replies_to(shared: &Search, square: Square) -> ArrayVec<Board, 64> {
+fn replies_to(search: &Search, square: Square) -> ArrayVec<Board, 64> {
     let mut replies = ArrayVec::new();
-    if let Some(child) = shared.root.play(square) {
+    if let Some(child) = search.root.play(square) {
         let (child, _) = awake(child);
         let squares = order(&child);
         for reply in squares.as_slice() {

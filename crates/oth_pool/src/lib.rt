@@ -1,6 +1,26 @@
 //! The search of one board by several workers: how they are started, in which order they draw its items, and the
 //! answer. The order of the items and the numbers of `tuning` affect speed only: each answer is proved whatever they
 //! are.
+//!
+//! Every number on its way from a worker to the answer is a `Solved`, whose bounds are true by its type, so which
+//! windows were asked, which items were skipped, which replies were lost, and the schedule stand outside the proof of
+//! the answer. How the board of a `solve` is searched, with one start of threads:
+//!
+//!     book            an exact entry is the answer; a search begins with the bounds of another
+//!       |
+//!     frontier        the boards two plies below the root; ranks: what promises most is drawn first
+//!       |
+//!     workers         each: draw a number -> gate before -> search the item and its move -> gate after -> reply
+//!       |               no number left -> search what is still open of the root's moves
+//!       |               all read and raise one floor, and meet in one table
+//!     replies         those of the workers; the caller searches the numbers left (announced)
+//!       |
+//!     combine         bounds of the boards after the root's moves, by workers and by replies; each raises the floor
+//!       |
+//!     solve_moves     searches only what is neither exact nor strictly below the score
+//!
+//! By one worker the caller searches alone, by `solve_moves`, with no floor and no deques, and `announcing` tells the
+//! gate of the items below each move that it is at.
 #![tactic(auto)]
 
 mod announcing;

@@ -38,11 +38,11 @@ pub(crate) struct Means<'m, R, G> {
     pub workers: u8,
 }
 
-// What workers share besides the table.
+/// What workers share besides the table.
 #[derive(Clone, Copy)]
-struct Links<'s> {
-    floor: &'s Floor,
-    hints: &'s Option<Hints>,
+pub(crate) struct Links<'s> {
+    pub floor: &'s Floor,
+    pub hints: &'s Option<Hints>,
 }
 
 /// Lets `workers` workers, 1 to 16, search the items of the frontier with a window at the floor, each over cells of the
@@ -68,44 +68,27 @@ pub fn run_workers<'t, R: Threads + Sync, G: Gate>(
     let root = floor.board();
     let squares = order(&root);
     let sharing = Sharing::of_several(table.is_some());
-    let shared = Search::of(root, floor.scoring(), squares.as_slice(), frontier, sharing);
+    let search = Search::of(root, floor.scoring(), squares.as_slice(), frontier, sharing);
     let means = Means {
         rt,
         alloc,
         gate,
         workers,
     };
-    run(&means, &shared, floor, seat, table).0
-}
-
-/// As `run_workers`, for a prepared search. Returns also what the workers found of the root's children.
-#[inline(never)]
-pub(crate) fn run<'t, R: Threads + Sync, G: Gate>(
-    means: &Means<R, G>,
-    shared: &Search,
-    floor: &Floor,
-    seat: &mut FloorSeat,
-    table: &mut Option<TableCells<'t>>,
-) -> (Gathered, Vec<Solved>)
-    requires crew { IsCrew means.now.workers }
-    requires seat { IsSeatOf floor.now seat.old }
-    ensures seat { LendsFloor seat.old seat.new }
-    ensures table { LendsTable table.old table.new }
-    ensures gathered { AreGathered shared.now.frontier.now shared.now.scoring result.0 }
-    ensures lists { HasLists means.now.workers result.0.drawn }
-{
-    let hints = hints_for(means, shared);
+    let hints = hints_for(&means, &search);
     let links = Links {
         floor,
         hints: &hints,
     };
-    run_linked(means, shared, links, seat, table)
+    run(&means, &search, links, seat, table).0
 }
 
-// As `run`, by workers that share `links`.
-fn run_linked<'w, 't, R: Threads + Sync, G: Gate>(
+/// As `run_workers`, for a prepared search by workers that share `links`. Returns also what they found of the root's
+/// children.
+#[inline(never)]
+pub(crate) fn run<'w, 't, R: Threads + Sync, G: Gate>(
     means: &Means<R, G>,
-    shared: &Search,
+    search: &Search,
     links: Links<'w>,
     seat: &mut FloorSeat,
     table: &mut Option<TableCells<'t>>,
@@ -114,28 +97,28 @@ fn run_linked<'w, 't, R: Threads + Sync, G: Gate>(
     requires seat { IsSeatOf links.floor.now seat.old }
     ensures seat { LendsFloor seat.old seat.new }
     ensures table { LendsTable table.old table.new }
-    ensures gathered { AreGathered shared.now.frontier.now shared.now.scoring result.0 }
+    ensures gathered { AreGathered search.now.frontier.now search.now.scoring result.0 }
     ensures lists { HasLists means.now.workers result.0.drawn }
 {
     let alloc = means.alloc;
-    let ranks = ranks(shared);
-    let Ok((tasks, hands)) = Tasks::by_rank(alloc, shared.frontier, ranks.as_slice(), means.workers)
+    let ranks = ranks(search);
+    let Ok((tasks, hands)) = Tasks::by_rank(alloc, search.frontier, ranks.as_slice(), means.workers)
     else {
-        return nothing(alloc, shared);
+        return nothing(alloc, search);
     };
     let count = hands.len();
     let (Some(workers), Ok(jobs), Ok(room), Ok(replies)) = (
-        workers_of(means, shared, links, seat, table),
+        workers_of(means, search, links, seat, table),
         Vec::with_capacity(alloc, count),
         Vec::with_capacity(alloc, count),
-        Vec::with_capacity(alloc, shared.frontier.len() as usize),
+        Vec::with_capacity(alloc, search.frontier.len() as usize),
     ) else {
         let drawn = tasks.close(hands);
         let replies = Vec::new(alloc);
         return (Gathered { drawn, replies }, Vec::new(alloc));
     };
-    let jobs = jobs_of(alloc, shared, hands, workers, jobs);
-    let jobs = run_jobs(means, shared, &tasks, jobs);
+    let jobs = jobs_of(alloc, search, hands, workers, jobs);
+    let jobs = run_jobs(means, search, &tasks, jobs);
     let replies = replies_of(jobs.as_slice(), replies);
     let found = found_by_workers(alloc, jobs.as_slice());
     let hands = hands_in(room, jobs);
@@ -143,22 +126,22 @@ fn run_linked<'w, 't, R: Threads + Sync, G: Gate>(
     (Gathered { drawn, replies }, found)
 }
 
-// Makes the hints that several workers share. None where there is one worker, which needs none, or no memory.
-fn hints_for<R, G>(means: &Means<R, G>, shared: &Search) -> Option<Hints> {
+/// Makes the hints that several workers share. None where there is one worker, which needs none, or no memory.
+pub(crate) fn hints_for<R, G>(means: &Means<R, G>, search: &Search) -> Option<Hints> {
     if means.workers == 1 {
         return None;
     }
-    Hints::new(means.alloc, orders_for(shared.root.empties()))
+    Hints::new(means.alloc, orders_for(search.root.empties()))
 }
 
 // What is gathered where nobody drew anything: all items are left.
 #[inline(never)]
-fn nothing(alloc: Global, shared: &Search) -> (Gathered, Vec<Solved>)
-    ensures gathered { AreGathered shared.now.frontier.now shared.now.scoring result.0 }
+fn nothing(alloc: Global, search: &Search) -> (Gathered, Vec<Solved>)
+    ensures gathered { AreGathered search.now.frontier.now search.now.scoring result.0 }
     ensures lists { lists_of result.0.drawn ≡ [] }
 {
     let gathered = Gathered {
-        drawn: Drawn::nothing(alloc, shared.frontier.len()),
+        drawn: Drawn::nothing(alloc, search.frontier.len()),
         replies: Vec::new(alloc),
     };
     (gathered, Vec::new(alloc))
@@ -168,7 +151,7 @@ fn nothing(alloc: Global, shared: &Search) -> (Gathered, Vec<Solved>)
 // floor.
 fn workers_of<'w, 't, R, G>(
     means: &Means<R, G>,
-    shared: &Search,
+    search: &Search,
     links: Links<'w>,
     seat: &mut FloorSeat,
     table: &mut Option<TableCells<'t>>,
@@ -188,8 +171,8 @@ fn workers_of<'w, 't, R, G>(
         };
         let root_bound = RootBound::of(links.floor, own);
         let hints = HintSeat::of(links.hints);
-        let cells = worker_cells(alloc, shared.root.empties(), shared.shape.sharing, table);
-        workers.push_reserved(Worker::of(shared, alloc, cells, root_bound, hints));
+        let cells = worker_cells(alloc, search.root.empties(), search.shape.sharing, table);
+        workers.push_reserved(Worker::of(search, alloc, cells, root_bound, hints));
     }
     Some(workers)
 }
@@ -197,7 +180,7 @@ fn workers_of<'w, 't, R, G>(
 // Makes a job of each hand and a worker. A job for whose replies there is no memory gets no room for them.
 fn jobs_of<'w, C: Drop>(
     alloc: Global,
-    shared: &Search,
+    search: &Search,
     hands: Vec<Hand>,
     mut workers: Vec<Worker<'w, C>>,
     mut jobs: Vec<Job<'w, C>>,
@@ -205,14 +188,14 @@ fn jobs_of<'w, C: Drop>(
     requires many { vec_len workers ≡ vec_len hands }
     requires room { (vec_len jobs ≡ 0) × (vec_len hands ≤ vec_capacity jobs) }
     ensures hands { map (λ j. j.work.hand) result.items ≡ hands.items }
-    ensures each { All (λ j. Holds shared.now.frontier.now shared.now.scoring j.work) result.items }
+    ensures each { All (λ j. Holds search.now.frontier.now search.now.scoring j.work) result.items }
     ensures many { vec_len result ≡ vec_len hands }
 {
     for hand in hands {
         let Some(worker) = workers.pop() else {
             unreachable!()
         };
-        let replies = room_for(alloc, shared.frontier.len());
+        let replies = room_for(alloc, search.frontier.len());
         let work = Work { hand, replies };
         jobs.push_reserved(Job { work, worker });
     }
@@ -222,17 +205,17 @@ fn jobs_of<'w, C: Drop>(
 // Returns the jobs after each has searched until nothing was left.
 fn run_jobs<'w, R: Threads + Sync, G: Gate, C: Cells + Send + Drop>(
     means: &Means<R, G>,
-    shared: &Search,
+    search: &Search,
     tasks: &Tasks,
     mut jobs: Vec<Job<'w, C>>,
 ) -> Vec<Job<'w, C>>
     requires hands { AreAllHands tasks.now (map (λ j. j.work.hand) jobs.items) }
-    requires each { All (λ j. Holds shared.now.frontier.now shared.now.scoring j.work) jobs.items }
+    requires each { All (λ j. Holds search.now.frontier.now search.now.scoring j.work) jobs.items }
     ensures hands { AreAllHands tasks.now (map (λ j. j.work.hand) result.items) }
-    ensures each { All (λ j. Holds shared.now.frontier.now shared.now.scoring j.work) result.items }
+    ensures each { All (λ j. Holds search.now.frontier.now search.now.scoring j.work) result.items }
     ensures many { vec_len result ≡ vec_len jobs.entry }
 {
-    work_all(means.rt, shared, tasks, means.gate, jobs.as_mut_slice());
+    work_all(means.rt, search, tasks, means.gate, jobs.as_mut_slice());
     jobs
 }
 

@@ -1,9 +1,13 @@
 //! The score of every move of a board.
+//!
+//! The boards after the moves lie in a queue, of which one atomic number tells how many are taken. Each worker values
+//! the next one over its own seat of one table, or, where there are fewer boards than workers, all of them one after
+//! the other, as `solve` does.
 ghost use Rattle.std.specs.Prelude.{◌≡◌, IfOk, IfErr, true};
 ghost use Rattle.oth_rules.specs.Move.{can_move};
 ghost use Rattle.oth_pool.specs.Solving.{IsSolvable, Refuses, Accepts};
-ghost use Rattle.oth_search.specs.Full.{IsFullMinimax};
-ghost use Rattle.oth_search.specs.Scores.{AreScores};
+ghost use Rattle.oth_search.specs.Bounds.Full.{IsFullMinimax};
+ghost use Rattle.oth_search.specs.Root.Scores.{AreScores};
 ghost use Rattle.oth_pieces.specs.Hands.{IsCrew};
 
 use crate::queue::Queue;

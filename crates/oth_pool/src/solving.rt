@@ -3,14 +3,14 @@ ghost use Rattle.std.specs.Prelude.{◌≡◌, ◌<◌, ◌≤◌, ◌≤ℤ◌,
 ghost use Rattle.oth_rules.specs.Position.{empty_count};
 ghost use Rattle.oth_rules.specs.Move.{can_move};
 ghost use Rattle.oth_pool.specs.Solving.{IsSolvable, Refuses, Accepts};
-ghost use Rattle.oth_search.specs.Full.{IsFullMinimax};
+ghost use Rattle.oth_search.specs.Bounds.Full.{IsFullMinimax};
 ghost use Rattle.oth_pieces.specs.Hands.{IsCrew};
 ghost use Rattle.oth_pieces.specs.History.{floor_after};
 ghost use Rattle.oth_pieces.specs.Watch.{IsSeatOf};
 
 use crate::announcing::Announcer;
 use crate::book_lookup::{answer_in, bounds_in};
-use crate::run::{Gathered, Means, room_for, run};
+use crate::run::{Gathered, Links, Means, hints_for, room_for, run};
 use crate::tuning::{FEWEST_EMPTIES_CREWED, cells_for};
 use oth_book::Book;
 use oth_pieces::{Floor, FloorSeat, Frontier, is_crew};
@@ -20,9 +20,7 @@ use oth_search::{
     solve_moves,
 };
 use oth_table::{SharedTable, TableCells, is_size};
-use oth_walk::{
-    Gate, HintSeat, RootBound, RootMove, Search, Sharing, Worker, search_item, worker_cells,
-};
+use oth_walk::{Gate, HintSeat, RootBound, Search, Sharing, Worker, search_item, worker_cells};
 use std::alloc::Global;
 use std::thread::Threads;
 use thiserror::Error;
@@ -144,8 +142,9 @@ fn answer_moves<R: Threads + Sync, G: Gate>(
     }
 }
 
-/// Returns the answer of `by_book`, a board with the book's bounds whose mover has a move, by the items of its
-/// frontier.
+/// Returns the answer of `by_book`, a board with the book's bounds whose mover has a move: several workers search the
+/// items of its frontier, and the caller what they left open. The caller searches alone where it is the only worker, or
+/// there is no memory for a frontier or a floor.
 pub(crate) fn answer_over<'t, R: Threads + Sync, G: Gate>(
     means: &Means<R, G>,
     by_book: &Solved,
@@ -157,111 +156,80 @@ pub(crate) fn answer_over<'t, R: Threads + Sync, G: Gate>(
     ensures board { result.board ≡ by_book.now.board }
     ensures scoring { result.scoring ≡ by_book.now.scoring }
 {
-    match frontier_of(means.alloc, &by_book.board) {
-        Some(frontier) => answer_by_items(means, by_book, &frontier, access),
-        None => answer_without_room(means, by_book, access),
-    }
-}
-
-/// Makes the frontier of the board on the heap, which leaves the stack to the search. None where there is no memory.
-#[inline(never)]
-pub(crate) fn frontier_of(alloc: Global, board: &Board) -> Option<Box<Frontier>>
-    requires { IsSolvable board.now }
-{
-    Box::new(alloc, Frontier::of(board, 2)).ok()
-}
-
-// As `answer_over`, with the frontier on the stack.
-#[inline(never)]
-fn answer_without_room<'t, R: Threads + Sync, G: Gate>(
-    means: &Means<R, G>,
-    by_book: &Solved,
-    access: &mut Option<TableCells<'t>>,
-) -> Answer
-    requires some { can_move by_book.now.board ≡ true }
-    requires few { IsSolvable by_book.now.board }
-    requires crew { IsCrew means.now.workers }
-    ensures board { result.board ≡ by_book.now.board }
-    ensures scoring { result.scoring ≡ by_book.now.scoring }
-{
-    answer_by_items(means, by_book, &Frontier::of(&by_book.board, 2), access)
-}
-
-// As `answer_over`, by the items of this frontier: several workers search them first and the caller what they left
-// open; the caller searches alone where it is the only worker, or there is no memory for a floor.
-#[inline(never)]
-fn answer_by_items<'t, R: Threads + Sync, G: Gate>(
-    means: &Means<R, G>,
-    by_book: &Solved,
-    frontier: &Frontier,
-    access: &mut Option<TableCells<'t>>,
-) -> Answer
-    requires some { can_move by_book.now.board ≡ true }
-    requires few { IsSolvable by_book.now.board }
-    requires crew { IsCrew means.now.workers }
-    ensures board { result.board ≡ by_book.now.board }
-    ensures scoring { result.scoring ≡ by_book.now.scoring }
-{
-    let squares = order(&by_book.board);
-    let sharing = Sharing::of_several(access.is_some());
-    let shared = Search::of(
-        by_book.board,
-        by_book.scoring,
-        squares.as_slice(),
-        frontier,
-        sharing,
-    );
     if means.workers > 1 {
-        if let Some(answer) = answer_together(means, &shared, by_book, access) {
+        if let Some(answer) = answer_together(means, by_book, access) {
             return answer;
         }
     }
-    answer_alone(means, &shared, by_book, access)
+    answer_alone(means, by_book, access)
 }
 
 // Returns the answer by the caller's search alone.
+#[inline(never)]
 fn answer_alone<'t, R: Threads + Sync, G: Gate>(
     means: &Means<R, G>,
-    shared: &Search,
     by_book: &Solved,
     access: &mut Option<TableCells<'t>>,
 ) -> Answer
     requires some { can_move by_book.now.board ≡ true }
+    requires few { IsSolvable by_book.now.board }
     ensures board { result.board ≡ by_book.now.board }
     ensures scoring { result.scoring ≡ by_book.now.scoring }
 {
-    let mut cells = worker_cells(means.alloc, shared.root.empties(), Sharing::Alone, access);
-    let mut announcer = Announcer::of(shared, means.gate);
+    let empties = by_book.board.empties();
+    let mut cells = worker_cells(means.alloc, empties, Sharing::Alone, access);
+    let mut announcer = Announcer::of(&by_book.board, by_book.scoring, means.gate);
     let answer = solve_moves(*by_book, &[], &mut cells, &mut announcer);
     announcer.finish();
     answer
 }
 
 // Returns the answer by what the workers find of the items and by the caller's search of what they left open. None
-// where there is no memory for a floor.
+// where there is no memory for a frontier or a floor.
+#[inline(never)]
 fn answer_together<'t, R: Threads + Sync, G: Gate>(
     means: &Means<R, G>,
-    shared: &Search,
     by_book: &Solved,
     access: &mut Option<TableCells<'t>>,
 ) -> Option<Answer>
     requires some { can_move by_book.now.board ≡ true }
+    requires few { IsSolvable by_book.now.board }
     requires crew { IsCrew means.now.workers }
     ensures board { IfSome result (λ a. a.board ≡ by_book.now.board) }
     ensures scoring { IfSome result (λ a. a.scoring ≡ by_book.now.scoring) }
 {
     let alloc = means.alloc;
+    let Solved { board, scoring, .. } = *by_book;
+    let frontier = frontier_of(alloc, &board)?;
+    let squares = order(&board);
+    let sharing = Sharing::of_several(access.is_some());
+    let search = Search::of(board, scoring, squares.as_slice(), &frontier, sharing);
     let (floor, mut seat) = raised_floor(alloc, by_book)?;
-    let (gathered, found) = run(means, shared, &floor, &mut seat, access);
-    let cells = worker_cells(alloc, shared.root.empties(), shared.shape.sharing, access);
+    let hints = hints_for(means, &search);
+    let links = Links {
+        floor: &floor,
+        hints: &hints,
+    };
+    let (gathered, found) = run(means, &search, links, &mut seat, access);
+    let cells = worker_cells(alloc, board.empties(), sharing, access);
     let bound = RootBound::of(&floor, seat);
-    let mut worker = Worker::of(shared, alloc, cells, bound, HintSeat::none());
-    take_in(shared, found.as_slice(), &mut worker);
-    let replies = replies_of(means, shared, &gathered, &mut worker);
-    take_in_items(shared, replies.as_slice(), &mut worker);
+    let mut worker = Worker::of(&search, alloc, cells, bound, HintSeat::none());
+    for child in found.as_slice() {
+        worker.update(child);
+    }
+    let replies = replies_of(means, &search, &gathered, &mut worker);
+    take_in_items(&search, replies.as_slice(), &mut worker);
     let root = by_book.joined(&worker.root());
     let (mut cells, known) = worker.into_parts();
     Some(solve_moves(root, known.as_slice(), &mut cells, &mut Unobserved))
+}
+
+// Makes the frontier of the board on the heap, which leaves the stack to the search. None where there is no memory.
+#[inline(never)]
+fn frontier_of(alloc: Global, board: &Board) -> Option<Box<Frontier>>
+    requires { IsSolvable board.now }
+{
+    Box::new(alloc, Frontier::of(board, 2)).ok()
 }
 
 // Makes a floor of the board as high as the book's lower bound, and its first seat. None where there is no memory.
@@ -279,38 +247,28 @@ fn raised_floor(alloc: Global, by_book: &Solved) -> Option<(Floor, FloorSeat)>
 // Returns what the workers found of the items, and the caller of those that none took, as far as there is room for it.
 fn replies_of<R, G: Gate, C: Cells>(
     means: &Means<R, G>,
-    shared: &Search,
+    search: &Search,
     gathered: &Gathered,
     worker: &mut Worker<C>,
 ) -> Vec<Solved> {
-    let mut replies = room_for(means.alloc, shared.frontier.len());
+    let mut replies = room_for(means.alloc, search.frontier.len());
     for reply in gathered.replies.as_slice() {
         let _ = replies.push(reply.solved);
     }
     for number in gathered.drawn.left.as_slice() {
-        if let Some(item) = shared.frontier.entry(*number) {
-            let _ = replies.push(search_item(shared, *number, &item, means.gate, worker));
+        if let Some(item) = search.frontier.entry(*number) {
+            let _ = replies.push(search_item(search, *number, &item, means.gate, worker));
         }
     }
     replies
 }
 
-// Gives the caller's worker what the others found of the root's children. The floor rises by each.
-fn take_in<C: Cells>(shared: &Search, found: &[Solved], worker: &mut Worker<C>) {
-    for child in found {
-        if let Some(root_move) = RootMove::to(&*shared, &child.board) {
-            worker.keep(&root_move, child);
-        }
-    }
-}
-
 // Backs up what was found of the items to each child that isn't settled, and gives it to the caller's worker.
-fn take_in_items<C: Cells>(shared: &Search, items: &[Solved], worker: &mut Worker<C>) {
-    for square in shared.squares {
-        if let Some(root_move) = RootMove::of(&*shared, *square) {
-            if !worker.is_settled(*square) {
-                let known = known_below(root_move.child, 1, items, shared.scoring);
-                worker.keep(&root_move, &known);
+fn take_in_items<C: Cells>(search: &Search, items: &[Solved], worker: &mut Worker<C>) {
+    for square in search.squares {
+        if !worker.is_settled(*square) {
+            if let Some(child) = search.root.play(*square) {
+                worker.update(&known_below(child, 1, items, search.scoring));
             }
         }
     }

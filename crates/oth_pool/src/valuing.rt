@@ -7,12 +7,11 @@ use crate::announcing::Announcer;
 use crate::at_once::for_each_at_once;
 use crate::queue::Queue;
 use crate::run::{Means, room_for};
-use crate::solving::{answer_over, crew, frontier_of};
+use crate::solving::answer_over;
 use arrayvec::ArrayVec;
-use oth_pieces::{Frontier, awake};
-use oth_search::{Cells, Interval, Solved, ended, order, value_of};
+use oth_search::{Cells, Interval, Solved, ended, value_of};
 use oth_table::TableCells;
-use oth_walk::{Gate, Search, Sharing, WorkerCells, worker_cells};
+use oth_walk::{Gate, Sharing, WorkerCells, worker_cells};
 use std::thread::Threads;
 
 // What one worker searches over, and the boards that it has valued.
@@ -129,45 +128,7 @@ fn value_alone<R, G: Gate, C: Cells>(
     if is_exact(by_book) {
         return *by_book;
     }
-    match frontier_of(means.alloc, &by_book.board) {
-        Some(frontier) => value_by_items(means, by_book, sibling, &frontier, cells),
-        None => value_without_room(means, by_book, sibling, cells),
-    }
-}
-
-// As `value_alone`, with the frontier on the stack.
-#[inline(never)]
-fn value_without_room<R, G: Gate, C: Cells>(
-    means: &Means<R, G>,
-    by_book: &Solved,
-    sibling: Option<&Solved>,
-    cells: &mut C,
-) -> Solved
-    requires { IsSolvable by_book.now.board }
-{
-    let frontier = Frontier::of(&by_book.board, 2);
-    value_by_items(means, by_book, sibling, &frontier, cells)
-}
-
-// As `value_alone`, with this frontier: the gate hears of its items.
-#[inline(never)]
-fn value_by_items<R, G: Gate, C: Cells>(
-    means: &Means<R, G>,
-    by_book: &Solved,
-    sibling: Option<&Solved>,
-    frontier: &Frontier,
-    cells: &mut C,
-) -> Solved {
-    let (root, _) = awake(by_book.board);
-    let squares = order(&root);
-    let shared = Search::of(
-        root,
-        by_book.scoring,
-        squares.as_slice(),
-        frontier,
-        Sharing::Alone,
-    );
-    let mut announcer = Announcer::of(&shared, means.gate);
+    let mut announcer = Announcer::of(&by_book.board, by_book.scoring, means.gate);
     let valued = value_of(by_book, sibling, cells, &mut announcer);
     announcer.finish();
     valued

@@ -14,60 +14,60 @@ use std::thread::Threads;
 /// can be made.
 pub(crate) fn work_all<'w, R: Threads + Sync, G: Gate, C: Cells + Send>(
     rt: &R,
-    shared: &Search,
+    search: &Search,
     tasks: &Tasks,
     gate: &G,
     jobs: &mut [Job<'w, C>],
 )
     requires { (i : ℕ) (d : Job C) → i < length jobs.old
-        → CanWork shared.now.frontier.now shared.now.scoring tasks.now (slice_index_or jobs.old i d).work }
+        → CanWork search.now.frontier.now search.now.scoring tasks.now (slice_index_or jobs.old i d).work }
     ensures works { (i : ℕ) (d : Job C) → i < length jobs.old
-        → CanWork shared.now.frontier.now shared.now.scoring tasks.now (slice_index_or jobs.new i d).work }
+        → CanWork search.now.frontier.now search.now.scoring tasks.now (slice_index_or jobs.new i d).work }
     ensures numbers { (i : ℕ) (d : Job C) → i < length jobs.old
         → number_of (slice_index_or jobs.new i d).work.hand ≡ number_of (slice_index_or jobs.old i d).work.hand }
 {
     for_each_at_once(
         rt,
         &|job: &mut Job<C>|
-            requires { CanWork shared.now.frontier.now shared.now.scoring tasks.now job.old.work }
-            ensures works { CanWork shared.entry.now.frontier.now shared.entry.now.scoring
+            requires { CanWork search.now.frontier.now search.now.scoring tasks.now job.old.work }
+            ensures works { CanWork search.entry.now.frontier.now search.entry.now.scoring
                 tasks.entry.now job.new.work }
             ensures number { number_of job.new.work.hand ≡ number_of job.old.work.hand }
-        { search_all(shared, tasks, gate, &mut job.work, &mut job.worker) },
+        { search_all(search, tasks, gate, &mut job.work, &mut job.worker) },
         jobs,
     );
 }
 
 // Searches items until no number is left, and then what is open of the root's moves.
 fn search_all<G: Gate, C: Cells>(
-    shared: &Search,
+    search: &Search,
     tasks: &Tasks,
     gate: &G,
     work: &mut Work,
     worker: &mut Worker<C>,
 )
-    requires { CanWork shared.now.frontier.now shared.now.scoring tasks.now work.old }
-    ensures works { CanWork shared.now.frontier.now shared.now.scoring tasks.now work.new }
+    requires { CanWork search.now.frontier.now search.now.scoring tasks.now work.old }
+    ensures works { CanWork search.now.frontier.now search.now.scoring tasks.now work.new }
     ensures number { number_of work.new.hand ≡ number_of work.old.hand }
 {
     for _ in 0..u64::MAX {
-        if !search_next(shared, tasks, gate, work, worker) {
+        if !search_next(search, tasks, gate, work, worker) {
             break;
         }
     }
-    settle_all(shared, gate, worker);
+    settle_all(gate, worker);
 }
 
 // Draws a number and searches its item. False where no number or no room for a reply is left.
 fn search_next<G: Gate, C: Cells>(
-    shared: &Search,
+    search: &Search,
     tasks: &Tasks,
     gate: &G,
     work: &mut Work,
     worker: &mut Worker<C>,
 ) -> bool
-    requires { CanWork shared.now.frontier.now shared.now.scoring tasks.now work.old }
-    ensures works { CanWork shared.now.frontier.now shared.now.scoring tasks.now work.new }
+    requires { CanWork search.now.frontier.now search.now.scoring tasks.now work.old }
+    ensures works { CanWork search.now.frontier.now search.now.scoring tasks.now work.new }
     ensures number { number_of work.new.hand ≡ number_of work.old.hand }
 {
     if work.replies.len() >= work.replies.capacity() {
@@ -76,10 +76,10 @@ fn search_next<G: Gate, C: Cells>(
     let Some(number) = tasks.draw(&mut work.hand) else {
         return false;
     };
-    let Some(item) = shared.frontier.entry(number) else {
+    let Some(item) = search.frontier.entry(number) else {
         return false;
     };
-    let solved = search_item(shared, number, &item, gate, worker);
+    let solved = search_item(search, number, &item, gate, worker);
     work.replies.push_reserved(Reply { number, solved });
     true
 }

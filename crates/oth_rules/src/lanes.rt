@@ -1,4 +1,8 @@
 //! Moves and flips over vectors of four words: four directions of one sense at a time, a lane for each.
+//!
+//! The rays of a square (`masks`) are a table of 64 times 8 masks, which the check computes to be the rays of the
+//! definition. Along a ray of rising squares the disc that closes the line is the lowest square that is not the
+//! opponent's, along a falling one the highest.
 ghost use Rattle.std.specs.Prelude.{◌≡◌, ◌↔◌, IsTrue, false};
 ghost use Rattle.std.specs.List.{list_any};
 ghost use Rattle.oth_rules.specs.Square.{word_of, is_in};

@@ -1,5 +1,9 @@
 //! The rules of Othello over two words of discs: moves, flips, scores and symmetries, each equal to its
 //! definition over single squares.
+//!
+//! The rules speak of squares alone. Equality, the order of images, an entry's words and the table's hash go by the
+//! two words of a `Position`. The value takes the scoring as a parameter, so every law is proved for both scorings
+//! at once.
 #![tactic(auto)]
 
 mod board;

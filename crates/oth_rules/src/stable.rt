@@ -1,4 +1,10 @@
 //! Stable discs: discs that no move ever flips, and what they leave to be won.
+//!
+//! `specs/Stable` says what stable means by all continuations of the game, passes among them. The code finds such
+//! discs by rounds: a disc is stable where along each of its four lines no empty square is in line with it, or the
+//! edge of the board is beside it, or a disc of its side that is stable by an earlier round. `proofs/Shelters`
+//! proves of one move that it can't flip such a disc, and that what keeps it stays; `proofs/StableValues` that each
+//! stable disc takes two from the most that the mover can win.
 ghost use Rattle.std.specs.Prelude.{◌≡◌, ◌<◌, pos, ◌-ℤ◌, ◌*◌, ◌≤ℤ◌, count_ones};
 ghost use Rattle.oth_rules.specs.Square.{has, word_of, Direction, Back, Stay, Forth};
 ghost use Rattle.oth_rules.specs.Score.{score_of};

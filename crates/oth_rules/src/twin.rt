@@ -1,5 +1,16 @@
 //! Words of squares beside themselves turned by half a turn, a lane for each: a ray along which square numbers fall is
 //! in the other lane one along which they rise.
+//!
+//! The invariants of the types say what the second lane is, so contracts speak of one board. Both lanes stay right
+//! through a move, so a chain of moves makes the twin once. `flips` asks four rays of both lanes at once
+//! (`twin_rays`, which the check computes to be the rays of the definition), without a branch.
+//!
+//! `moves` follows three lines by shifts of whole words: within the inner columns a plain shift is a step, and a
+//! line of n + 2 squares is a line of two, or a pair past a line of n. Along the row a sum carries from the first
+//! square of a line to the one past it, and says nothing of opposing squares, which `& empty` takes away. What the
+//! second lane found is turned back: its eight rows, a byte each, are put in the other order, and each is turned
+//! round by a look-up of its halves (`proofs/Rows`). `proofs/HalfTurns` and `proofs/Twins` have what half a turn
+//! does to words, rays and moves.
 ghost use Rattle.std.specs.Prelude.{◌≡◌, ◌<◌, ◌^◌, ◌↔◌, ℕ, IsTrue, IfSome, IsSome, SomeIff};
 ghost use Rattle.std.specs.Prelude.{bit_or, length, map, slice_index_or, [], ◌∷◌};
 ghost use Rattle.oth_rules.specs.Square.{Direction, has, word_of, is_in};

@@ -3,7 +3,6 @@
 ghost use Rattle.std.specs.Prelude.{◌≡◌, ◌<◌, ◌↔◌, IsErr, IfOk, IfErr};
 ghost use Rattle.oth_rules.specs.Position.{empty_count};
 
-use crate::checking::Lawful;
 use crate::lines::split_line;
 use crate::solver::Solver;
 use oth_batch::{Asked, Batch, Boards, Jobs, MOST_BOARDS, answer_among};
@@ -37,54 +36,44 @@ impl Ahead {
         &self,
         solver: &Solver<'_, T, G>,
         board: &Board,
-        settings: &Lawful,
     ) -> Result<Answer, TooManyEmpties>
         ensures refused { IsErr result ↔ (30 < empty_count board.now) }
         ensures counted { IfErr result (λ e. e.empties ≡ empty_count board.now) }
         ensures board { IfOk result (λ a. a.board ≡ board.now) }
-        ensures scoring { IfOk result (λ a. a.scoring ≡ settings.now.scoring) }
+        ensures scoring { IfOk result (λ a. a.scoring ≡ solver.now.settings.scoring) }
     {
         let empties = board.empties();
         if empties > MOST_EMPTIES {
             return Err(TooManyEmpties { empties });
         }
-        match answer_among(self.answers.as_slice(), board, settings.get().scoring) {
+        let scoring = solver.settings.get().scoring;
+        match answer_among(self.answers.as_slice(), board, scoring) {
             Some(answer) => Ok(answer),
-            None => solver.answer_of(board, settings),
+            None => solver.answer_of(board),
         }
     }
 
     /// Advances past the first line in `bytes`, which may be the rest of a line. If the last batch is used up, first
     /// solves the boards of the next lines side by side, as a new batch. Does nothing unless the command is `Solve` and
     /// there are two workers or more.
-    pub fn pass<T: Threads + Sync, G: Gate>(
-        &mut self,
-        solver: &Solver<'_, T, G>,
-        settings: &Lawful,
-        bytes: &[u8],
-    ) {
-        let asked = settings.get();
+    pub fn pass<T: Threads + Sync, G: Gate>(&mut self, solver: &Solver<'_, T, G>, bytes: &[u8]) {
+        let asked = solver.settings.get();
         if asked.command != Command::Solve || asked.workers < 2 {
             return;
         }
         if self.lines == 0 {
-            self.look(solver, settings, bytes);
+            self.look(solver, bytes);
         }
         self.lines = self.lines.saturating_sub(1);
     }
 
     // Solves the boards of the first lines in `bytes`, as many as make a batch, if there is memory for them.
-    fn look<T: Threads + Sync, G: Gate>(
-        &mut self,
-        solver: &Solver<'_, T, G>,
-        settings: &Lawful,
-        bytes: &[u8],
-    ) {
+    fn look<T: Threads + Sync, G: Gate>(&mut self, solver: &Solver<'_, T, G>, bytes: &[u8]) {
         let Ok(mut boards) = Boards::new(solver.alloc) else {
             return;
         };
         self.lines = gather(&mut boards, bytes);
-        self.answers = solver.batch(settings).answers(&boards);
+        self.answers = solver.batch().answers(&boards);
     }
 }
 

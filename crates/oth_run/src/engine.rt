@@ -10,7 +10,6 @@ ghost use Rattle.oth_run.specs.Run.{FailsBy};
 
 use crate::ahead::{asked_by, jobs_of};
 use crate::buffer::{long_buffer, longer};
-use crate::checking::Lawful;
 use crate::fault::RunFault;
 use crate::line::Line;
 use crate::lines::split_line;
@@ -48,19 +47,18 @@ impl Engine {
         &mut self,
         solver: &Solver<'_, T, G>,
         jobs: &Jobs<'_, T, G>,
-        settings: &Lawful,
         writer: &mut W,
     ) -> Result<(), Failed>
-        ensures line { OnOk result ((line : List ℕ) → Holds settings.now.command self.old.line line
-            → Holds settings.now.command self.new.line []) }
-        ensures ok { OnOk result (Answers (with_end (reply settings.now)) settings.now self.old self.new
+        ensures line { OnOk result ((line : List ℕ) → Holds solver.now.settings.command self.old.line line
+            → Holds solver.now.settings.command self.new.line []) }
+        ensures ok { OnOk result (Answers (with_end (reply solver.now.settings)) solver.now.settings self.old self.new
             (W.contents writer.old) (W.contents writer.new)) }
-        ensures err { OnErr result (StopsInside (with_end (reply settings.now)) settings.now self.old
+        ensures err { OnErr result (StopsInside (with_end (reply solver.now.settings)) solver.now.settings self.old
             (W.contents writer.old) (W.contents writer.new)) }
         ensures works { OnOk result (W.failed writer.new ≡ W.failed writer.old) }
         ensures fails { OnErr result (W.failed writer.new ≡ true) }
     {
-        let answer = self.line.reply(solver, jobs, settings);
+        let answer = self.line.reply(solver, jobs);
         self.waiting.push_text(writer, answer.as_slice())?;
         self.waiting.push_text(writer, b"\n")?;
         self.line.clear();
@@ -73,22 +71,21 @@ impl Engine {
         &mut self,
         solver: &Solver<'_, T, G>,
         jobs: &Jobs<'_, T, G>,
-        settings: &Lawful,
         writer: &mut W,
         part: &[u8],
     ) -> Result<(), Failed>
         requires part { All (λ b. b ≢ 10) part.now }
-        ensures ok { OnOk result (Takes settings.now self.old self.new
+        ensures ok { OnOk result (Takes solver.now.settings self.old self.new
             (W.contents writer.old) (W.contents writer.new) (part.now ++ 10 ∷ [])) }
-        ensures err { OnErr result (StopsWithin settings.now self.old
+        ensures err { OnErr result (StopsWithin solver.now.settings self.old
             (W.contents writer.old) (W.contents writer.new) (part.now ++ 10 ∷ [])) }
         ensures works { OnOk result (W.failed writer.new ≡ W.failed writer.old) }
         ensures fails { OnErr result (W.failed writer.new ≡ true) }
     {
         self.line.push(part);
-        self.end_line(solver, jobs, settings, writer)?;
+        self.end_line(solver, jobs, writer)?;
         self.waiting
-            .write_if(asked_by(settings.get().command).is_some(), writer)?;
+            .write_if(asked_by(solver.settings.get().command).is_some(), writer)?;
         Ok(())
     }
 
@@ -97,20 +94,19 @@ impl Engine {
         &mut self,
         solver: &Solver<'_, T, G>,
         jobs: &Jobs<'_, T, G>,
-        settings: &Lawful,
         writer: &mut W,
         bytes: &[u8],
     ) -> Result<(), Failed>
-        ensures ok { OnOk result (Takes settings.now self.old self.new
+        ensures ok { OnOk result (Takes solver.now.settings self.old self.new
             (W.contents writer.old) (W.contents writer.new) bytes.now) }
-        ensures err { OnErr result (StopsWithin settings.now self.old
+        ensures err { OnErr result (StopsWithin solver.now.settings self.old
             (W.contents writer.old) (W.contents writer.new) bytes.now) }
         ensures works { OnOk result (W.failed writer.new ≡ W.failed writer.old) }
         ensures fails { OnErr result (W.failed writer.new ≡ true) }
     {
         let mut rest = bytes;
         while let Some((line, others)) = split_line(rest) {
-            self.take_line(solver, jobs, settings, writer, line)?;
+            self.take_line(solver, jobs, writer, line)?;
             rest = others;
         }
         self.line.push(rest);
@@ -122,26 +118,25 @@ impl Engine {
         &mut self,
         solver: &Solver<'_, T, G>,
         jobs: &Jobs<'_, T, G>,
-        settings: &Lawful,
         writer: &mut W,
         bytes: &[u8],
     ) -> Result<(), Failed>
-        ensures ok { OnOk result (Takes settings.now self.old self.new
+        ensures ok { OnOk result (Takes solver.now.settings self.old self.new
             (W.contents writer.old) (W.contents writer.new) bytes.now) }
-        ensures err { OnErr result (StopsWithin settings.now self.old
+        ensures err { OnErr result (StopsWithin solver.now.settings self.old
             (W.contents writer.old) (W.contents writer.new) bytes.now) }
         ensures works { OnOk result (W.failed writer.new ≡ W.failed writer.old) }
         ensures fails { OnErr result (W.failed writer.new ≡ true) }
     {
         let mut work = || -> Result<(), Failed>
-            ensures ok { OnOk result (Takes settings.entry.now self.entry.now self.exit.now
+            ensures ok { OnOk result (Takes solver.entry.now.settings self.entry.now self.exit.now
                 (W.contents writer.entry.now) (W.contents writer.exit.now) bytes.entry.now) }
-            ensures err { OnErr result (StopsWithin settings.entry.now self.entry.now
+            ensures err { OnErr result (StopsWithin solver.entry.now.settings self.entry.now
                 (W.contents writer.entry.now) (W.contents writer.exit.now) bytes.entry.now) }
             ensures works { OnOk result (W.failed writer.exit.now ≡ W.failed writer.entry.now) }
             ensures fails { OnErr result (W.failed writer.exit.now ≡ true) }
         {
-            let taken = self.take_bytes(solver, jobs, settings, writer, bytes);
+            let taken = self.take_bytes(solver, jobs, writer, bytes);
             if taken.is_err() {
                 jobs.stop();
             }
@@ -150,44 +145,25 @@ impl Engine {
         jobs.beside(&mut work)
     }
 
-    // As `take_bytes`, while other workers solve boards of these lines too, where that pays. A report is written as
-    // soon as it and those before it are known.
-    fn take_side_by_side<T: Wait + Threads + Sync, W: Sink, G: Gate>(
-        &mut self,
-        solver: &Solver<'_, T, G>,
-        settings: &Lawful,
-        writer: &mut W,
-        bytes: &[u8],
-    ) -> Result<(), Failed>
-        ensures ok { OnOk result (Takes settings.now self.old self.new
-            (W.contents writer.old) (W.contents writer.new) bytes.now) }
-        ensures err { OnErr result (StopsWithin settings.now self.old
-            (W.contents writer.old) (W.contents writer.new) bytes.now) }
-        ensures works { OnOk result (W.failed writer.new ≡ W.failed writer.old) }
-        ensures fails { OnErr result (W.failed writer.new ≡ true) }
-    {
-        let batch = solver.batch(settings);
-        let jobs = jobs_of(&batch, settings.get().command, bytes);
-        self.take_beside(solver, &jobs, settings, writer, bytes)
-    }
-
-    // Takes further bytes of the input, and writes the reports of the lines that end in them.
+    // Takes further bytes of the input, and writes the reports of the lines that end in them, each as soon as it and
+    // those before it are known. Other workers solve boards of these lines too, where that pays.
     fn take_chunk<T: Wait + Threads + Sync, W: Sink, G: Gate>(
         &mut self,
         solver: &Solver<'_, T, G>,
-        settings: &Lawful,
         writer: &mut W,
         bytes: &[u8],
     ) -> Result<(), Failed>
         ensures empty { OnOk result (self.new.waiting.bytes.items ≡ []) }
-        ensures ok { OnOk result (Takes settings.now self.old self.new
+        ensures ok { OnOk result (Takes solver.now.settings self.old self.new
             (W.contents writer.old) (W.contents writer.new) bytes.now) }
-        ensures err { OnErr result (StopsWithin settings.now self.old
+        ensures err { OnErr result (StopsWithin solver.now.settings self.old
             (W.contents writer.old) (W.contents writer.new) bytes.now) }
         ensures works { OnOk result (W.failed writer.new ≡ W.failed writer.old) }
         ensures fails { OnErr result (W.failed writer.new ≡ true) }
     {
-        self.take_side_by_side(solver, settings, writer, bytes)?;
+        let batch = solver.batch();
+        let jobs = jobs_of(&batch, solver.settings.get().command, bytes);
+        self.take_beside(solver, &jobs, writer, bytes)?;
         self.waiting.write_to(writer)?;
         Ok(())
     }
@@ -199,14 +175,13 @@ impl Engine {
         solver: &Solver<'_, T, G>,
         reader: &mut R,
         writer: &mut W,
-        settings: &Lawful,
     ) -> Result<(), RunFault>
         requires reader { R.failed reader.old ≡ false }
         requires writer { W.failed writer.old ≡ false }
-        requires line { Holds settings.now.command self.old.line [] }
+        requires line { Holds solver.now.settings.command self.old.line [] }
         requires waiting { self.old.waiting.bytes.items ≡ [] }
         ensures bytes { (input : List ℕ) × Consumes (R.remaining reader.old) (R.remaining reader.new) input
-            × WritesEnded settings.now self.new (W.contents writer.old) (W.contents writer.new) result input }
+            × WritesEnded solver.now.settings self.new (W.contents writer.old) (W.contents writer.new) result input }
         ensures empty { OnOk result (self.new.waiting.bytes.items ≡ []) }
         ensures end { OnOk result (IsAtEnd (R.remaining reader.new)) }
         ensures devices { FailsBy result (R.failed reader.new) (W.failed writer.new) }
@@ -221,7 +196,7 @@ impl Engine {
             if count == 0 {
                 break;
             }
-            let Ok(()) = self.take_chunk(solver, settings, writer, &buffer[..count]) else {
+            let Ok(()) = self.take_chunk(solver, writer, &buffer[..count]) else {
                 return Err(RunFault::Write);
             };
         }
@@ -232,12 +207,11 @@ impl Engine {
     fn end_last<T: Wait + Threads + Sync, W: Sink, G: Gate>(
         &mut self,
         solver: &Solver<'_, T, G>,
-        settings: &Lawful,
         writer: &mut W,
     ) -> Result<(), Failed>
-        ensures ok { OnOk result (Answers (last_report (reply settings.now)) settings.now self.old self.new
-            (W.contents writer.old) (W.contents writer.new)) }
-        ensures err { OnErr result (StopsInside (last_report (reply settings.now)) settings.now self.old
+        ensures ok { OnOk result (Answers (last_report (reply solver.now.settings)) solver.now.settings
+            self.old self.new (W.contents writer.old) (W.contents writer.new)) }
+        ensures err { OnErr result (StopsInside (last_report (reply solver.now.settings)) solver.now.settings self.old
             (W.contents writer.old) (W.contents writer.new)) }
         ensures works { OnOk result (W.failed writer.new ≡ W.failed writer.old) }
         ensures fails { OnErr result (W.failed writer.new ≡ true) }
@@ -245,27 +219,26 @@ impl Engine {
         if self.line.is_empty() {
             return Ok(());
         }
-        let batch = solver.batch(settings);
+        let batch = solver.batch();
         let jobs = Jobs::none(&batch);
-        self.end_line(solver, &jobs, settings, writer)
+        self.end_line(solver, &jobs, writer)
     }
 
     /// Answers the last line, unless it is empty, writes what is left of the report, and flushes.
     pub fn finish<T: Wait + Threads + Sync, W: Sink, G: Gate>(
         &mut self,
         solver: &Solver<'_, T, G>,
-        settings: &Lawful,
         writer: &mut W,
     ) -> Result<(), Failed>
-        ensures ok { OnOk result (Ends (last_report (reply settings.now)) settings.now self.old
+        ensures ok { OnOk result (Ends (last_report (reply solver.now.settings)) solver.now.settings self.old
             (W.contents writer.old) (W.contents writer.new)) }
         ensures flushed { OnOk result (W.flushed writer.new ≡ true) }
-        ensures err { OnErr result (StopsInside (last_report (reply settings.now)) settings.now self.old
+        ensures err { OnErr result (StopsInside (last_report (reply solver.now.settings)) solver.now.settings self.old
             (W.contents writer.old) (W.contents writer.new)) }
         ensures works { OnOk result (W.failed writer.new ≡ W.failed writer.old) }
         ensures fails { OnErr result (W.failed writer.new ≡ true) }
     {
-        self.end_last(solver, settings, writer)?;
+        self.end_last(solver, writer)?;
         self.waiting.write_to(writer)?;
         writer.flush()
     }

@@ -1,5 +1,19 @@
 //! The engine over bytes: it reads lines, and writes a report of each. Workers, tables, a book and the sizes of
 //! `tuning` affect speed only: the report depends on the command, the scoring and the input alone.
+//!
+//! `running` has the run over all of an input: `Engine` (`engine`) goes through it in chunks of at most 65,536 bytes
+//! (`buffer`), with the line that has begun (`line`: a line of any length in fixed space, read in parts by the
+//! readers of `oth_text`, and its reply) and the bytes that wait to be written (`waiting`, at most 16,384). What
+//! waits is written before each read, and after each line of `solve` and `scores`. `lines` cuts bytes into lines.
+//! `checking` has settings that were tested, `Lawful`, so the pool's refusals of workers and of cells are shown not
+//! to come, and no function of the engine asks for more.
+//!
+//! `Solver` (`solver`) is what boards are solved with, and how. Where `solve` or `scores` has more than one worker,
+//! the boards of the whole lines in the chunk are the jobs of other workers (`ahead`) while the engine answers these
+//! lines in their order: by an answer, or scores, of just this board and scoring, as soon as it is there, else by
+//! `Solver`. For `book-add`, whose book is written at the end and changes on the way, `Ahead` has the boards of a
+//! chunk solved side by side before the first of its lines is answered. So the report's proof knows nothing of
+//! workers but that an `Answer` is true.
 #![tactic(auto)]
 
 mod ahead;

@@ -10,7 +10,6 @@ ghost use Rattle.oth_run.specs.Reply.{board_reply, play_reply, reply, transcript
 ghost use Rattle.oth_text.specs.Ranking.{scores_line_of};
 ghost use Rattle.oth_text.specs.Report.{moves_line_of, report_line_of};
 
-use crate::checking::Lawful;
 use crate::solver::Solver;
 use arrayvec::ArrayVec;
 use oth_batch::Jobs;
@@ -96,14 +95,13 @@ impl Line {
         &self,
         solver: &Solver<'_, T, G>,
         jobs: &Jobs<'_, T, G>,
-        settings: &Lawful,
     ) -> ArrayVec<u8, REPLY_LEN>
-        ensures { (line : List ℕ) → Holds settings.now.command self.now line
-            → result.items ≡ reply settings.now line }
+        ensures { (line : List ℕ) → Holds solver.now.settings.command self.now line
+            → result.items ≡ reply solver.now.settings line }
     {
         match self {
-            Line::Solve(reader) => solve_reply(reader, solver, jobs, settings),
-            Line::Scores(reader) => scores_reply(reader, solver, jobs, settings),
+            Line::Solve(reader) => solve_reply(reader, solver, jobs),
+            Line::Scores(reader) => scores_reply(reader, solver, jobs),
             Line::Moves(reader) => moves_reply(reader),
             Line::Transcript(reader) => transcript_reply(reader),
             Line::Play(reader) => play_reply(reader),
@@ -116,16 +114,15 @@ fn solve_reply<T: Wait + Threads + Sync, G: Gate>(
     reader: &BoardReader,
     solver: &Solver<'_, T, G>,
     jobs: &Jobs<'_, T, G>,
-    settings: &Lawful,
 ) -> ArrayVec<u8, REPLY_LEN>
     ensures { (line : List ℕ) → KeepsLine reader.now line
-        → result.items ≡ board_reply (report_line_of settings.now.scoring) (solvable_reading line) }
+        → result.items ≡ board_reply (report_line_of solver.now.settings.scoring) (solvable_reading line) }
 {
     let position = match reader.read() {
         Ok(position) => position,
         Err(fault) => return copied(fault_line(&fault).as_slice()),
     };
-    match solver.awaited_answer_of(jobs, &position.board, settings) {
+    match solver.awaited_answer_of(jobs, &position.board) {
         Ok(answer) => copied(report_line(&answer).as_slice()),
         Err(many) => copied(fault_line(&LineFault::Empties(many.empties)).as_slice()),
     }
@@ -136,16 +133,15 @@ fn scores_reply<T: Wait + Threads + Sync, G: Gate>(
     reader: &BoardReader,
     solver: &Solver<'_, T, G>,
     jobs: &Jobs<'_, T, G>,
-    settings: &Lawful,
 ) -> ArrayVec<u8, REPLY_LEN>
     ensures { (line : List ℕ) → KeepsLine reader.now line
-        → result.items ≡ board_reply (scores_line_of settings.now.scoring) (solvable_reading line) }
+        → result.items ≡ board_reply (scores_line_of solver.now.settings.scoring) (solvable_reading line) }
 {
     let position = match reader.read() {
         Ok(position) => position,
         Err(fault) => return copied(fault_line(&fault).as_slice()),
     };
-    match solver.awaited_scores_line(jobs, &position.board, settings) {
+    match solver.awaited_scores_line(jobs, &position.board) {
         Ok(line) => line,
         Err(TooManyEmpties { empties }) => {
             copied(fault_line(&LineFault::Empties(empties)).as_slice())

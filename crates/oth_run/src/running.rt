@@ -55,10 +55,11 @@ pub fn run<T: Wait + Threads + Sync, R: Source, W: Sink, G: Gate>(
         alloc,
         gate,
         book,
+        settings: lawful,
     };
     let mut engine = Engine::new(settings.command);
-    engine.run_ended(&solver, reader, writer, &lawful)?;
-    match engine.finish(&solver, &lawful, writer) {
+    engine.run_ended(&solver, reader, writer)?;
+    match engine.finish(&solver, writer) {
         Ok(()) => Ok(()),
         Err(_) => Err(RunFault::Write),
     }

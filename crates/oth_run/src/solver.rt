@@ -1,6 +1,6 @@
 //! What boards are solved with.
 
-ghost use Rattle.std.specs.Prelude.{◌≡◌, ◌<◌, ◌↔◌, IsErr, IfOk, IfErr, IfSome};
+ghost use Rattle.std.specs.Prelude.{◌≡◌, ◌<◌, ◌↔◌, IsErr, IfOk, IfErr};
 ghost use Rattle.oth_rules.specs.Position.{empty_count};
 ghost use Rattle.oth_text.specs.Ranking.{scores_line_of};
 
@@ -9,7 +9,7 @@ use arrayvec::ArrayVec;
 use oth_batch::{Batch, Jobs};
 use oth_book::Book;
 use oth_pool::{Gate, scores, solve};
-use oth_rules::{Board, Scoring};
+use oth_rules::Board;
 use oth_search::{Answer, MOST_EMPTIES, Scores, TooManyEmpties};
 use oth_text::{SCORES_LINE_LEN, scores_line};
 use oth_words::Settings;
@@ -17,7 +17,7 @@ use std::alloc::Global;
 use std::sync::Wait;
 use std::thread::Threads;
 
-/// What boards are solved with.
+/// What boards are solved with, and how.
 #[derive(Drop)]
 pub struct Solver<'s, T, G> {
     /// Where the workers' threads come from.
@@ -28,17 +28,19 @@ pub struct Solver<'s, T, G> {
     pub gate: &'s G,
     /// Is asked for each board before it is searched.
     pub book: Option<&'s Book>,
+    /// The command, the scoring, and the lawful numbers of workers and cells.
+    pub settings: Lawful,
 }
 
 impl<'s, T: Threads + Sync, G: Gate> Solver<'s, T, G> {
     /// The value and all best moves of a board.
-    pub fn answer_of(&self, board: &Board, settings: &Lawful) -> Result<Answer, TooManyEmpties>
+    pub fn answer_of(&self, board: &Board) -> Result<Answer, TooManyEmpties>
         ensures refused { IsErr result ↔ (30 < empty_count board.now) }
         ensures counted { IfErr result (λ e. e.empties ≡ empty_count board.now) }
         ensures board { IfOk result (λ a. a.board ≡ board.now) }
-        ensures scoring { IfOk result (λ a. a.scoring ≡ settings.now.scoring) }
+        ensures scoring { IfOk result (λ a. a.scoring ≡ self.now.settings.scoring) }
     {
-        let asked = settings.get();
+        let asked = self.settings.get();
         match solve(
             self.rt,
             self.alloc,
@@ -57,18 +59,18 @@ impl<'s, T: Threads + Sync, G: Gate> Solver<'s, T, G> {
     }
 
     // The scores of a board's moves.
-    fn scores_of(&self, board: &Board, settings: &Lawful) -> Result<Scores, TooManyEmpties>
+    fn scores_of(&self, board: &Board) -> Result<Scores, TooManyEmpties>
         ensures refused { IsErr result ↔ (30 < empty_count board.now) }
         ensures counted { IfErr result (λ e. e.empties ≡ empty_count board.now) }
         ensures board { IfOk result (λ s. s.answer.board ≡ board.now) }
-        ensures scoring { IfOk result (λ s. s.answer.scoring ≡ settings.now.scoring) }
+        ensures scoring { IfOk result (λ s. s.answer.scoring ≡ self.now.settings.scoring) }
     {
         let Settings {
             workers,
             cells,
             scoring,
             ..
-        } = settings.get();
+        } = self.settings.get();
         let (rt, alloc, gate, book) = (self.rt, self.alloc, self.gate, self.book);
         match scores(rt, alloc, board, workers, cells, gate, book, scoring) {
             Ok(scores) => Ok(scores),
@@ -80,13 +82,13 @@ impl<'s, T: Threads + Sync, G: Gate> Solver<'s, T, G> {
     }
 
     /// What boards are solved with side by side.
-    pub fn batch(&self, settings: &Lawful) -> Batch<'s, T, G> {
+    pub fn batch(&self) -> Batch<'s, T, G> {
         let Settings {
             workers,
             cells,
             scoring,
             ..
-        } = settings.get();
+        } = self.settings.get();
         Batch {
             rt: self.rt,
             alloc: self.alloc,
@@ -106,21 +108,21 @@ impl<'s, T: Wait + Threads + Sync, G: Gate> Solver<'s, T, G> {
         &self,
         jobs: &Jobs<'_, T, G>,
         board: &Board,
-        settings: &Lawful,
     ) -> Result<Answer, TooManyEmpties>
         ensures refused { IsErr result ↔ (30 < empty_count board.now) }
         ensures counted { IfErr result (λ e. e.empties ≡ empty_count board.now) }
         ensures board { IfOk result (λ a. a.board ≡ board.now) }
-        ensures scoring { IfOk result (λ a. a.scoring ≡ settings.now.scoring) }
+        ensures scoring { IfOk result (λ a. a.scoring ≡ self.now.settings.scoring) }
     {
         let empties = board.empties();
         if empties > MOST_EMPTIES {
             return Err(TooManyEmpties { empties });
         }
         self.gate.awaits(board);
-        match answer_by_jobs(self.rt, jobs, board, settings.get().scoring) {
-            Some(answer) => Ok(answer),
-            None => self.answer_of(board, settings),
+        let scoring = self.settings.get().scoring;
+        match jobs.answer_of(self.rt, board) {
+            Some(answer) if answer.scoring == scoring => Ok(answer),
+            _ => self.answer_of(board),
         }
     }
 
@@ -130,56 +132,20 @@ impl<'s, T: Wait + Threads + Sync, G: Gate> Solver<'s, T, G> {
         &self,
         jobs: &Jobs<'_, T, G>,
         board: &Board,
-        settings: &Lawful,
     ) -> Result<ArrayVec<u8, SCORES_LINE_LEN>, TooManyEmpties>
         ensures refused { IsErr result ↔ (30 < empty_count board.now) }
         ensures counted { IfErr result (λ e. e.empties ≡ empty_count board.now) }
-        ensures line { IfOk result (λ l. l.items ≡ scores_line_of settings.now.scoring board.now) }
+        ensures line { IfOk result (λ l. l.items ≡ scores_line_of self.now.settings.scoring board.now) }
     {
         let empties = board.empties();
         if empties > MOST_EMPTIES {
             return Err(TooManyEmpties { empties });
         }
         self.gate.awaits(board);
-        match scores_by_jobs(self.rt, jobs, board, settings.get().scoring) {
-            Some(scores) => Ok(scores_line(scores)),
-            None => Ok(scores_line(&self.scores_of(board, settings)?)),
+        let scoring = self.settings.get().scoring;
+        match jobs.scores_of(self.rt, board) {
+            Some(scores) if scores.answer.scoring == scoring => Ok(scores_line(scores)),
+            _ => Ok(scores_line(&self.scores_of(board)?)),
         }
-    }
-}
-
-// Returns the scores of a board that is one of the jobs, awaited, if they are under the scoring.
-fn scores_by_jobs<'j, T: Wait + Threads + Sync, G: Gate>(
-    rt: &T,
-    jobs: &'j Jobs<'_, T, G>,
-    board: &Board,
-    scoring: Scoring,
-) -> Option<&'j Scores>
-    ensures board { IfSome result (λ s. s.now.answer.board ≡ board.now) }
-    ensures scoring { IfSome result (λ s. s.now.answer.scoring ≡ scoring) }
-{
-    let scores = jobs.scores_of(rt, board)?;
-    if scores.answer.scoring == scoring {
-        Some(scores)
-    } else {
-        None
-    }
-}
-
-// Returns the answer of a board that is one of the jobs, awaited, if it is under the scoring.
-fn answer_by_jobs<T: Wait + Threads + Sync, G: Gate>(
-    rt: &T,
-    jobs: &Jobs<'_, T, G>,
-    board: &Board,
-    scoring: Scoring,
-) -> Option<Answer>
-    ensures board { IfSome result (λ a. a.board ≡ board.now) }
-    ensures scoring { IfSome result (λ a. a.scoring ≡ scoring) }
-{
-    let answer = jobs.answer_of(rt, board)?;
-    if answer.scoring == scoring {
-        Some(answer)
-    } else {
-        None
     }
 }

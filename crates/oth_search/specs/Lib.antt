@@ -1,11 +1,4 @@
-pub mod Interval
-pub mod Squares
-pub mod Answer
-pub mod Candidate
-pub mod Replies
-pub mod Entry
-pub mod Lasts
-pub mod Full
-pub mod Keys
-pub mod Children
-pub mod Scores
+pub mod Bounds
+pub mod Nws
+pub mod Ordering
+pub mod Root

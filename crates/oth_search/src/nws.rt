@@ -1,89 +1,23 @@
-//! Null-window searches of boards with few empty squares: odd quadrants first, no rank, no cells.
-ghost use Rattle.std.specs.Prelude.{◌≡◌, ℕ, ◌<◌, neg_ℤ, pos, true};
-ghost use Rattle.oth_rules.specs.Square.{word_of};
-ghost use Rattle.oth_rules.specs.Position.{is_empty};
-ghost use Rattle.oth_rules.specs.Move.{is_legal, can_move};
-ghost use Rattle.oth_rules.specs.Score.{score_of};
-ghost use Rattle.oth_rules.specs.Value.{value};
-ghost use Rattle.oth_search.specs.Interval.{BoundsAt, IsThreshold};
+//! The null-window search: is the value of a board above alpha? One file for each range of empty squares, and one
+//! contract for every body: `BoundsAt v alpha r` says that `r` is an upper bound of `v` if `r <= alpha`, else a lower
+//! bound.
+//!
+//! `deep`: from 6 empty squares on. Children are worked out once each with their moves, and the best-ranked one is
+//! picked as the search goes on. From 9 empty squares on boards are looked up in the table and stored; boards of 5 to
+//! 8, and those up to 14 of which the cells say so, are kept in a local table by cells that have one. Of boards of 8
+//! and 9 empty squares the children are looked up there, from 11 on in the table, before one of them is searched
+//! (enhanced transposition cutoff). A stability cutoff ends the search where the opponent's stable discs leave no
+//! more than alpha.
+//!
+//! `shallow`: at most 5 empty squares, on twins, odd quadrants first (parity), without ranks. `last`: a body for each
+//! of the last four squares; the last one is scored by the number of its flips. `node`, `empties` and `quadrant` are
+//! what these hand down.
+mod deep;
+mod empties;
+mod last;
+mod node;
+mod quadrant;
+mod shallow;
 
-use crate::empties::Empties;
-use crate::last::nws_last;
-use crate::node::Node;
-use crate::squares::{preferred, without};
-use crate::tuning::MOST_EMPTIES_LAST;
-use oth_rules::{Board, Scoring, Twin};
-
-/// Whether the value of the board is above `alpha`: a bound of the value on its side of `alpha`.
-pub fn nws(board: Board, alpha: i8, scoring: Scoring) -> i8
-    requires { IsThreshold alpha }
-    ensures { BoundsAt (value (score_of scoring) board) alpha result }
-{
-    nws_at(Twin::of(&board), Empties::of(&board), alpha, scoring)
-}
-
-/// As `nws`, of a board whose moves are known, where there is one.
-pub fn nws_few(node: Node, alpha: i8, scoring: Scoring) -> i8
-    requires threshold { IsThreshold alpha }
-    requires some { can_move node.board ≡ true }
-    ensures { BoundsAt (value (score_of scoring) node.board) alpha result }
-{
-    let board = &node.board;
-    nws_moves(
-        Twin::of(board),
-        node.moves,
-        Empties::of(board),
-        alpha,
-        scoring,
-    )
-}
-
-// As `nws`, of a twin whose empty squares are known.
-#[cycle(nws)]
-fn nws_at(board: Twin, empties: Empties, alpha: i8, scoring: Scoring) -> i8
-    requires threshold { IsThreshold alpha }
-    requires empties { empties.all ≡ word_of (is_empty board) }
-    ensures { BoundsAt (value (score_of scoring) board) alpha result }
-{
-    if empties.all.count_ones() <= u32::from(MOST_EMPTIES_LAST) {
-        if let Some(found) = nws_last(board, empties, alpha, scoring) {
-            return found;
-        }
-    }
-    let moves = board.moves();
-    if moves != 0 {
-        return nws_moves(board, moves, empties, alpha, scoring);
-    }
-    let passed = board.pass();
-    let replies = passed.moves();
-    if replies != 0 {
-        return -nws_moves(passed, replies, empties, -alpha - 1, scoring);
-    }
-    board.board().final_score(scoring)
-}
-
-// As `nws_at`, where the mover has these moves.
-#[cycle(nws)]
-fn nws_moves(board: Twin, moves: u64, empties: Empties, alpha: i8, scoring: Scoring) -> i8
-    requires threshold { IsThreshold alpha }
-    requires some { can_move board ≡ true }
-    requires legal { moves ≡ word_of (is_legal board) }
-    requires empties { empties.all ≡ word_of (is_empty board) }
-    ensures { BoundsAt (value (score_of scoring) board) alpha result }
-{
-    let mut best = -64;
-    let mut rest = moves;
-    while rest != 0 {
-        let square = preferred(rest, empties.odd);
-        rest = without(rest, square);
-        let child = board.play_legal(square);
-        let reply = -nws_at(child, empties.without(square), -alpha - 1, scoring);
-        if reply > alpha {
-            return reply;
-        }
-        if reply > best {
-            best = reply;
-        }
-    }
-    best
-}
+pub use deep::{known, nws_node, nws_with};
+pub use node::Node;

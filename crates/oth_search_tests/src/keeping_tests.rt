@@ -4,7 +4,7 @@ ghost use Rattle.std.specs.Prelude.{◌≡◌, IfSome};
 use crate::tests::{board_of, check_bounds};
 use oth_rules::samples::{after_least_moves, board as sample};
 use oth_rules::{Board, Scoring};
-use oth_search::{Cells, Entry, Memo, NoCells, Solved, search, solve_with};
+use oth_search::{Cells, Entry, LocalTable, NoCells, Solved, search, solve_with};
 use std::process::Abort;
 use std::test::Fail;
 
@@ -191,14 +191,14 @@ fn keeps_what_a_null_window_tells(rt: HostRuntime) -> Result<(), Fail> {
 /// empty squares, and those that are recalled, of five to eight.
 #[derive(Drop)]
 pub(crate) struct Counted {
-    memo: Memo,
+    memo: LocalTable,
     pub(crate) looked: u32,
     recalled: u32,
 }
 
 impl Counted {
     /// Over this memory, before the first call.
-    pub(crate) fn over(memo: Memo) -> Counted {
+    pub(crate) fn over(memo: LocalTable) -> Counted {
         Counted {
             memo,
             looked: 0,
@@ -237,7 +237,7 @@ fn comes_to_few_boards(rt: HostRuntime) -> Result<(), Fail> {
     };
     check_counts(
         &rt,
-        Memo::below(rt.alloc(), 13)?,
+        LocalTable::below(rt.alloc(), 13)?,
         board,
         MOST_LOOKED,
         MOST_RECALLED,
@@ -257,7 +257,7 @@ fn ends_where_stable_discs_leave_too_little(rt: HostRuntime) -> Result<(), Fail>
     let Some(board) = sample([0x1fff_442a_1d20_0000, 0x6000_bad4_e21d_7ae0]) else {
         panic!(rt; "no board")
     };
-    let memo = Memo::below(rt.alloc(), 13)?;
+    let memo = LocalTable::below(rt.alloc(), 13)?;
     let score = check_counts(&rt, memo, board, MOST_LOOKED_WON, MOST_RECALLED_WON);
     assert!(rt; score == 42);
     Ok(())
@@ -271,7 +271,7 @@ const MOST_RECALLED_WON: u32 = 8_800;
 /// The score of the board, whose search looks up at most `most_looked` boards and recalls at most `most_recalled`.
 fn check_counts(
     rt: &impl Abort,
-    memo: Memo,
+    memo: LocalTable,
     board: Board,
     most_looked: u32,
     most_recalled: u32,

@@ -3,7 +3,7 @@
 use crate::tests::board_of;
 use oth_rules::{Board, Scoring};
 use oth_search::{
-    Cells, Interval, Limited, MemoCells, NoCells, Solved, Stopped, solve_alone, solve_until,
+    Cells, Interval, Limited, NoCells, Solved, Stopped, WithLocal, solve_alone, solve_until,
 };
 use std::process::Abort;
 use std::test::Fail;
@@ -20,7 +20,7 @@ fn bounds_within<R: AllocGlobal + Abort>(rt: &R, board: &Board, limit: u64) -> I
     let Ok(answer) = solve_alone(board, Scoring::Winner) else {
         panic!(rt; "not solved")
     };
-    let mut cells = Limited::of(MemoCells::alone(rt.alloc(), board.empties()), limit);
+    let mut cells = Limited::of(WithLocal::alone(rt.alloc(), board.empties()), limit);
     let bounds = match solve_until(rt.alloc(), board, &mut cells, Scoring::Winner) {
         Ok(found) => {
             assert!(rt; found == answer);

@@ -5,8 +5,8 @@ use crate::keeping_tests::Counted;
 use crate::tests::board_of;
 use oth_rules::{Board, Scoring, Square};
 use oth_search::{
-    Cells, Entry, Memo, NoCells, Solved, Unobserved, first_threshold, order, replies_to, search,
-    solve_with,
+    Cells, Entry, LocalTable, NoCells, Solved, Unobserved, first_threshold, order, replies_to,
+    search, solve_with,
 };
 use std::test::Fail;
 
@@ -15,7 +15,7 @@ use std::test::Fail;
 #[test]
 fn a_root_knows_what_its_replies_give_it(rt: HostRuntime) -> Result<(), Fail> {
     let board = board_of(&rt, [0xbed0_6c7c_1c02_2702, 0x000f_9383_a2fc_5880]);
-    let mut cells = Counted::over(Memo::below(rt.alloc(), board.empties())?);
+    let mut cells = Counted::over(LocalTable::below(rt.alloc(), board.empties())?);
     let answer = solve_with(board, &mut cells, Scoring::Winner);
     assert!(rt; answer.board == board);
     assert!(rt;
@@ -31,7 +31,7 @@ fn a_root_knows_what_its_replies_give_it(rt: HostRuntime) -> Result<(), Fail> {
 #[test]
 fn a_window_opens_its_first_move(rt: HostRuntime) -> Result<(), Fail> {
     let board = board_of(&rt, [0x0006_2a2c_5808_442c, 0xf0f8_d5d3_a757_9910]);
-    let mut cells = Counted::over(Memo::below(rt.alloc(), board.empties())?);
+    let mut cells = Counted::over(LocalTable::below(rt.alloc(), board.empties())?);
     let found = search(&board, -65, 65, &mut cells, Scoring::Winner);
     assert!(rt; found.lower == found.upper);
     assert!(rt;

@@ -4,8 +4,8 @@ ghost use Rattle.std.specs.Prelude.{◌≡◌, IfSome};
 use oth_rules::samples::after_least_moves;
 use oth_rules::{Board, Scoring};
 use oth_search::{
-    Cells, Entry, Interval, Kind, Memo, Memories, NoCells, Solved, TooManyEmpties, known_below,
-    search, seeming_value, solve_alone, solve_with,
+    Cells, Entry, Interval, Kind, LocalTable, LocalTables, NoCells, Solved, TooManyEmpties,
+    known_below, search, seeming_value, solve_alone, solve_with,
 };
 use std::process::Abort;
 use std::test::Fail;
@@ -201,14 +201,14 @@ fn a_null_window_tells_one_threshold(rt: HostRuntime) -> Result<(), Fail> {
 }
 
 /// Nothing of the board is remembered.
-fn check_forgotten(rt: &impl Abort, memo: &Memo, board: &Board, scoring: Scoring) {
+fn check_forgotten(rt: &impl Abort, memo: &LocalTable, board: &Board, scoring: Scoring) {
     assert!(rt; memo.recall(board, scoring).is_none());
 }
 
 #[test]
 fn recalls_what_it_remembers(rt: HostRuntime) -> Result<(), Fail> {
     let board = board_of(&rt, A);
-    let mut memo = Memo::below(rt.alloc(), 13)?;
+    let mut memo = LocalTable::below(rt.alloc(), 13)?;
     check_forgotten(&rt, &memo, &board, Scoring::Winner);
     memo.remember(&Solved::by_search(&board, -65, 65, &mut NoCells, Scoring::Winner));
     let Some(told) = memo.recall(&board, Scoring::Winner) else {
@@ -230,7 +230,7 @@ fn remembers_more_where_that_pays(rt: HostRuntime) {
         (17, true, 9, false),
         (30, false, 9, false),
     ] {
-        let memories = Memories::of(rt.alloc(), root, is_alone);
+        let memories = LocalTables::of(rt.alloc(), root, is_alone);
         assert!(rt;
             memories.remembers(empties) == wanted,
             "{empties} below {root}"
@@ -239,7 +239,7 @@ fn remembers_more_where_that_pays(rt: HostRuntime) {
 }
 
 /// What these memories recall of a board of `empties` empty squares when they have remembered its value.
-fn recalled_value(rt: &impl Abort, memories: &mut Memories, empties: u8) -> Option<Interval> {
+fn recalled_value(rt: &impl Abort, memories: &mut LocalTables, empties: u8) -> Option<Interval> {
     let Some(board) = after_least_moves(empties) else {
         panic!(rt; "no line")
     };
@@ -253,20 +253,20 @@ fn recalled_value(rt: &impl Abort, memories: &mut Memories, empties: u8) -> Opti
 
 #[test]
 fn recalls_boards_of_few_and_of_more_empty_squares(rt: HostRuntime) {
-    let mut both = Memories::of(rt.alloc(), 18, true);
+    let mut both = LocalTables::of(rt.alloc(), 18, true);
     assert!(rt; recalled_value(&rt, &mut both, 8).is_some());
     assert!(rt; recalled_value(&rt, &mut both, 9).is_some());
-    let mut few = Memories::of(rt.alloc(), 17, true);
+    let mut few = LocalTables::of(rt.alloc(), 17, true);
     assert!(rt; recalled_value(&rt, &mut few, 8).is_some());
     assert!(rt; recalled_value(&rt, &mut few, 9).is_none());
-    let mut none = Memories::of(rt.alloc(), 9, true);
+    let mut none = LocalTables::of(rt.alloc(), 9, true);
     assert!(rt; recalled_value(&rt, &mut none, 8).is_none());
 }
 
 /// Keeps no entries, and remembers.
 #[derive(Drop)]
 struct Remembering {
-    memo: Memo,
+    memo: LocalTable,
     recalled: u32,
     // Whether all boards are remembered, and none looked up.
     is_for_all: bool,
@@ -305,7 +305,7 @@ fn agrees_with_the_whole_tree_while_it_remembers(rt: HostRuntime) -> Result<(), 
     };
     for is_for_all in [false, true] {
         let mut cells = Remembering {
-            memo: Memo::below(rt.alloc(), 14)?,
+            memo: LocalTable::below(rt.alloc(), 14)?,
             recalled: 0,
             is_for_all,
         };

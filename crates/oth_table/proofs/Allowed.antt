@@ -10,7 +10,7 @@ use lib.Seq.{set-get_or}
 use Rattle.atomic_table.specs.Table.{Act, Valid, carried_after, step, keeps, stepped, Allows}
 use Rattle.atomic_table.proofs.Lists.{exchanged}
 use Rattle.oth_rules.specs.declared.scoring.Scoring.{Scoring}
-use Rattle.oth_search.specs.Entry.{Bounded, words_of, joined}
+use Rattle.oth_search.specs.Bounds.Entry.{Bounded, words_of, joined}
 use Rattle.oth_history.specs.History.{IsUnmade, IsSeat}
 use Rattle.oth_history.proofs.Histories.{seat_past, begins_more}
 use Rattle.oth_table.specs.History.{IsTrueBy, author, makes, content, owner, publishes, Fits, IsLegal, Ends}

@@ -4,8 +4,8 @@ use Rattle.std.specs.Prelude.{Option, Some, None, IfSome, if◌then◌else◌, �
 use Rattle.std.specs.Option.{option_or}
 use Rattle.oth_rules.specs.declared.scoring.Scoring.{Scoring}
 use Rattle.oth_rules.specs.Position.{Position}
-use Rattle.oth_search.specs.Entry.{Bounded}
-use Rattle.oth_search.proofs.Entries.{same_board_words}
+use Rattle.oth_search.specs.Bounds.Entry.{Bounded}
+use Rattle.oth_search.proofs.BoundsLemmas.Entries.{same_board_words}
 use Rattle.oth_table.specs.declared.history.Terms.{Terms}
 use Rattle.oth_table.specs.declared.history.Event.{Event}
 use Rattle.oth_table.specs.declared.table.Look.{Look}

@@ -7,7 +7,7 @@ use native.Mathlib.Decide.{ℕ_discrete}
 use lib.ListN.{get_elem?}
 use Rattle.atomic_table.specs.Table.{State}
 use Rattle.atomic_table.proofs.Lists.{at_set, set_else}
-use Rattle.oth_search.specs.Entry.{Bounded}
+use Rattle.oth_search.specs.Bounds.Entry.{Bounded}
 use Rattle.oth_history.specs.History.{Name, HasNone}
 use Rattle.oth_history.proofs.Histories.{none_append, seat_past, made_past, since_more, begins_more}
 use Rattle.oth_table.specs.History.{author, makes, content, owner, publishes, IsLegal}

@@ -3,7 +3,7 @@ use Rattle.std.proofs.Common.{◌≡◌, ◌≢◌, ℕ, ◌+◌, ◌*◌, ◌<�
 use Rattle.std.specs.Prelude.{Option, Some, None, slice_index, if◌then◌else◌}
 use mathlib.Core.Logic.{dite}
 use native.Mathlib.Decide.{ℕ_discrete}
-use Rattle.oth_search.specs.Entry.{Bounded, words_of, joined}
+use Rattle.oth_search.specs.Bounds.Entry.{Bounded, words_of, joined}
 use Rattle.oth_history.specs.History.{Name, MayCome, IsSeat}
 use Rattle.oth_table.specs.History.{IsTrueBy, author, makes, content, owner, publishes, Fits}
 use Rattle.oth_table.specs.Cells.{first_word, version, word, held, HasWords, IsKept}

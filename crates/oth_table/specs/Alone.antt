@@ -10,7 +10,7 @@ use Rattle.oth_table.specs.History.{owner, author, IsLegal}
 use Rattle.oth_table.specs.SharedTable.{Looks, Puts}
 use Rattle.oth_table.specs.Pairs.{LooksFor, PutsFor}
 use Rattle.oth_table.specs.Parts.{Use}
-use Rattle.oth_search.specs.Entry.{Bounded}
+use Rattle.oth_search.specs.Bounds.Entry.{Bounded}
 use Rattle.oth_table.specs.declared.history.Event.{Event}
 use Rattle.oth_table.specs.declared.history.Event.TheVariants.{Made}
 use Rattle.oth_table.specs.declared.table.Look.{Look}

@@ -7,7 +7,7 @@
 --     picked_of cells f g p  the cell to which it goes
 use Rattle.std.specs.Prelude.{ℕ, ◌+◌, ◌-◌, ◌*◌, ◌/◌, ◌%◌, ◌^◌, ◌==◌, ◌&&◌, Bool, true, false, if◌then◌else◌, nat_lt, Option, Some, None}
 use Rattle.oth_rules.specs.Position.{Position, empty_count}
-use Rattle.oth_search.specs.Entry.{Bounded}
+use Rattle.oth_search.specs.Bounds.Entry.{Bounded}
 use Rattle.oth_table.specs.declared.table.Look.{Look}
 use Rattle.oth_table.specs.declared.table.Look.TheVariants.{Empty, Whole, Busy}
 

@@ -8,7 +8,7 @@
 use Rattle.std.specs.Prelude.{◌≡◌, ℕ, ◌+◌, ◌<◌, ◌==◌, if◌then◌else◌, List, [], ◌∷◌, Option, Some, None}
 use Rattle.oth_history.specs.History.{Name, IsLegalBy, EndsBy}
 use Rattle.oth_rules.specs.declared.scoring.Scoring.{Scoring}
-use Rattle.oth_search.specs.Entry.{Bounded, IsTrueEntry, joined}
+use Rattle.oth_search.specs.Bounds.Entry.{Bounded, IsTrueEntry, joined}
 use Rattle.oth_table.specs.declared.history.Terms.{Terms}
 use Rattle.oth_table.specs.declared.history.Why.{Why}
 use Rattle.oth_table.specs.declared.history.Why.TheVariants.{Worn}

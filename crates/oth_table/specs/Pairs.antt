@@ -7,7 +7,7 @@
 use Rattle.std.specs.Prelude.{◌≡◌, ◌≢◌, ℕ, List, Option}
 use Rattle.std.specs.Option.{option_or}
 use Rattle.oth_rules.specs.Position.{Position}
-use Rattle.oth_search.specs.Entry.{Bounded}
+use Rattle.oth_search.specs.Bounds.Entry.{Bounded}
 use Rattle.oth_table.specs.declared.history.Event.{Event}
 use Rattle.oth_table.specs.declared.table.Look.{Look}
 use Rattle.oth_table.specs.declared.table.Put.{Put}

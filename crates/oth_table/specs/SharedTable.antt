@@ -10,7 +10,7 @@
 --     Meet s s' t t'       two seats have met
 use Rattle.std.specs.Prelude.{◌≡◌, ℕ, ◌^◌, ◌<◌, List, [], Some, None}
 use Rattle.oth_rules.specs.declared.scoring.Scoring.{Scoring}
-use Rattle.oth_search.specs.Entry.{Bounded}
+use Rattle.oth_search.specs.Bounds.Entry.{Bounded}
 use Rattle.oth_table.specs.declared.history.Terms.{Terms}
 use Rattle.oth_history.specs.History.{Name, Since, HasNone}
 use Rattle.oth_table.specs.History.{author, IsLegal, Ends, GoesAway}

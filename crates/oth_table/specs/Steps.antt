@@ -10,7 +10,7 @@ use Rattle.std.specs.Prelude.{◌≡◌, ◌≢◌, ℕ, zero, ◌+◌, ◌-◌,
 use mathlib.Core.Option.{some}
 use Rattle.atomic_table.specs.Table.{Step, Me}
 use Rattle.oth_rules.specs.declared.scoring.Scoring.{Scoring}
-use Rattle.oth_search.specs.Entry.{Bounded, words_of, joined}
+use Rattle.oth_search.specs.Bounds.Entry.{Bounded, words_of, joined}
 use Rattle.oth_table.specs.Cells.{first_word}
 use Rattle.oth_history.specs.History.{Name, Begins, Since}
 use Rattle.oth_table.specs.History.{author, IsTrueBy, publishes, IsLegal, Ends, GoesAway}

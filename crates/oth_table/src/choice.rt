@@ -7,7 +7,7 @@ ghost use Rattle.oth_table.specs.Sizes.{IsSize};
 
 use crate::table::Look;
 use oth_rules::Board;
-use oth_search::{Entry, OPPOSING_FACTOR, OWN_FACTOR};
+use oth_search::{Entry, board_hash};
 
 /// The first cell of a canonical board in a table of `cells` cells, below `cells`. `cells` is 1, 2, 4 .. 262,144.
 /// It is the number of the highest `k` bits, for `2^k` cells, of `own * 9e3779b97f4a7c15 +
@@ -18,10 +18,7 @@ pub fn place(board: &Board, cells: u32) -> u32
     ensures place { result ≡ place_of board.now cells }
     ensures inside { result < cells }
 {
-    let own = board.own().wrapping_mul(OWN_FACTOR);
-    let opposing = board.opp().wrapping_mul(OPPOSING_FACTOR);
-    let hash = own.wrapping_add(opposing);
-    ((u128::from(hash) * u128::from(cells)) >> 64) as u32
+    ((u128::from(board_hash(board)) * u128::from(cells)) >> 64) as u32
 }
 
 /// The second cell of a canonical board, below `cells`: its place with the lowest bit changed, or the place itself

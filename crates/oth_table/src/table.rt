@@ -1,9 +1,23 @@
 //! The table, which threads share, and the seats through which they use it. Each cell is a seqlock: a version, odd
 //! while a writer is at it, and the words of an entry (Boehm, Can seqlocks get along with programming language memory
 //! models?, 2012).
+//!
+//! Version 0 was never written, an odd version is being written, and an even version above 0 is published; half of
+//! it says how often. A seat claims a cell by one compare-and-exchange of an even version `v` for `v + 1`. Only the
+//! seat with the claim may write the cell's three words, and it publishes them by storing `v + 2`: versions only
+//! grow, and at most one seat writes in a cell at a time.
+//!
+//! A look loads the version, the three words, and the version again. If both loads give one even version, nobody
+//! claimed the cell between them, so the three words are those of one publish: no look ever gives words of two
+//! stores. Else it answers `Busy`. A put under its claim loads the old words. If they are those of its own board,
+//! it keeps the greater lower and the lesser upper bound; else it keeps the given entry. A cell that was published
+//! as often as the table's wear allows is never claimed again, and is still looked at.
+//!
+//! Six words stand in front of the cells, so that a board's two cells, its bucket, lie in one cache line of 64
+//! bytes where the memory of the table begins 16 bytes behind one, as glibc's large blocks do.
 ghost use Rattle.std.specs.Prelude.{◌≡◌, ℕ, MatchBool, Option, ◌+◌, ◌*◌, ◌/◌, ◌%◌, ◌^◌, ◌<◌, ◌≤◌, List, [], Some, IfOk};
 ghost use Rattle.std.specs.Prelude.{IfErr, ◌-◌};
-ghost use Rattle.oth_search.specs.Entry.{Bounded, joined, words_of};
+ghost use Rattle.oth_search.specs.Bounds.Entry.{Bounded, joined, words_of};
 ghost use Rattle.oth_history.specs.History.{Since};
 ghost use Rattle.oth_table.specs.Cells.{first_word};
 ghost use Rattle.oth_table.specs.History.{author, Ends, IsLegal, publishes};

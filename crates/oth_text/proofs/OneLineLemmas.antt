@@ -14,14 +14,14 @@ use Rattle.oth_rules.specs.Score.{score_of}
 use Rattle.oth_rules.specs.Value.{value}
 use Rattle.oth_rules.specs.declared.scoring.Scoring.{Scoring}
 use Rattle.oth_rules.proofs.SearchLaws.{IsScore-value}
-use Rattle.oth_search.specs.Answer.{kind_of}
-use Rattle.oth_search.specs.declared.kind.Kind.{Kind}
-use Rattle.oth_search.specs.declared.kind.Kind.TheVariants.{Move, Pass, End}
+use Rattle.oth_search.specs.Bounds.Answer.{kind_of}
+use Rattle.oth_search.specs.declared.bounds.kind.Kind.{Kind}
+use Rattle.oth_search.specs.declared.bounds.kind.Kind.TheVariants.{Move, Pass, End}
 use Rattle.oth_text.specs.declared.position.Side.{Side}
 use Rattle.oth_text.specs.declared.position.Side.TheVariants.{Black, White}
 use Rattle.oth_text.specs.declared.position.Position.{Position}
 use Rattle.oth_text.specs.BoardLine.{board_line, cell_byte, side_byte}
-use Rattle.oth_search.specs.declared.scores.ScoredMove.{ScoredMove}
+use Rattle.oth_search.specs.declared.root.scores.ScoredMove.{ScoredMove}
 use Rattle.oth_text.proofs.RankingLemmas.{each_ranked}
 use Rattle.oth_text.specs.OneLine.{IsOneLine}
 use Rattle.oth_text.specs.Ranking.{best_first, scored_move, scored_moves, scored_name, scored_names, scores_line_of}

@@ -9,8 +9,8 @@ use Rattle.oth_rules.specs.Value.{value, is_best}
 use Rattle.oth_rules.specs.declared.scoring.Scoring.{Scoring}
 use Rattle.oth_rules.proofs.Scores.{kept}
 use Rattle.oth_rules.proofs.SearchLaws.{IsScore-value}
-use Rattle.oth_search.specs.Answer.{kind_of}
-use Rattle.oth_search.specs.declared.kind.Kind.{Kind}
+use Rattle.oth_search.specs.Bounds.Answer.{kind_of}
+use Rattle.oth_search.specs.declared.bounds.kind.Kind.{Kind}
 use Rattle.oth_text.specs.Report.{best_squares, moves_line_of, moves_or_word, report_line_of, score_text, squares_of}
 use Rattle.oth_text.proofs.SquareLemmas.{squares_of-word_of}
 

@@ -11,9 +11,9 @@ use Rattle.oth_rules.specs.Move.{legal_squares}
 use Rattle.oth_rules.specs.Score.{score_of}
 use Rattle.oth_rules.specs.Value.{value, is_best}
 use Rattle.oth_rules.specs.declared.scoring.Scoring.{Scoring}
-use Rattle.oth_search.specs.Answer.{kind_of}
-use Rattle.oth_search.specs.declared.kind.Kind.{Kind}
-use Rattle.oth_search.specs.declared.kind.Kind.TheVariants.{Move, Pass, End}
+use Rattle.oth_search.specs.Bounds.Answer.{kind_of}
+use Rattle.oth_search.specs.declared.bounds.kind.Kind.{Kind}
+use Rattle.oth_search.specs.declared.bounds.kind.Kind.TheVariants.{Move, Pass, End}
 
 abbrev pub square_name : ℕ → List ℕ
 square_name s = (97 + s % 8) ∷ (49 + s / 8) ∷ []

@@ -1,4 +1,7 @@
 //! Board lines that are read in parts.
+//!
+//! The first 67 bytes tell all (`KeepsLine kept line` is `kept ≡ take 67 line`), since a line of 67 bytes or more
+//! is refused by its length alone.
 
 ghost use Rattle.std.specs.Prelude.{◌≡◌, ◌==◌, ℕ, List, [], ◌++◌, length};
 ghost use Rattle.oth_text.specs.BoardLine.{KeepsLine, reading, solvable_reading};

@@ -1,4 +1,11 @@
 //! Board lines, transcripts and reports, and the devices that they are read from and written to.
+//!
+//! Each format is said twice and proved to be one thing: by a relation that a reader can hold against the format's
+//! text (`IsBoardLine`, `IsFirstFault`, `IsTranscript`, `IsTranscriptFault`, `IsGame`, `IsGameFault`: what stands
+//! at which place, which moves the names are), and by a function of the whole text, which the report of an input is
+//! made of. The clauses of `read_board`, `read_transcript` and `read_game` carry both. A report line's contract
+//! names the board and the scoring only: the truth of the answer comes from the type `Answer`, that of a scores
+//! line from `Scores`.
 #![tactic(auto)]
 
 mod board_line;

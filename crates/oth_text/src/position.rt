@@ -1,4 +1,7 @@
 //! A board and who moves.
+//!
+//! It keeps the board as its mover sees it. A line has colours: a cell is the mover's byte for the mover's disc and
+//! the other side's for the opponent's.
 
 ghost use Rattle.std.specs.Prelude.{◌≡◌, bit_and};
 ghost use Rattle.oth_rules.specs.Position.{IsBoard};

@@ -1,4 +1,9 @@
 //! Transcripts: the names of moves, one after the other, from the start of a game or from another position.
+//!
+//! `IsTranscriptFrom`, `transcript_reading_from` and `StandsFrom` name where the moves begin; `IsTranscript`,
+//! `transcript_reading` and `StandsFor` are these at the start of a game. In parts, `StandsFrom from kept text`
+//! says what any further pairs lead to. The number of the next pair and the empty squares are at most 65 together,
+//! so the number of a pair is a `u8`; after a fault only the parity of the length counts.
 
 ghost use Rattle.std.specs.Prelude.{◌≡◌, ◌+◌, ◌≤◌, ◌<◌, ◌↔◌, ℕ, List, [], ◌∷◌, ◌++◌, Option, None, Some, Ok, Err, IfOk};
 ghost use Rattle.std.specs.Prelude.{IfErr, SomeIff, IsTrue};

@@ -6,13 +6,13 @@ ghost use Rattle.oth_rules.specs.Move.{after};
 ghost use Rattle.oth_rules.specs.Position.{empty_count};
 ghost use Rattle.oth_rules.specs.Score.{score_of};
 ghost use Rattle.oth_rules.specs.Value.{value};
-ghost use Rattle.oth_search.specs.Scores.{AreScores, IsScored};
+ghost use Rattle.oth_search.specs.Root.Scores.{AreScores, IsScored};
 ghost use Rattle.oth_text.specs.declared.fault.TranscriptFault.{TranscriptFault as Fault};
 ghost use Rattle.oth_text.specs.declared.position.Position.{Position as Reached};
 ghost use Rattle.oth_text.specs.Transcript.{IsTranscript, IsTranscriptFault};
 
 use oth_rules::{Scoring, Square};
-use oth_search::{MOST_EMPTIES, MemoCells, ScoredMove, Scores, scores_with};
+use oth_search::{MOST_EMPTIES, ScoredMove, Scores, WithLocal, scores_with};
 use oth_text::{TranscriptFault, read_transcript};
 use std::alloc::Global;
 
@@ -35,7 +35,7 @@ pub fn scores_after(alloc: Global, moves: &[u8], scoring: Scoring) -> Result<Sco
     if board.empties() > MOST_EMPTIES {
         return Err(Unscored::Empties);
     }
-    let mut cells = MemoCells::alone(alloc, board.empties());
+    let mut cells = WithLocal::alone(alloc, board.empties());
     Ok(scores_with(board, &mut cells, scoring))
 }
 

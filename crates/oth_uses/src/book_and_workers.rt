@@ -1,7 +1,7 @@
 //! A board is solved by four workers over a table, where a book may know the answer.
 
 ghost use Rattle.std.specs.Prelude.{◌≡◌, Err, IfOk};
-ghost use Rattle.oth_search.specs.Full.{IsFullMinimax};
+ghost use Rattle.oth_search.specs.Bounds.Full.{IsFullMinimax};
 ghost use Rattle.oth_book.specs.Contents.{Contents, IsText};
 ghost use Rattle.oth_book.specs.Fault.{IsBookFault};
 ghost use Rattle.oth_book.specs.True.{IsWrong};

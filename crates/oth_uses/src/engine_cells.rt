@@ -1,7 +1,7 @@
 //! An engine's own search asks a table first, and keeps in it what it has found.
 
 ghost use Rattle.std.specs.Prelude.{◌≡◌, ◌+ℤ◌, pos, IfSome};
-ghost use Rattle.oth_search.specs.Interval.{Decides, IsThreshold};
+ghost use Rattle.oth_search.specs.Bounds.Interval.{Decides, IsThreshold};
 
 use oth_rules::{Board, Scoring};
 use oth_search::{Cells, Entry, Solved};

@@ -1,7 +1,7 @@
 //! Two threads solve two boards over one table, each from a seat of its own.
 
 ghost use Rattle.std.specs.Prelude.{IfOk};
-ghost use Rattle.oth_search.specs.Full.{IsFullMinimax};
+ghost use Rattle.oth_search.specs.Bounds.Full.{IsFullMinimax};
 ghost use Rattle.oth_table.specs.SharedTable.{IsSeatOf};
 
 use oth_rules::{Board, Scoring};

@@ -2,7 +2,7 @@
 
 ghost use Rattle.std.specs.Prelude.{◌≡◌, ◌<◌, ◌↔◌, Err, IfOk, bit_and};
 ghost use Rattle.oth_rules.specs.Position.{empty_count};
-ghost use Rattle.oth_search.specs.Full.{IsFullMinimax};
+ghost use Rattle.oth_search.specs.Bounds.Full.{IsFullMinimax};
 
 use oth_rules::{Board, Scoring};
 use oth_search::{Answer, solve_alone};

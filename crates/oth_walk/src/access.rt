@@ -2,12 +2,12 @@
 ghost use Rattle.oth_walk.specs.Lending.{LendsTable};
 
 use crate::shared::Sharing;
-use oth_search::{MemoCells, Memories};
+use oth_search::{LocalTables, WithLocal};
 use oth_table::TableCells;
 use std::alloc::Global;
 
 /// What one worker keeps entries in: cells of the table where there is one, and local tables of its own.
-pub type WorkerCells<'t> = MemoCells<Option<TableCells<'t>>>;
+pub type WorkerCells<'t> = WithLocal<Option<TableCells<'t>>>;
 
 /// Cells of the caller's table, where there is one and a seat of it can be had, for the search of a root of `empties`
 /// empty squares.
@@ -19,9 +19,9 @@ pub fn worker_cells<'t>(
 ) -> WorkerCells<'t>
     ensures lends { LendsTable table.old table.new }
 {
-    let memories = Memories::of(alloc, empties, !sharing.is_over_table());
+    let memories = LocalTables::of(alloc, empties, !sharing.is_over_table());
     match table {
-        Some(table) => MemoCells::of(table.another(alloc), memories),
-        None => MemoCells::of(None, memories),
+        Some(table) => WithLocal::of(table.another(alloc), memories),
+        None => WithLocal::of(None, memories),
     }
 }

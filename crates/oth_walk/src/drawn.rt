@@ -1,12 +1,19 @@
 //! The search of drawn items, and of the root moves that they leave open. The first reply to a move is searched before
 //! the others are shared out: young brothers wait (Feldmann, Monien, Mysliwietz and Vornberger, Distributed game-tree
 //! search, 1989).
+//!
+//! Until the root has a floor a worker helps to find one (`lead`). Then it helps with the root's first move until
+//! that is settled, searches the first reply (the elder brother) if its item isn't that one, then its item with a
+//! null window at the floor, and then what is left open of the move (`settle_at`). Without a table nothing could be
+//! looked up, so a worker takes the item's whole move of the root, unless another one is at it; until there is a
+//! floor it asks the move just once for what the root seems to reach (`Worker::ask`), so that none but a move that
+//! may reach it is searched to its value.
 ghost use Rattle.std.specs.Prelude.{◌≡◌};
 
 use crate::gate::Gate;
 use crate::root_move::RootMove;
 use crate::shared::Search;
-use crate::tuning::{LAST_SWEEP, MOVES_BEFORE, MOVES_TOGETHER, SWEEPS};
+use crate::tuning::{FINAL_ROUNDS, LAST_FINAL_ROUND, MOVES_BEFORE, MOVES_TOGETHER};
 use crate::worker::Worker;
 use oth_pieces::Item;
 use oth_rules::Board;
@@ -15,27 +22,27 @@ use oth_search::{Cells, Solved};
 /// Searches the item of this number, of which the gate hears, and what it leaves open of its root move. Returns what is
 /// known of the item's board then.
 pub fn search_item<G: Gate, C: Cells>(
-    shared: &Search,
+    search: &Search,
     number: u32,
     item: &Item,
     gate: &G,
     worker: &mut Worker<C>,
 ) -> Solved
     ensures board { result.board ≡ item.now.board }
-    ensures scoring { result.scoring ≡ shared.now.scoring }
+    ensures scoring { result.scoring ≡ search.now.scoring }
 {
     gate.before(number);
-    let found = match RootMove::of(&*shared, item.square) {
+    let found = match RootMove::of(&*search, item.square) {
         Some(root_move) => search_below(&root_move, item, gate, worker),
-        None => worker.look_up(&item.board, shared.scoring),
+        None => worker.look_up(&item.board, search.scoring),
     };
-    tell(shared, gate, worker);
+    tell(gate, worker);
     gate.after(number);
     found
 }
 
 // Tells the gate how far the search is, if the gate follows that.
-fn tell<G: Gate, C: Cells>(shared: &Search, gate: &G, worker: &mut Worker<C>) {
+fn tell<G: Gate, C: Cells>(gate: &G, worker: &mut Worker<C>) {
     if gate.follows() {
         let root = worker.known_of_root();
         gate.goes_on(&root, worker.settled());
@@ -51,24 +58,24 @@ fn search_below<G: Gate, C: Cells>(
     worker: &mut Worker<C>,
 ) -> Solved
     ensures board { result.board ≡ item.now.board }
-    ensures scoring { result.scoring ≡ root_move.now.shared.now.scoring }
+    ensures scoring { result.scoring ≡ root_move.now.search.now.scoring }
 {
-    let shared = root_move.shared;
-    worker.favour(shared);
-    if !shared.shares() {
+    let scoring = root_move.search.scoring;
+    worker.move_to_front();
+    if !worker.peers.shares() {
         settle_alone(root_move, worker);
-        return worker.look_up(&item.board, shared.scoring);
+        return worker.look_up(&item.board, scoring);
     }
-    worker.lead(shared);
-    tell(shared, gate, worker);
+    worker.lead();
+    tell(gate, worker);
     settle_before(root_move, worker);
-    tell(shared, gate, worker);
+    tell(gate, worker);
     if worker.is_settled(item.square) {
-        return worker.look_up(&item.board, shared.scoring);
+        return worker.look_up(&item.board, scoring);
     }
     if !is_reply(item, root_move) {
         settle(root_move, worker);
-        return worker.look_up(&item.board, shared.scoring);
+        return worker.look_up(&item.board, scoring);
     }
     search_elder_brother(root_move, &item.board, worker);
     let found = root_move.search_reply(item.board, worker);
@@ -79,7 +86,7 @@ fn search_below<G: Gate, C: Cells>(
 // Settles the root move.
 fn settle<C: Cells>(root_move: &RootMove, worker: &mut Worker<C>) {
     let place = worker.place_of(&root_move.child);
-    worker.settle_at(root_move.shared, place);
+    worker.settle_at(place);
 }
 
 // Whether the item comes after a reply to the move, with no forced pass on the way.
@@ -90,10 +97,10 @@ fn is_reply(item: &Item, root_move: &RootMove) -> bool {
 // Where workers share no table: takes the whole move, unless another worker has it, from whom nothing could be learnt
 // on the way. Before there is a floor it asks once at the guess, and goes on only if the move may reach it.
 fn settle_alone<C: Cells>(root_move: &RootMove, worker: &mut Worker<C>) {
-    if worker.is_taken(&root_move.child) {
+    if worker.peers.hints.is_searched(&root_move.child) {
         return;
     }
-    if worker.floor() > -64 || worker.ask(root_move) {
+    if worker.floor() > -64 || worker.ask(&root_move.child) {
         settle(root_move, worker);
     }
 }
@@ -102,13 +109,13 @@ fn settle_alone<C: Cells>(root_move: &RootMove, worker: &mut Worker<C>) {
 fn settle_before<C: Cells>(root_move: &RootMove, worker: &mut Worker<C>) {
     let places = worker.place_of(&root_move.child).min(MOVES_BEFORE);
     for place in 0..places {
-        worker.settle_at(root_move.shared, place);
+        worker.settle_at(place);
     }
 }
 
 // Helps with the first reply to the move, unless this board is the one after it.
 fn search_elder_brother<C: Cells>(root_move: &RootMove, board: &Board, worker: &mut Worker<C>) {
-    let squares = worker.order(&root_move.child);
+    let squares = worker.peers.order_of(&root_move.child);
     let Some(square) = squares.first() else {
         return;
     };
@@ -121,24 +128,28 @@ fn search_elder_brother<C: Cells>(root_move: &RootMove, board: &Board, worker: &
 }
 
 /// Settles the root moves that are still open, when no item is left.
-pub fn settle_all<G: Gate, C: Cells>(shared: &Search, gate: &G, worker: &mut Worker<C>) {
-    let rounds = if shared.shares() { SWEEPS } else { 1 };
-    worker.favour(shared);
+pub fn settle_all<G: Gate, C: Cells>(gate: &G, worker: &mut Worker<C>) {
+    let rounds = if worker.peers.shares() {
+        FINAL_ROUNDS
+    } else {
+        1
+    };
+    worker.move_to_front();
     for round in 0..rounds {
         for place in 0..worker.replies.len() {
-            settle_in_round(shared, place, round, worker);
-            tell(shared, gate, worker);
+            settle_in_round(place, round, worker);
+            tell(gate, worker);
         }
     }
 }
 
 // Settles the move at this place, unless it is deferred in this round.
-fn settle_in_round<C: Cells>(shared: &Search, place: usize, round: u32, worker: &mut Worker<C>) {
+fn settle_in_round<C: Cells>(place: usize, round: u32, worker: &mut Worker<C>) {
     let Some(known) = worker.replies.get(place).copied() else {
         return;
     };
-    let together = shared.shares() && worker.settled() < MOVES_TOGETHER;
-    if together || round == LAST_SWEEP || !worker.is_taken(&known.board) {
-        worker.settle_at(shared, place);
+    let together = worker.peers.shares() && worker.settled() < MOVES_TOGETHER;
+    if together || round == LAST_FINAL_ROUND || !worker.peers.hints.is_searched(&known.board) {
+        worker.settle_at(place);
     }
 }

@@ -2,6 +2,10 @@
 //! moves need no further search, what score the root seems to have and by which move, whether a board seems to reach a
 //! score, and in which order a board's moves are best searched. These are hints. They save time, and every answer is
 //! right whatever they say.
+//!
+//! They stand in words of an `atomic_table` whose rule (`hints/rule`) allows everything. Each step is a load, a store
+//! or a compare-and-exchange of one word. Orders of moves are kept of boards from 12 empty squares on, the first ten
+//! moves in one word (`move_order`).
 ghost use Rattle.std.specs.Prelude.{◌≡◌, ◌<◌, ◌≤ℤ◌, negsuc, IfSome};
 
 mod rule;
@@ -86,43 +90,6 @@ impl<'h> Place<'h> {
         let (_, seat) = hints.table.shared.load_new_seat::<Step>(0);
         Some(Place { hints, seat })
     }
-
-    // How many orders there is room for.
-    fn orders(&self) -> u16 {
-        let hints = self.hints;
-        hints.orders
-    }
-
-    // The word at this place, or 0 beyond the last one.
-    fn load(&mut self, word: usize) -> u64 {
-        let hints = self.hints;
-        if word >= hints.table.word_count() {
-            return 0;
-        }
-        hints.table.shared.load::<Step>(&mut self.seat, word)
-    }
-
-    // Stores a word, if its place is there.
-    fn store(&mut self, word: usize, value: u64) {
-        let hints = self.hints;
-        if word < hints.table.word_count() {
-            hints
-                .table
-                .shared
-                .store::<Step>(&mut self.seat, word, value);
-        }
-    }
-
-    // Writes the new value where the old one stands.
-    fn exchange(&mut self, word: usize, old: u64, new: u64) {
-        let hints = self.hints;
-        if word < hints.table.word_count() {
-            hints
-                .table
-                .shared
-                .compare_exchange::<Step>(&mut self.seat, word, old, new);
-        }
-    }
 }
 
 /// A worker's access to the hints, or to none: then nobody has told anything, and what it tells is forgotten.
@@ -149,23 +116,35 @@ impl<'h> HintSeat<'h> {
 
     // The word at this place, or 0 if there is none.
     fn load(&mut self, word: usize) -> u64 {
-        match &mut self.place {
-            Some(place) => place.load(word),
-            None => 0,
+        let Some(place) = &mut self.place else {
+            return 0;
+        };
+        let hints = place.hints;
+        if word >= hints.table.word_count() {
+            return 0;
         }
+        hints.table.shared.load::<Step>(&mut place.seat, word)
     }
 
     // Stores a word, if its place is there.
     fn store(&mut self, word: usize, value: u64) {
         if let Some(place) = &mut self.place {
-            place.store(word, value);
+            let hints = place.hints;
+            if word < hints.table.word_count() {
+                let words = &hints.table.shared;
+                words.store::<Step>(&mut place.seat, word, value);
+            }
         }
     }
 
     // Writes the new value where the old one stands.
     fn exchange(&mut self, word: usize, old: u64, new: u64) {
         if let Some(place) = &mut self.place {
-            place.exchange(word, old, new);
+            let hints = place.hints;
+            if word < hints.table.word_count() {
+                let words = &hints.table.shared;
+                words.compare_exchange::<Step>(&mut place.seat, word, old, new);
+            }
         }
     }
 
@@ -204,7 +183,7 @@ impl<'h> HintSeat<'h> {
     }
 
     /// Tells a guess of the root's score and move.
-    pub(crate) fn tell_guess(&mut self, guess: Guess) {
+    pub(crate) fn tell_guess(&mut self, guess: &Guess) {
         let raised = (i16::from(guess.score) + GUESS_RAISED) as u64;
         let square = u64::from(guess.square.number());
         self.store(GUESS, raised | (square << GUESS_BITS));
@@ -269,14 +248,20 @@ impl<'h> HintSeat<'h> {
         }
     }
 
+    // How many orders there is room for.
+    fn orders(&self) -> u16 {
+        let Some(place) = &self.place else {
+            return 0;
+        };
+        let hints = place.hints;
+        hints.orders
+    }
+
     // The first of the two words for the order of a board with this key, if orders are kept.
     fn order_place(&self, key: u64) -> Option<usize>
         ensures { IfSome result (λ place. place < 200000) }
     {
-        let orders = match &self.place {
-            Some(place) => place.orders(),
-            None => 0,
-        };
+        let orders = self.orders();
         if orders == 0 {
             return None;
         }

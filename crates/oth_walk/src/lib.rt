@@ -1,6 +1,11 @@
 //! One worker of a search: what it searches over, what it knows of the root, what it and the others tell each other,
 //! and how it settles the root's moves. All of this but the bounds that are found chooses what is searched next: hints,
 //! guesses, orders and the numbers of `tuning` affect speed only.
+//!
+//! `Search` (`shared`) is what all workers have in common: the root, its scoring, its moves, its frontier, and the
+//! `Shape` of the search, which says who learns from whom (`Sharing`) and how small the shared nodes get. It is
+//! passed beside `Worker` where a contract names it, not kept in it: a shared reference can't change, so no contract
+//! has to say that it didn't.
 #![tactic(auto)]
 
 mod access;
@@ -9,12 +14,11 @@ mod gate;
 mod guess;
 mod hints;
 mod move_order;
-mod others;
+mod peers;
 mod root_bound;
 mod root_move;
 mod shared;
 mod tuning;
-mod way;
 mod window;
 mod worker;
 
@@ -24,7 +28,7 @@ pub use gate::{Gate, Open};
 pub use hints::{HintSeat, Hints};
 pub use move_order::MoveOrder;
 pub use root_bound::RootBound;
-pub use root_move::RootMove;
+pub use root_move::{RootMove, move_to};
 pub use shared::{Search, Shape, Sharing};
 pub use tuning::orders_for;
 pub use worker::Worker;

@@ -1,5 +1,5 @@
 //! Orders of the moves of a board, of which the first ten are kept.
-use crate::tuning::TOLD;
+use crate::tuning::KEPT_MOVES;
 use arrayvec::ArrayVec;
 use oth_rules::Square;
 
@@ -23,7 +23,7 @@ impl MoveOrder {
     /// The order of these squares, of which the first ten are kept.
     pub fn of(squares: &[Square]) -> MoveOrder {
         let mut word = 0;
-        for place in 0..TOLD {
+        for place in 0..KEPT_MOVES {
             let number = match squares.get(place as usize) {
                 Some(square) => square.number(),
                 None => 0,
@@ -35,16 +35,16 @@ impl MoveOrder {
 
     /// The square at this place, from 0 to 9.
     pub fn at(self, place: u32) -> Square {
-        Square::numbered(((self.word >> (6 * (place % TOLD))) & 63) as u8)
+        Square::numbered(((self.word >> (6 * (place % KEPT_MOVES))) & 63) as u8)
     }
 
     /// This order, with the square moved to the front.
     pub fn with_first(self, first: Square) -> MoveOrder {
         let mut word = u64::from(first.number());
         let mut count = 1;
-        for place in 0..TOLD {
+        for place in 0..KEPT_MOVES {
             let square = self.at(place);
-            if square != first && count < TOLD {
+            if square != first && count < KEPT_MOVES {
                 word |= u64::from(square.number()) << (6 * count);
                 count += 1;
             }
@@ -56,7 +56,7 @@ impl MoveOrder {
     pub fn of_moves(self, moves: u64) -> ArrayVec<Square, 64> {
         let mut squares = ArrayVec::new();
         let mut rest = moves;
-        for place in 0..TOLD {
+        for place in 0..KEPT_MOVES {
             let square = self.at(place);
             if rest & square.word() != 0 {
                 rest &= !square.word();

@@ -3,6 +3,7 @@ ghost use Rattle.std.specs.Prelude.{◌≡◌, pos, negsuc, ◌≤ℤ◌};
 ghost use Rattle.oth_pieces.specs.Watch.{IsSeatOf};
 
 use oth_pieces::{Floor, FloorSeat};
+use oth_rules::{Board, Scoring};
 use oth_search::{Interval, Solved};
 
 /// The greatest score that the root is known to reach, which workers read and raise: their floor, with one worker's
@@ -23,11 +24,21 @@ impl<'f> RootBound<'f> {
     }
 
     /// The greatest score that the root is known to reach by now: the floor.
-    pub(crate) fn least(&mut self) -> i8
+    pub(crate) fn floor(&mut self) -> i8
         ensures low { negsuc 63 ≤ℤ result }
         ensures high { result ≤ℤ pos 64 }
     {
         self.floor.read(&mut self.seat)
+    }
+
+    /// The root.
+    pub(crate) fn board(&self) -> Board {
+        self.floor.board()
+    }
+
+    /// The scoring of the root's values.
+    pub(crate) fn scoring(&self) -> Scoring {
+        self.floor.scoring()
     }
 
     /// The root with the floor as its lower bound.

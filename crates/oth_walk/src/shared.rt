@@ -1,7 +1,7 @@
 //! What all workers of a search have in common.
 ghost use Rattle.std.specs.Prelude.{◌≡◌};
 
-use crate::tuning::{FEWEST_EMPTIES_GUESSED_TOGETHER, shared_empties};
+use crate::tuning::shared_empties;
 use oth_pieces::Frontier;
 use oth_rules::{Board, Scoring, Square};
 
@@ -38,26 +38,6 @@ impl<'s> Search<'s> {
             frontier,
             shape: Shape::of(root.empties(), sharing),
         }
-    }
-
-    /// Whether the workers make the first guess together.
-    pub fn guesses(&self) -> bool {
-        self.shares() && self.root.empties() >= FEWEST_EMPTIES_GUESSED_TOGETHER
-    }
-
-    /// The root's move that leads to this board, if there is one.
-    pub fn move_to(&self, child: &Board) -> Option<Square> {
-        for square in self.squares {
-            if self.root.play(*square) == Some(*child) {
-                return Some(*square);
-            }
-        }
-        None
-    }
-
-    /// Whether several workers share what they find, by a table.
-    pub fn shares(&self) -> bool {
-        self.shape.sharing.is_over_table()
     }
 }
 

@@ -4,8 +4,8 @@
 // ---- What workers share
 
 /// Empty squares, by those of the root: the smallest nodes that workers share, so that their searches are deferred and
-/// given up, and the largest nodes at which only `FEW_TOGETHER` children are undeferred. Deeper roots have so many
-/// nodes that sharing small ones takes longer than it saves.
+/// given up, and the largest nodes at which only `FEW_TOGETHER` children are undeferred. The trees of deeper roots
+/// are so large that sharing small nodes takes longer than it saves.
 pub(crate) fn shared_empties(root: u8) -> (u8, u8) {
     match root {
         0..=19 => (10, 12),
@@ -22,7 +22,7 @@ pub(crate) const FEW_TOGETHER: usize = 1;
 
 /// Empty squares above the smallest shared nodes: below that the last two searches under way are looked up in the
 /// table after each node, and from there on all of them, which takes little beside the search of a large node.
-pub(crate) const SMALL: u8 = 2;
+pub(crate) const SMALL_NODE_MARGIN: u8 = 2;
 
 // ---- Hints, which workers leave for each other
 
@@ -43,10 +43,10 @@ pub fn orders_for(empties: u8) -> u16 {
 }
 
 /// Empty squares: from here on the order of a node's moves is kept. Below it a worker makes it anew in less time.
-pub(crate) const FEWEST_EMPTIES_PREFERRED: u8 = 12;
+pub(crate) const KEPT_ORDER_MIN_EMPTIES: u8 = 12;
 
 /// Squares of a kept order: as many as one 64-bit word has room for at six bits each.
-pub(crate) const TOLD: u32 = 10;
+pub(crate) const KEPT_MOVES: u32 = 10;
 
 // ---- The shared first guess, a selective search by all workers
 
@@ -60,13 +60,13 @@ pub(crate) const MOVES_BEFORE: usize = 1;
 
 /// Rounds through the root's moves of a worker that has no item left. Until the last one it defers those that others
 /// are at.
-pub(crate) const SWEEPS: u32 = 3;
+pub(crate) const FINAL_ROUNDS: u32 = 3;
 
 /// The number of the last of these rounds, from 0.
-pub(crate) const LAST_SWEEP: u32 = SWEEPS - 1;
+pub(crate) const LAST_FINAL_ROUND: u32 = FINAL_ROUNDS - 1;
 
 /// Root moves that all workers search together then, before any is left to another one.
 pub(crate) const MOVES_TOGETHER: u64 = 3;
 
 /// Discs: a first guess that is further off than this lets the next null window step further.
-pub(crate) const OFF: i8 = 4;
+pub(crate) const GUESS_SLACK: i8 = 4;

@@ -1,4 +1,10 @@
 //! The words of the command line.
+//!
+//! `command_line` reads a command line whole, and `settings` has what it asks for. The crate stands apart because
+//! each check that sees clap takes some seconds more. Its files `WalkKeeps`, `RowsPass` and `Levels` of `proofs/` are
+//! about clap alone and would serve any program: an induction over clap's walk through the words for any property of
+//! the rows that each argument's uses and defaults keep; that each row's texts passed their argument's parser; and
+//! what one level and the entry of a subcommand give.
 #![tactic(auto)]
 
 mod command_line;

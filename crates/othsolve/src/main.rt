@@ -11,7 +11,6 @@ use oth_main::{
     Settings, Watch, Words, book_add, book_verify, check_settings, open_book, print_refusal,
     print_run_fault, read_words, run, tell_scoring,
 };
-use oth_pool::{Gate, Open};
 use oth_text::{FromRead, Sink, Source, ToWrite};
 use std::alloc::Global;
 use std::env::Env;
@@ -32,16 +31,9 @@ const COMMAND_LINE_FAULT: u8 = 2;
 
 // What the words are obeyed with.
 #[derive(Clone, Copy)]
-struct Means<'m, T, G> {
+struct Means<'m, T, S> {
     rt: &'m T,
-    // Hears of each part of a search.
-    gate: &'m G,
-}
-
-// A run on a terminal that shows how far it is.
-#[derive(Clone, Copy)]
-struct Watched<'m, T, S> {
-    rt: &'m T,
+    // Shows how far a search is where standard error is a terminal.
     watch: &'m Watch<S>,
 }
 
@@ -51,46 +43,16 @@ fn main(rt: HostRuntime) -> ExitCode {
     let mut errors = Errors::new(ToWrite::new(rt.stderr()), rt.stderr().is_terminal());
     let status = match words(&rt) {
         Ok(words) => {
-            if errors.is_terminal {
-                let watch = Watch::on(ToWrite::new(rt.stderr()));
-                let mut report = Report::of(&rt, &watch, ToWrite::new(rt.stdout()));
-                obey_watched(&watch, &words, &mut reader, &mut report, &mut errors)
-            } else {
-                let mut writer = ToWrite::new(rt.stdout());
-                obey_unwatched(&rt, &words, &mut reader, &mut writer, &mut errors)
-            }
+            let watch = Watch::on(ToWrite::new(rt.stderr()), errors.is_terminal);
+            let mut report = Report::of(&rt, &watch, ToWrite::new(rt.stdout()));
+            obey_watched(&watch, &words, &mut reader, &mut report, &mut errors)
         }
         Err(status) => status,
     };
     ExitCode::from(status)
 }
 
-// Does what the words ask for, where nobody watches.
-fn obey_unwatched<T: Wait + Threads + Sync + Files + AllocGlobal, R: Read, W: Write, E: Sink>(
-    rt: &T,
-    words: &Words,
-    reader: &mut FromRead<R>,
-    writer: &mut ToWrite<W>,
-    errors: &mut Errors<E>,
-) -> u8
-    requires reader { ⟦<FromRead<R> as Source>⟧.failed reader.old ≡ false }
-    requires writer { ⟦<ToWrite<W> as Sink>⟧.failed writer.old ≡ false }
-    ensures done { result ≡ 0 → HasObeyed words.now
-        (⟦<FromRead<R> as Source>⟧.remaining reader.old) (⟦<FromRead<R> as Source>⟧.remaining reader.new)
-        (⟦<ToWrite<W> as Sink>⟧.contents writer.old) (⟦<ToWrite<W> as Sink>⟧.contents writer.new) }
-    ensures works { result ≡ 0 → (⟦<ToWrite<W> as Sink>⟧.failed writer.new ≡ false)
-        × (⟦<ToWrite<W> as Sink>⟧.flushed writer.new ≡ true) }
-    ensures refused { result ≡ 2 ↔ AreRefused words.now }
-    ensures untouched { result ≡ 2 → (reader.new ≡ reader.old) × (writer.new ≡ writer.old) }
-    ensures statuses { result ≤ 3 }
-{
-    let means = Means { rt, gate: &Open };
-    let status = obey(&means, words, reader, writer, errors);
-    explain(rt.alloc(), words, reader, writer, errors);
-    status
-}
-
-// Does what the words ask for, and shows how far it is on a terminal.
+// Does what the words ask for, and shows how far it is where standard error is a terminal.
 fn obey_watched<
     'w,
     T: Wait + Threads + Clock + Sync + Files + AllocGlobal,
@@ -118,13 +80,13 @@ fn obey_watched<
     ensures statuses { result ≤ 3 }
 {
     let rt = report.runtime();
-    let watched = Watched { rt, watch };
-    let status = obey_beside(&watched, words, reader, report, errors);
+    let means = Means { rt, watch };
+    let status = obey_beside(&means, words, reader, report, errors);
     explain(rt.alloc(), words, reader, report.writer(), errors);
     status
 }
 
-// Does what the words ask for, while the terminal shows how far it is.
+// Does what the words ask for, while a terminal shows how far it is.
 fn obey_beside<
     T: Wait + Threads + Clock + Sync + Files + AllocGlobal,
     R: Source,
@@ -132,7 +94,7 @@ fn obey_beside<
     S: Sink + Send,
     E: Sink,
 >(
-    watched: &Watched<'_, T, S>,
+    means: &Means<'_, T, S>,
     words: &Words,
     reader: &mut R,
     writer: &mut W,
@@ -147,12 +109,7 @@ fn obey_beside<
     ensures untouched { result ≡ 2 → (reader.new ≡ reader.old) × (writer.new ≡ writer.old) }
     ensures statuses { result ≤ 3 }
 {
-    let rt = watched.rt;
-    let watch = watched.watch;
-    let means = Means {
-        rt,
-        gate: watch.gate(),
-    };
+    let (rt, watch) = (means.rt, means.watch);
     let mut obeying = || -> u8
         requires { (R.failed reader.now ≡ false) × (W.failed writer.now ≡ false) }
         ensures done { result ≡ 0 → HasObeyed words.entry.now
@@ -162,7 +119,7 @@ fn obey_beside<
         ensures refused { result ≡ 2 ↔ AreRefused words.entry.now }
         ensures untouched { result ≡ 2 → (reader.exit.now ≡ reader.entry.now) × (writer.exit.now ≡ writer.entry.now) }
         ensures statuses { result ≤ 3 }
-    { obey(&means, words, reader, writer, errors) };
+    { obey(means, words, reader, writer, errors) };
     watch.beside(rt, rt.alloc(), &mut obeying)
 }
 
@@ -196,8 +153,14 @@ fn file_name(words: &Words) -> &str {
 
 // Does what the words ask for. Returns the status: 0, or 1 where a device fails or the file can't be read, or 2 exactly
 // where the settings are refused, or 3 where the file or an answer is.
-fn obey<T: Wait + Threads + Sync + Files + AllocGlobal, G: Gate, R: Source, W: Sink, E: Sink>(
-    means: &Means<'_, T, G>,
+fn obey<
+    T: Wait + Threads + Sync + Files + AllocGlobal,
+    R: Source,
+    W: Sink,
+    S: Sink + Send,
+    E: Sink,
+>(
+    means: &Means<'_, T, S>,
     words: &Words,
     reader: &mut R,
     writer: &mut W,
@@ -241,8 +204,8 @@ fn obey<T: Wait + Threads + Sync + Files + AllocGlobal, G: Gate, R: Source, W: S
 }
 
 // Reports the lines of the input.
-fn report<T: Wait + Threads + Sync + AllocGlobal, G: Gate, R: Source, W: Sink, E: Sink>(
-    means: &Means<'_, T, G>,
+fn report<T: Wait + Threads + Sync + AllocGlobal, R: Source, W: Sink, S: Sink + Send, E: Sink>(
+    means: &Means<'_, T, S>,
     settings: &Settings,
     book: Option<&Book>,
     reader: &mut R,
@@ -259,8 +222,8 @@ fn report<T: Wait + Threads + Sync + AllocGlobal, G: Gate, R: Source, W: Sink, E
     ensures untouched { result ≡ 2 → (reader.new ≡ reader.old) × (writer.new ≡ writer.old) }
     ensures statuses { result ≤ 2 }
 {
-    let rt = means.rt;
-    match run(rt, rt.alloc(), reader, writer, settings, means.gate, book) {
+    let (rt, gate) = (means.rt, means.watch.gate());
+    match run(rt, rt.alloc(), reader, writer, settings, gate, book) {
         Ok(()) => STATUS_DONE,
         Err(fault) => print_run_fault(fault, errors),
     }

@@ -57,13 +57,13 @@ fn check_settled<R: AllocGlobal + Abort>(rt: &R, words: [u64; 2], sharing: Shari
         RootBound::of(&floor, seat),
         HintSeat::none(),
     );
-    if shared.shares() {
+    if sharing.is_over_table() {
         let Some(item) = frontier.entry(0) else {
             panic!(rt; "no item")
         };
         search_item(&shared, 0, &item, &Open, &mut worker);
     }
-    settle_all(&shared, &Open, &mut worker);
+    settle_all(&Open, &mut worker);
     assert!(rt; worker.settled() == squares.len() as u64);
     assert!(rt; worker.floor() == answer.score);
     assert!(rt; worker.root().interval.lower == answer.score);

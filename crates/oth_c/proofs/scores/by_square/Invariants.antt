@@ -2,7 +2,7 @@ use Rattle.std.proofs.Common.{◌≡◌, ◌<◌, ℕ, length}
 use Rattle.std.specs.Prelude.{slice_index_or}
 use Rattle.oth_rules.specs.declared.scoring.Scoring.{Scoring}
 use Rattle.oth_rules.specs.Position.{Position}
-use Rattle.oth_search.specs.Scores.{AreScores}
+use Rattle.oth_search.specs.Root.Scores.{AreScores}
 use Rattle.oth_c.specs.Scores.{no_score, score_at}
 use Rattle.oth_c.proofs.scores.by_square.Given as goal
 

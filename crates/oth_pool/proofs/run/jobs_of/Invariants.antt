@@ -6,6 +6,6 @@ use Rattle.oth_pool.proofs.run.jobs_of.Given as goal
 
 abbrev pub invariant-loop-hand : goal.invariant-loop-hand
 invariant-loop-hand g l =
-    (map (λ j. j.work.hand) l.jobs.items ≡ l.yielded) × All (λ j. Holds l.shared.frontier.now l.shared.scoring j.work) l.jobs.items
+    (map (λ j. j.work.hand) l.jobs.items ≡ l.yielded) × All (λ j. Holds l.search.frontier.now l.search.scoring j.work) l.jobs.items
     × (vec_len l.workers + length l.yielded ≡ vec_len l.fn.hands)
     × (vec_len l.jobs ≡ length l.yielded) × (vec_len l.fn.hands ≤ vec_capacity l.jobs)

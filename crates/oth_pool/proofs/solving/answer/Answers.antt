@@ -1,7 +1,7 @@
 use Rattle.std.proofs.Common.{ap, refl, sym, ◌∙◌, arith, rules}
 use Rattle.oth_rules.specs.Position.{pass, empty_count}
 use Rattle.oth_rules.proofs.SearchLaws.{is_over-false, empty_count-pass}
-use Rattle.oth_search.proofs.Replies.{can_move-from_moves, can_move-from_none, can_move-after_pass}
+use Rattle.oth_search.proofs.BoundsLemmas.Replies.{can_move-from_moves, can_move-from_none, can_move-after_pass}
 use Rattle.oth_pool.proofs.solving.answer.Goals as goal
 
 pub passed-requires-clause-none : goal.passed-requires-clause-none

@@ -1,5 +1,5 @@
 use Rattle.std.proofs.Common.{◌∙◌}
-use Rattle.oth_search.proofs.Fulls.{full_minimax}
+use Rattle.oth_search.proofs.BoundsLemmas.Fulls.{full_minimax}
 use Rattle.oth_pool.proofs.solving.solve.Goals as goal
 
 pub returns-clause-ok : goal.returns-clause-ok

@@ -1,4 +1,4 @@
-use Rattle.oth_search.proofs.Enclosing.{IsCanonical-canonical}
+use Rattle.oth_search.proofs.BoundsLemmas.Enclosing.{IsCanonical-canonical}
 use Rattle.oth_pool_tests.proofs.tests.has_entry.Goals as goal
 
 pub look-requires : goal.look-requires

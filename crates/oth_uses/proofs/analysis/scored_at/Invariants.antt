@@ -1,6 +1,6 @@
 use Rattle.std.proofs.Common.{◌≢◌, ◌<◌, ℕ}
 use Rattle.std.specs.Prelude.{slice_index_or}
-use Rattle.oth_search.specs.declared.scores.ScoredMove.{ScoredMove}
+use Rattle.oth_search.specs.declared.root.scores.ScoredMove.{ScoredMove}
 use Rattle.oth_uses.proofs.analysis.scored_at.Given as goal
 
 -- no move so far is to the square

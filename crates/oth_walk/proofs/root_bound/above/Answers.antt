@@ -5,7 +5,7 @@ use Rattle.oth_rules.specs.declared.scoring.Scoring.{Scoring}
 use Rattle.oth_rules.specs.Position.{Position}
 use Rattle.oth_rules.specs.Score.{score_of}
 use Rattle.oth_rules.specs.Value.{value}
-use Rattle.oth_search.specs.Interval.{Encloses}
+use Rattle.oth_search.specs.Bounds.Interval.{Encloses}
 use Rattle.oth_walk.proofs.root_bound.above.Goals as goal
 
 -- a true floor bounds the value from below, and no value is above 64

@@ -6,7 +6,7 @@ use Rattle.oth_run.proofs.engine.Engine.end_line.Goals as goal
 
 pub returns-in_err-push_text-clause-err : goal.returns-in_err-push_text-clause-err
 returns-in_err-push_text-clause-err g c = on_err_always c.from_residual.result (λ before done text held gathered.
-    beginning_within before _ done _ (c.in_err-push_text.ensures.err before done gathered) (with_end (reply c.args.settings.now) text, refl))
+    beginning_within before _ done _ (c.in_err-push_text.ensures.err before done gathered) (with_end (reply c.args.solver.now.settings) text, refl))
 
 pub returns-in_err-push_text-2-clause-err : goal.returns-in_err-push_text-2-clause-err
 returns-in_err-push_text-2-clause-err g c = on_err_always c.from_residual-in_err-push_text-2.result (λ before done text held gathered.

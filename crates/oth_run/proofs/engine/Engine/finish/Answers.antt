@@ -15,7 +15,7 @@ returns-clause-ok g c = on_ok_always c.flush.result (λ before done text held ga
 
 pub returns-clause-err : goal.returns-clause-err
 returns-clause-err g c = on_err_always c.flush.result (λ before done text held gathered.
-    let all = done ++ last_report (reply c.args.settings.now) text in
+    let all = done ++ last_report (reply c.args.solver.now.settings) text in
     let written = c.in_ok-write_to.ensures.ok before _ (c.in_ok-end_last.ensures.ok before done text held gathered) in
     (all, Appends-kept before _ _ _ written c.flush.ensures.bytes, ([], sym (append-nil all))))
 

@@ -10,7 +10,7 @@ abbrev pub invariant-loop : goal.invariant-loop
 invariant-loop g l = record {
   iterator : (goal.iterator-loop g).can_next l.iterator' × (goal.iterator-loop g).is_finite l.iterator';
   done : (input : List ℕ) × Consumes (g.R.Source.remaining l.fn.reader) (g.R.Source.remaining l.reader) input
-      × IsUpTo (reply l.settings) (Holds l.settings.command l.self.line) (g.W.Sink.contents l.fn.writer) (g.W.Sink.contents l.writer) [] input;
+      × IsUpTo (reply l.solver.settings) (Holds l.solver.settings.command l.self.line) (g.W.Sink.contents l.fn.writer) (g.W.Sink.contents l.writer) [] input;
   room : 0 < length l.buffer;
   waiting : l.self.waiting.bytes.items ≡ [];
   reader : g.R.Source.failed l.reader ≡ false;

@@ -9,7 +9,7 @@ pub returns-in_err-take_line-clause-err : goal.returns-in_err-take_line-clause-e
 returns-in_err-take_line-clause-err g c = on_err_always c.from_residual.result (λ before input start.
     let done = c.loop-line.invariant.done in
     let same = done.1 ∙ ap (λ l. done.0 ++ l) c.in-Some.ensures.joined ∙ sym (append_assoc done.0 _ _) in
-    stops_within (reply c.args.settings.now) before _ input _ done.0 _ _ same (c.in_err-take_line.ensures.err before _ (done.2 before input start)))
+    stops_within (reply c.args.solver.now.settings) before _ input _ done.0 _ _ same (c.in_err-take_line.ensures.err before _ (done.2 before input start)))
 
 pub loop-line-init : goal.loop-line-init
 loop-line-init g c = record { done = ([], refl, λ before input start. rw (append-nil input) start); works = refl }
@@ -32,6 +32,6 @@ pub returns-clause-ok : goal.returns-clause-ok
 returns-clause-ok g c = λ before input start.
     let done = c.loop-line.invariant.done in
     let so_far = done.2 before input start in
-    let part = up_to_part (reply c.args.settings.now) before _ _ c.in_default.ensures.none _ (Holds c.args.settings.now.command c.push.new.self) _ _ so_far
-    (c.push.ensures c.args.settings.now.command _ so_far.line) in
+    let part = up_to_part (reply c.args.solver.now.settings) before _ _ c.in_default.ensures.none _ (Holds c.args.solver.now.settings.command c.push.new.self) _ _ so_far
+    (c.push.ensures c.args.solver.now.settings.command _ so_far.line) in
     rw (append_assoc input done.0 _, ← done.1) at part

@@ -8,8 +8,8 @@ use Rattle.oth_run.proofs.engine.Engine.take_bytes.Given as goal
 abbrev pub invariant-loop-line : goal.invariant-loop-line
 invariant-loop-line g l = record {
   done : (front : List ℕ) × (l.bytes ≡ front ++ l.rest) × ((before : Option (List ℕ)) (input : List ℕ)
-      → IsUpTo (reply l.settings) (Holds l.settings.command l.fn.self.line) before (g.W.Sink.contents l.fn.writer) l.fn.self.waiting.bytes.items input
-      → IsUpTo (reply l.settings) (Holds l.settings.command l.self.line) before (g.W.Sink.contents l.writer) l.self.waiting.bytes.items (input ++ front));
+      → IsUpTo (reply l.solver.settings) (Holds l.solver.settings.command l.fn.self.line) before (g.W.Sink.contents l.fn.writer) l.fn.self.waiting.bytes.items input
+      → IsUpTo (reply l.solver.settings) (Holds l.solver.settings.command l.self.line) before (g.W.Sink.contents l.writer) l.self.waiting.bytes.items (input ++ front));
   works : g.W.Sink.failed l.writer ≡ g.W.Sink.failed l.fn.writer;
 }
 

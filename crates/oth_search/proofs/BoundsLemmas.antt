@@ -1,0 +1,6 @@
+pub mod Enclosing
+pub mod Entries
+pub mod Fulls
+pub mod KindLemmas
+pub mod Replies
+pub mod SquareSets

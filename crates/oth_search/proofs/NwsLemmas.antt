@@ -1,0 +1,2 @@
+pub mod LastBounds
+pub mod Lasts

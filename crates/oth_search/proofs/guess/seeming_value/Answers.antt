@@ -1,5 +1,0 @@
-use Rattle.std.proofs.Common.{rules}
-use Rattle.oth_search.proofs.guess.seeming_value.Goals as goal
-
-pub returns-clause-score : goal.returns-clause-score
-returns-clause-score g c = search rules

@@ -1,0 +1,31 @@
+use Rattle.std.proofs.Common.{refl, arith, ◌∙◌}
+use Rattle.std.specs.Prelude.{neg_ℤ}
+use Rattle.std.proofs.lemmas.Int.{ints}
+use Rattle.oth_search.specs.Ordering.Children.{IsChild}
+use Rattle.oth_search.proofs.OrderingLemmas.KeyLemmas.{All-refill}
+use Rattle.oth_search.proofs.BoundsLemmas.SquareSets.{Takes-same}
+use Rattle.oth_search.proofs.BoundsLemmas.Replies.{legal-moves}
+use Rattle.oth_search.proofs.BoundsLemmas.Enclosing.{IsScore-over}
+use Rattle.oth_search.proofs.RootLemmas.RootSearch.{IsScore-negated, IsScore-one}
+use Rattle.oth_search.proofs.root.guess.+glancing.Goals as goal
+
+pub glance-returns-clause-score : goal.glance-returns-clause-score
+glance-returns-clause-score g t c = IsScore-over c.args.scoring c.args.node.board _ (omega (arith, ints, c.final_score.ensures))
+
+pub glance_at_moves-loop-init : goal.glance_at_moves-loop-init
+glance_at_moves-loop-init g t c = record {
+  score = record { low = omega (arith, ints); high = omega (arith, ints) };
+  fixed = refl;
+  legal = legal-moves c.args.node.board c.args.node.moves c.args.node.legal;
+  each = c.ranked-ranked.ensures;
+}
+
+pub glance_at_moves-loop-preserved : goal.glance_at_moves-loop-preserved
+glance_at_moves-loop-preserved g t c = record {
+  score = IsScore-one _ (neg_ℤ c.glance-reply.result) _ _ c.greater-best.result _ c.loop.invariant.score
+      (IsScore-negated _ _ (omega (arith, ints)) c.glance-reply.ensures.score)
+      (omega (arith, ints)) (omega (arith, ints)) (omega (arith, ints)) c.greater-best.ensures.one;
+  fixed = c.glance-reply.ensures.fixed ∙ c.loop.invariant.fixed;
+  legal = λ s h. c.loop.invariant.legal s ((Takes-same _ _ _ _ c.square.ensures c.next_child-child.ensures.member c.without-left.ensures.rest).kept s h);
+  each = All-refill (IsChild c.args.node.board) _ _ _ c.loop.invariant.each c.next_child-child.ensures.children;
+}

@@ -1,6 +1,0 @@
-use Rattle.std.proofs.Common.{◌≡◌, length}
-use Rattle.oth_search.specs.Interval.{IsThreshold}
-use Rattle.oth_search.proofs.root.lead.Given as goal
-
-abbrev pub invariant-loop : goal.invariant-loop
-invariant-loop g l = IsThreshold l.start × (length l.replies ≡ length l.fn.replies) × (g.C.Cells.fixed l.cells ≡ g.C.Cells.fixed l.fn.cells)

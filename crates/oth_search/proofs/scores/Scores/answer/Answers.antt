@@ -1,6 +1,0 @@
-use Rattle.std.proofs.Common.{refl}
-use Rattle.oth_search.proofs.Fulls.{full_minimax}
-use Rattle.oth_search.proofs.scores.Scores.answer.Goals as goal
-
-pub returns-clause-full : goal.returns-clause-full
-returns-clause-full c = full_minimax c.args.self.now.answer c.args.self.now.answer.board c.args.self.now.answer.scoring refl refl

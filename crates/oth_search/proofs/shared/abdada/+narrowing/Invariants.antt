@@ -1,0 +1,23 @@
+use Rattle.std.proofs.Common.{◌≡◌, ◌+◌, ◌*◌}
+use Rattle.oth_search.proofs.shared.abdada.+narrowing.Given as goal
+
+abbrev pub decreases-narrow : goal.decreases-narrow
+decreases-narrow g l = 5 * l.plies
+
+abbrev pub decreases-narrow_past : goal.decreases-narrow_past
+decreases-narrow_past g l = 5 * l.plies + 1
+
+abbrev pub decreases-narrow_moves : goal.decreases-narrow_moves
+decreases-narrow_moves g l = 5 * l.plies + 4
+
+abbrev pub decreases-visit_all : goal.decreases-visit_all
+decreases-visit_all g l = 5 * l.plies + 3
+
+abbrev pub decreases-visit : goal.decreases-visit
+decreases-visit g l = 5 * l.plies + 2
+
+abbrev pub invariant-narrow_moves-loop-round : goal.invariant-narrow_moves-loop-round
+invariant-narrow_moves-loop-round g l = g.C.Cells.fixed l.cells ≡ g.C.Cells.fixed l.fn.cells
+
+abbrev pub invariant-visit_all-loop-square : goal.invariant-visit_all-loop-square
+invariant-visit_all-loop-square g l = g.C.Cells.fixed l.cells ≡ g.C.Cells.fixed l.fn.cells

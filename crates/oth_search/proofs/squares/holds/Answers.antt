@@ -1,6 +1,0 @@
-use Rattle.std.proofs.Common.{rules}
-use Rattle.oth_search.proofs.SquareSets.{In-word}
-use Rattle.oth_search.proofs.squares.holds.Goals as goal
-
-pub returns : goal.returns
-returns c = λ h. In-word c.args.set c.args.square c.word-word.result c.word-word.ensures.below c.word-word.ensures.value (search rules)

@@ -1,0 +1,103 @@
+//! Cells: a transposition table as a search sees it, and its law; and cells that keep nothing.
+ghost use Rattle.std.specs.Prelude.{◌≡◌, IfSome, IsNone};
+ghost use Rattle.oth_rules.specs.Symmetry.{IsCanonical};
+
+use super::entry::Entry;
+use super::solved::Solved;
+use oth_rules::{Board, Scoring};
+
+/// Where a search stores what it found: by default nowhere. What is stored may be lost. `look` and `recall` promise
+/// only that what they return is of the board and the scoring that were asked for.
+pub trait Cells {
+    /// What no call changes, such as the table that the cells belong to.
+    ghost Fixed: { Type 0 };
+
+    ghost fixed: { Self → Fixed };
+
+    /// Returns the entry of a canonical board under this scoring, if one is kept.
+    fn look(&mut self, _board: &Board, _scoring: Scoring) -> Option<Entry>
+        requires { IsCanonical _board.now }
+        ensures asked { IfSome result (λ e. (e.board ≡ _board.now) × (e.scoring ≡ _scoring)) }
+        ensures fixed { fixed self.new ≡ fixed self.old }
+    {
+        None
+    }
+
+    /// Offers an entry for storing. The cells are free to drop it.
+    fn put(&mut self, _entry: &Entry)
+        ensures fixed { fixed self.new ≡ fixed self.old }
+    {}
+
+    /// Whether boards of `empties` empty squares (9 and more) go to the local table instead of the shared one: by
+    /// default no.
+    fn remembers(&self, _empties: u8) -> bool {
+        false
+    }
+
+    /// Returns what the local table keeps of a board under this scoring, if anything: by default nothing. A search asks
+    /// for boards of 5 to 8 empty squares, and for those that `remembers` names.
+    fn recall(&mut self, _board: &Board, _scoring: Scoring) -> Option<Solved>
+        ensures asked { IfSome result (λ s. (s.board ≡ _board.now) × (s.scoring ≡ _scoring)) }
+        ensures fixed { fixed self.new ≡ fixed self.old }
+    {
+        None
+    }
+
+    /// Offers bounds of such a board to the local table. The cells are free to drop them, and by default do.
+    fn remember(&mut self, _solved: &Solved)
+        ensures fixed { fixed self.new ≡ fixed self.old }
+    {}
+}
+
+/// Cells that keep nothing: each look is `None`.
+#[derive(Clone, Copy, Debug)]
+pub struct NoCells;
+
+impl Cells for NoCells {
+    ghost Fixed = { Unit {0} };
+
+    ghost fixed = { λ c. tt };
+
+    fn look(&mut self, _board: &Board, _scoring: Scoring) -> Option<Entry>
+        ensures none { IsNone result }
+    {
+        None
+    }
+}
+
+/// Cells that may be missing: then nothing is found and nothing is kept.
+impl<C: Cells> Cells for Option<C> {
+    ghost use Rattle.std.specs.Prelude.{Option};
+    ghost use Rattle.std.specs.Option.{option_map};
+
+    ghost Fixed = { Option C.Fixed };
+
+    ghost fixed = { λ cells. option_map C.fixed cells };
+
+    fn look(&mut self, board: &Board, scoring: Scoring) -> Option<Entry> {
+        self.as_mut()?.look(board, scoring)
+    }
+
+    fn put(&mut self, entry: &Entry) {
+        if let Some(cells) = self {
+            cells.put(entry);
+        }
+    }
+
+    fn remembers(&self, empties: u8) -> bool {
+        match self {
+            Some(cells) => cells.remembers(empties),
+            None => false,
+        }
+    }
+
+    fn recall(&mut self, board: &Board, scoring: Scoring) -> Option<Solved> {
+        self.as_mut()?.recall(board, scoring)
+    }
+
+    fn remember(&mut self, solved: &Solved) {
+        if let Some(cells) = self {
+            cells.remember(solved);
+        }
+    }
+}

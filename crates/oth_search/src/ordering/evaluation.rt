@@ -1,0 +1,214 @@
+//! The static evaluation of a board, as it stands or after some plies, for move ordering.
+ghost use Rattle.std.specs.Prelude.{◌<◌, ◌≤◌, pos, neg_ℤ, ◌≤ℤ◌};
+
+use super::lookahead::{Span, look};
+use super::rank::{CORNERS, X_SQUARES, around, count};
+use crate::bounds::{first, without};
+use crate::nws::Node;
+use crate::tuning::{
+    CORNER_MOVE, CORNER_TAKEN, DISC, FEWEST_EMPTIES_AHEAD, FEWEST_EMPTIES_FIVE_AHEAD,
+    FEWEST_EMPTIES_FOUR_AHEAD, FEWEST_EMPTIES_THREE_AHEAD, MARGIN, MOVE, OPEN_TO_MOVER,
+    OPPOSING_X_SQUARE, STABLE_EDGE_DISC,
+};
+use oth_rules::{Board, NOT_H, Twin};
+
+/// How well a board seems to stand for its mover, -6,400 to 6,400 points.
+#[derive(Clone, Copy)]
+pub struct Evaluation {
+    points: i16,
+    ghost low: { neg_ℤ (pos 6400) ≤ℤ points },
+    ghost high: { points ≤ℤ pos 6400 },
+}
+
+impl Evaluation {
+    /// The worst one.
+    pub const WORST: Evaluation = Evaluation { points: -6400 };
+
+    /// The best one.
+    pub const BEST: Evaluation = Evaluation { points: 6400 };
+
+    /// The evaluation as the opponent sees it.
+    pub fn turned(self) -> Evaluation {
+        Evaluation {
+            points: -self.points,
+        }
+    }
+
+    /// The one with more points.
+    pub fn better(self, other: Evaluation) -> Evaluation {
+        if other.points > self.points {
+            other
+        } else {
+            self
+        }
+    }
+
+    /// The one with fewer points.
+    pub fn lesser(self, other: Evaluation) -> Evaluation {
+        if other.points < self.points {
+            other
+        } else {
+            self
+        }
+    }
+
+    /// The evaluation from which a child is looked at no further, if this one is the least so far: `MARGIN` points
+    /// above it.
+    pub fn enough(self) -> Evaluation {
+        Evaluation {
+            points: (self.points + MARGIN).min(6400),
+        }
+    }
+
+    /// Whether it has at least as many points as `enough`.
+    pub fn reaches(self, enough: Evaluation) -> bool {
+        self.points >= enough.points
+    }
+
+    /// How many points it is above the worst one, 0 to 12,800.
+    pub fn above_worst(self) -> u16
+        ensures { result ≤ 12800 }
+    {
+        (self.points + 6400) as u16
+    }
+}
+
+/// Evaluates a child for its mover, who has `moves`, to order the children of a board of `empties` empty squares: after
+/// some plies, or below `FEWEST_EMPTIES_AHEAD` as it stands. Less exact from `enough` on.
+pub fn evaluation_of(child: &Board, moves: u64, empties: u8, enough: Evaluation) -> Evaluation {
+    match plies_ahead(empties) {
+        0 => standing(Twin::of(child), moves),
+        1 => a_ply_ahead(child, moves, enough),
+        plies => look(Node::of(*child), plies, Span::up_to(enough)),
+    }
+}
+
+// How many plies the children of a board of `empties` empty squares are looked ahead.
+fn plies_ahead(empties: u8) -> u8 {
+    if empties < FEWEST_EMPTIES_AHEAD {
+        0
+    } else if empties < FEWEST_EMPTIES_THREE_AHEAD {
+        1
+    } else if empties < FEWEST_EMPTIES_FOUR_AHEAD {
+        3
+    } else if empties < FEWEST_EMPTIES_FIVE_AHEAD {
+        4
+    } else {
+        5
+    }
+}
+
+// Evaluates a child a ply ahead: after a forced pass the board as it stands, and a finished game by its discs.
+fn a_ply_ahead(child: &Board, moves: u64, enough: Evaluation) -> Evaluation {
+    if moves != 0 {
+        return look_past_moves(child, moves, enough);
+    }
+    let passed = Twin::of(child).pass();
+    let replies = passed.moves();
+    if replies != 0 {
+        return standing(passed, replies).turned();
+    }
+    by_discs(child)
+}
+
+/// The best evaluation as it stands after one of these moves, or the first that reaches `enough`.
+pub fn look_past_moves(board: &Board, moves: u64, enough: Evaluation) -> Evaluation {
+    let twin = Twin::of(board);
+    let mut best = Evaluation::WORST;
+    let mut rest = moves;
+    while rest != 0 {
+        let square = first(rest);
+        rest = without(rest, square);
+        if let Some(child) = twin.play(square) {
+            best = best.better(standing(child, child.moves()).turned());
+        }
+        if best.reaches(enough) {
+            return best;
+        }
+    }
+    best
+}
+
+/// Evaluates a finished game by its discs.
+pub fn by_discs(board: &Board) -> Evaluation {
+    Evaluation {
+        points: DISC * (count(board.own()) as i16 - count(board.opp()) as i16),
+    }
+}
+
+// Evaluates a board as it stands: the strength of the mover, who has `moves`, less that of the opponent.
+fn standing(twin: Twin, moves: u64) -> Evaluation {
+    let passed = twin.pass();
+    Evaluation {
+        points: strength(&twin.board(), moves) as i16
+            - strength(&passed.board(), passed.moves()) as i16,
+    }
+}
+
+// How strong the mover is, in points: moves, corners among them, empty squares beside opposing discs, corners taken,
+// discs that are held along an edge, and opposing discs that give a corner away.
+#[inline(always)]
+fn strength(board: &Board, moves: u64) -> u16
+    ensures { result ≤ 4800 }
+{
+    MOVE * count(moves)
+        + CORNER_MOVE * count(moves & CORNERS)
+        + OPEN_TO_MOVER * count(around(board.opp()) & board.empty_squares())
+        + CORNER_TAKEN * count(board.own() & CORNERS)
+        + STABLE_EDGE_DISC * count(stable_edge_discs(board.own()))
+        + OPPOSING_X_SQUARE * count(board.opp() & diagonal_to(board.empty_squares() & CORNERS))
+}
+
+// The first and the last row.
+const END_ROWS: u64 = 0xff00_0000_0000_00ff;
+
+// The first square of each of them.
+const ROW_STARTS: u64 = 0x0100_0000_0000_0001;
+
+// The squares of the columns a and h.
+const END_COLUMNS: u64 = 0x8181_8181_8181_8181;
+
+// The squares of the set that stand without a gap in a row with a corner of the set, along an edge: discs there are
+// never flipped.
+fn stable_edge_discs(set: u64) -> u64 {
+    let corners = set & CORNERS;
+    if corners == 0 {
+        return 0;
+    }
+    let rows = set & END_ROWS;
+    let columns = set & END_COLUMNS;
+    let eastwards = rows & !rows.wrapping_add(ROW_STARTS);
+    eastwards
+        | westwards(corners, rows & NOT_H)
+        | northwards(corners, columns)
+        | southwards(corners, columns)
+}
+
+// The squares of `from`, and those of the set that follow them to the west without a gap.
+fn westwards(from: u64, set: u64) -> u64 {
+    let one = from | (set & (from >> 1));
+    let pairs = set & (set >> 1);
+    let three = one | (pairs & (one >> 2));
+    three | (pairs & (pairs >> 2) & (three >> 4))
+}
+
+// As `westwards`, to the north.
+fn northwards(from: u64, set: u64) -> u64 {
+    let one = from | (set & (from >> 8));
+    let pairs = set & (set >> 8);
+    let three = one | (pairs & (one >> 16));
+    three | (pairs & (pairs >> 16) & (three >> 32))
+}
+
+// As `westwards`, to the south.
+fn southwards(from: u64, set: u64) -> u64 {
+    let one = from | (set & (from << 8));
+    let pairs = set & (set << 8);
+    let three = one | (pairs & (one << 16));
+    three | (pairs & (pairs << 16) & (three << 32))
+}
+
+// The squares diagonal to these corners.
+fn diagonal_to(corners: u64) -> u64 {
+    ((corners << 9) | (corners << 7) | (corners >> 7) | (corners >> 9)) & X_SQUARES
+}

@@ -1,0 +1,212 @@
+//! The score and all best moves of a board.
+ghost use Rattle.std.specs.Prelude.{◌≡◌, ◌<◌, ◌↔◌, negsuc, pos, ◌+ℤ◌, true, false, IsErr, IfOk, IfErr};
+ghost use Rattle.oth_rules.specs.Position.{empty_count, pass};
+ghost use Rattle.oth_rules.specs.Move.{can_move, is_over};
+ghost use Rattle.oth_rules.specs.Score.{score_of};
+ghost use Rattle.oth_rules.specs.Value.{value};
+ghost use Rattle.oth_rules.specs.Laws.{IsScore};
+ghost use Rattle.oth_search.specs.Bounds.Interval.{Encloses, Decides};
+ghost use Rattle.oth_search.specs.Bounds.Full.{IsFullMinimax};
+
+use super::observer::{Observer, Unobserved};
+use super::settle::settle_moves;
+use crate::bounds::{Answer, Cells, Interval, Kind, NoCells, Solved, known_of, with};
+use crate::local::{StackCells, is_remembered};
+use crate::ordering::order;
+use oth_rules::{Board, Scoring};
+use thiserror::Error;
+
+/// Refusal 1: a board with more empty squares than are solved, with their number.
+#[derive(Clone, Copy, PartialEq, Eq, Debug, Error)]
+#[error("the board has {empties} empty squares, and at most 30 are solved")]
+pub struct TooManyEmpties {
+    pub empties: u8,
+}
+
+/// The most empty squares of a board that is solved.
+pub const MOST_EMPTIES: u8 = 30;
+
+/// The score and all best moves of a board of at most 30 empty squares, by the caller's thread alone.
+pub fn solve_alone(board: &Board, scoring: Scoring) -> Result<Answer, TooManyEmpties>
+    ensures refused { IsErr result ↔ (30 < empty_count board.now) }
+    ensures counted { IfErr result (λ e. e.empties ≡ empty_count board.now) }
+    ensures solved { IfOk result (λ a. (a.board ≡ board.now) × (a.scoring ≡ scoring)) }
+    ensures full { IfOk result (IsFullMinimax board.now scoring) }
+{
+    let empties = board.empties();
+    if empties > MOST_EMPTIES {
+        return Err(TooManyEmpties { empties });
+    }
+    Ok(solve_without_table(*board, scoring))
+}
+
+// The answer of a board, by a search without a table.
+fn solve_without_table(board: Board, scoring: Scoring) -> Answer
+    ensures board { result.board ≡ board }
+    ensures scoring { result.scoring ≡ scoring }
+{
+    if is_remembered(board.empties()) {
+        solve_remembering(board, scoring)
+    } else {
+        solve_with(board, &mut NoCells, scoring)
+    }
+}
+
+// As `solve_without_table`, with a local table. That takes time to make and 96 KB of the stack, so it is kept out of
+// line.
+#[inline(never)]
+fn solve_remembering(board: Board, scoring: Scoring) -> Answer
+    ensures board { result.board ≡ board }
+    ensures scoring { result.scoring ≡ scoring }
+{
+    solve_with(board, &mut StackCells::new(), scoring)
+}
+
+/// The answer of a board, by a search over the cells.
+pub fn solve_with<C: Cells>(board: Board, cells: &mut C, scoring: Scoring) -> Answer
+    ensures board { result.board ≡ board }
+    ensures scoring { result.scoring ≡ scoring }
+    ensures fixed { C.fixed cells.new ≡ C.fixed cells.old }
+{
+    if board.is_over() {
+        return ended(board, scoring);
+    }
+    if board.moves() == 0 {
+        let passed = solve_unobserved(board.pass(), cells, scoring);
+        return before_pass(board, passed);
+    }
+    solve_unobserved(board, cells, scoring)
+}
+
+// The answer of a board whose mover has a move, by a search of which nobody hears.
+fn solve_unobserved<C: Cells>(board: Board, cells: &mut C, scoring: Scoring) -> Answer
+    requires { can_move board ≡ true }
+    ensures board { result.board ≡ board }
+    ensures scoring { result.scoring ≡ scoring }
+    ensures fixed { C.fixed cells.new ≡ C.fixed cells.old }
+{
+    let root = Solved::unknown(board, scoring);
+    solve_moves(root, &[], cells, &mut Unobserved)
+}
+
+/// The answer of a board that is over.
+pub fn ended(board: Board, scoring: Scoring) -> Answer
+    requires { is_over board ≡ true }
+    ensures board { result.board ≡ board }
+    ensures scoring { result.scoring ≡ scoring }
+{
+    Answer {
+        board,
+        scoring,
+        score: board.final_score(scoring),
+        best: 0,
+        kind: Kind::End,
+    }
+}
+
+/// The answer of a board whose mover must pass, by that of the board after the pass.
+pub fn before_pass(board: Board, passed: Answer) -> Answer
+    requires passed { passed.board ≡ pass board }
+    requires none { can_move board ≡ false }
+    requires some { can_move (pass board) ≡ true }
+    ensures board { result.board ≡ board }
+    ensures scoring { result.scoring ≡ passed.scoring }
+{
+    Answer {
+        board,
+        scoring: passed.scoring,
+        score: -passed.score,
+        best: 0,
+        kind: Kind::Pass,
+    }
+}
+
+/// The answer of a root whose mover has a move. A board after a move is searched only where `known` leaves open whether
+/// the move is exact or worse than the score. The observer hears of these searches; where it ends them early, the rest
+/// is searched without it.
+pub fn solve_moves<C: Cells, O: Observer<C>>(
+    root: Solved,
+    known: &[Solved],
+    cells: &mut C,
+    observer: &mut O,
+) -> Answer
+    requires { can_move root.board ≡ true }
+    ensures board { result.board ≡ root.board }
+    ensures scoring { result.scoring ≡ root.scoring }
+    ensures fixed { C.fixed cells.new ≡ C.fixed cells.old }
+{
+    let replies = settle_moves(&root, known, cells, observer);
+    let closer = raised(root, replies.as_slice());
+    best_moves(closer, replies.as_slice(), cells)
+}
+
+// The root with the greatest lower bound that a reply gives it.
+fn raised(root: Solved, replies: &[Solved]) -> Solved
+    ensures board { result.board ≡ root.board }
+    ensures scoring { result.scoring ≡ root.scoring }
+{
+    let mut closer = root;
+    let squares = order(&root.board);
+    for square in squares.as_slice() {
+        if let Some(child) = root.board.play(*square) {
+            let reply = known_of(child, replies, root.scoring);
+            if let Ok(bound) = Solved::lift(&root.board, *square, &reply) {
+                closer = closer.joined(&bound);
+            }
+        }
+    }
+    closer
+}
+
+// The score of a root and the moves that reach it. The score starts at the root's lower bound, and a move is searched
+// only where too little is known of it.
+fn best_moves<C: Cells>(root: Solved, replies: &[Solved], cells: &mut C) -> Answer
+    requires { can_move root.board ≡ true }
+    ensures board { result.board ≡ root.board }
+    ensures scoring { result.scoring ≡ root.scoring }
+    ensures fixed { C.fixed cells.new ≡ C.fixed cells.old }
+{
+    let mut score = root.interval.lower;
+    let mut best = 0;
+    let squares = order(&root.board);
+    for square in squares.as_slice() {
+        let child = root.board.play_legal(*square);
+        let reply = reply_below(&child, -score, replies, cells, root.scoring);
+        if reply.lower > -score {
+            continue;
+        }
+        if -reply.lower > score {
+            score = -reply.lower;
+            best = with(0, *square);
+        } else {
+            best = with(best, *square);
+        }
+    }
+    Answer {
+        board: root.board,
+        scoring: root.scoring,
+        score,
+        best,
+        kind: Kind::Move,
+    }
+}
+
+// Bounds of a board, exact if its value is at most `limit`, else above `limit`: those in `known`, or else by a search.
+fn reply_below<C: Cells>(
+    board: &Board,
+    limit: i8,
+    known: &[Solved],
+    cells: &mut C,
+    scoring: Scoring,
+) -> Interval
+    requires { IsScore limit }
+    ensures encloses { Encloses result.lower result.upper (value (score_of scoring) board.now) }
+    ensures decides { Decides result.lower result.upper (negsuc 64) (limit +ℤ pos 1) }
+    ensures fixed { C.fixed cells.new ≡ C.fixed cells.old }
+{
+    let told = known_of(*board, known, scoring);
+    if told.interval.decides(-65, limit + 1) {
+        return told.interval;
+    }
+    Solved::at_most(board, limit, cells, scoring).interval
+}

@@ -1,0 +1,370 @@
+//! The first guess of a root's score, by a selective search: few moves at each node. One worker makes it alone; several
+//! make it together, where each takes boards that no other one is at, and hears what the others saw of a board.
+ghost use Rattle.std.specs.Prelude.{◌≡◌, ◌<◌, ◌≤◌, ◌≤ℤ◌, pos, length};
+ghost use Rattle.oth_rules.specs.Laws.{IsScore};
+ghost use Rattle.oth_search.specs.Bounds.Interval.{IsThreshold};
+
+use super::bracket::Bracket;
+use super::observer::Observer;
+use crate::bounds::{Cells, Interval, Solved, greater, lesser, without};
+use crate::nws::{Node, nws_node};
+use crate::ordering::{Child, next_child, ranked, try_again};
+use crate::tuning::{
+    FEWEST_EMPTIES_GUESS_LOOKED, GUESS_ROUNDS, MANY_PLIES, MOST_EMPTIES_GUESS_LOOKED,
+    MOST_EMPTIES_IN_FULL, MOST_RANKED, TURNS, WIDTH, WIDTH_AT_FIRST,
+};
+use arrayvec::ArrayVec;
+use oth_rules::{Board, Scoring};
+
+// The lower bounds that the replies to a root seem to have, in the order of the list of replies.
+#[derive(Clone, Copy)]
+struct Seen {
+    root: Board,
+    bounds: [Interval; 64],
+}
+
+/// Returns the least value that a reply seems to have, by null windows from `likely` on. Moves the reply that seems to
+/// have it to the front.
+pub fn guess<C: Cells, O: Observer<C>>(
+    root: &Board,
+    replies: &mut [Solved],
+    likely: i8,
+    cells: &mut C,
+    observer: &mut O,
+) -> i8
+    requires few { length replies.old ≤ 64 }
+    requires likely { IsThreshold likely }
+    ensures score { IsScore result }
+    ensures length { length replies.new ≡ length replies.old }
+    ensures fixed { C.fixed cells.new ≡ C.fixed cells.old }
+{
+    let mut bracket = Bracket::from(likely);
+    let mut seen = Seen {
+        root: *root,
+        bounds: [Interval::all(); 64],
+    };
+    for _ in 0..GUESS_ROUNDS {
+        let at = bracket.at;
+        let found = least_seen(replies, &mut seen, at, cells, observer);
+        let is_reached = found <= at;
+        observer.tell_seen(root, -at - 1, is_reached);
+        bracket = if is_reached {
+            bracket.at_most(found)
+        } else {
+            bracket.at_least(found)
+        };
+        if bracket.is_close() {
+            break;
+        }
+    }
+    bracket.most()
+}
+
+// Returns a value of at most `at` that a reply seems to have, and moves that reply to the front; or else the least
+// value that one seems to have, or what another worker told. In the first round defers replies that another worker is
+// at, but for the one in front.
+fn least_seen<C: Cells, O: Observer<C>>(
+    replies: &mut [Solved],
+    seen: &mut Seen,
+    at: i8,
+    cells: &mut C,
+    observer: &mut O,
+) -> i8
+    requires few { length replies.old ≤ 64 }
+    requires threshold { IsThreshold at }
+    ensures score { IsScore result }
+    ensures length { length replies.new ≡ length replies.old }
+    ensures fixed { C.fixed cells.new ≡ C.fixed cells.old }
+{
+    let mut asked = [false; 64];
+    let mut least = 64;
+    for turn in 0..TURNS {
+        for place in 0..replies.len() {
+            let reply = replies[place];
+            let is_left = turn == 0 && place > 0 && observer.is_left(&reply.board);
+            if asked[place] || is_left {
+                continue;
+            }
+            asked[place] = true;
+            let found = least_of(&reply, seen.bounds[place], at, cells, observer);
+            if found <= at {
+                replies.swap(0, place);
+                seen.bounds.swap(0, place);
+                return found;
+            }
+            seen.bounds[place] = Interval {
+                lower: found,
+                upper: 64,
+            };
+            least = lesser(least, found);
+            if let Some(is_reached) = observer.seen(&seen.root, -at - 1) {
+                return told(replies, at, is_reached, observer);
+            }
+        }
+    }
+    least
+}
+
+// Returns a bound of the value that a reply seems to have, on its side of `at`. Looks at the reply only if it may be at
+// most `at` by `seen`, what it seemed to have before.
+fn least_of<C: Cells, O: Observer<C>>(
+    reply: &Solved,
+    seen: Interval,
+    at: i8,
+    cells: &mut C,
+    observer: &mut O,
+) -> i8
+    requires { IsThreshold at }
+    ensures score { IsScore result }
+    ensures fixed { C.fixed cells.new ≡ C.fixed cells.old }
+{
+    if seen.lower > at {
+        return seen.lower;
+    }
+    glance_after_move(reply, at, cells, observer)
+}
+
+// Takes over what another worker told of the root: whether a reply seems to have at most `at`. Moves that reply to the
+// front. Returns `at`, or `at + 1` if there is none.
+fn told<C: Cells, O: Observer<C>>(
+    replies: &mut [Solved],
+    at: i8,
+    is_reached: bool,
+    observer: &mut O,
+) -> i8
+    requires { IsThreshold at }
+    ensures score { IsScore result }
+    ensures length { length replies.new ≡ length replies.old }
+{
+    if !is_reached {
+        return at + 1;
+    }
+    for place in 0..replies.len() {
+        let board = replies[place].board;
+        if observer.seen(&board, at) == Some(false) {
+            replies.swap(0, place);
+            return at;
+        }
+    }
+    at
+}
+
+// Returns a bound, on its side of `alpha`, of the value that the board after a root's move seems to have: what another
+// worker told, or else by a glance at all its moves.
+fn glance_after_move<C: Cells, O: Observer<C>>(
+    reply: &Solved,
+    alpha: i8,
+    cells: &mut C,
+    observer: &mut O,
+) -> i8
+    requires { IsThreshold alpha }
+    ensures score { IsScore result }
+    ensures fixed { C.fixed cells.new ≡ C.fixed cells.old }
+{
+    let board = reply.board;
+    if let Some(is_above) = observer.seen(&board, alpha) {
+        return beside(alpha, is_above);
+    }
+    observer.begin(&board);
+    let found = glance_all(&board, alpha, cells, observer, reply.scoring);
+    observer.tell_seen(&board, alpha, found > alpha);
+    observer.end(&board);
+    found
+}
+
+// The bound of a value that seems to be above `alpha`, or not: `alpha + 1`, or `alpha`.
+fn beside(alpha: i8, is_above: bool) -> i8
+    requires { IsThreshold alpha }
+    ensures { IsScore result }
+{
+    if is_above { alpha + 1 } else { alpha }
+}
+
+// As `glance_after_move`, but always glances: at all moves of the board, or at those after a forced pass.
+fn glance_all<C: Cells, O: Observer<C>>(
+    board: &Board,
+    alpha: i8,
+    cells: &mut C,
+    observer: &mut O,
+    scoring: Scoring,
+) -> i8
+    requires { IsThreshold alpha }
+    ensures score { IsScore result }
+    ensures fixed { C.fixed cells.new ≡ C.fixed cells.old }
+{
+    let node = Node::of(*board);
+    if node.moves != 0 {
+        return glance_at_all_moves(node, alpha, cells, observer, scoring);
+    }
+    let passed = Node::of(board.pass());
+    if passed.moves != 0 {
+        return -glance_at_all_moves(passed, -alpha - 1, cells, observer, scoring);
+    }
+    board.final_score(scoring)
+}
+
+// As `glance_all`, of a board whose mover has a move. In the first round defers children that another worker is at.
+fn glance_at_all_moves<C: Cells, O: Observer<C>>(
+    node: Node,
+    alpha: i8,
+    cells: &mut C,
+    observer: &mut O,
+    scoring: Scoring,
+) -> i8
+    requires { IsThreshold alpha }
+    ensures score { IsScore result }
+    ensures fixed { C.fixed cells.new ≡ C.fixed cells.old }
+{
+    let mut ranked: ArrayVec<Child, MOST_RANKED> = ranked(
+        &node,
+        FEWEST_EMPTIES_GUESS_LOOKED,
+        MOST_EMPTIES_GUESS_LOOKED,
+    );
+    let mut best = -64;
+    let mut left = node.moves;
+    for turn in 0..TURNS {
+        let mut rest = left;
+        try_again(ranked.as_mut_slice(), left);
+        while rest != 0 {
+            let child = next_child(&node.board, ranked.as_mut_slice(), rest);
+            rest = without(rest, child.square());
+            if turn == 0 && observer.is_left(&child.board) {
+                continue;
+            }
+            left = without(left, child.square());
+            let reply = -glance_after_reply(child.board, -alpha - 1, cells, observer, scoring);
+            if reply > alpha {
+                return reply;
+            }
+            best = greater(best, reply);
+            if let Some(is_above) = observer.seen(&node.board, alpha) {
+                return beside(alpha, is_above);
+            }
+        }
+    }
+    best
+}
+
+// Returns a bound, on its side of `alpha`, of the value that the board after a reply to a root's move seems to have:
+// what another worker told, or else by `seeming_value`.
+fn glance_after_reply<C: Cells, O: Observer<C>>(
+    board: Board,
+    alpha: i8,
+    cells: &mut C,
+    observer: &mut O,
+    scoring: Scoring,
+) -> i8
+    requires { IsThreshold alpha }
+    ensures score { IsScore result }
+    ensures fixed { C.fixed cells.new ≡ C.fixed cells.old }
+{
+    if let Some(is_above) = observer.seen(&board, alpha) {
+        return beside(alpha, is_above);
+    }
+    observer.begin(&board);
+    let found = seeming_value(board, alpha, cells, scoring);
+    observer.tell_seen(&board, alpha, found > alpha);
+    observer.end(&board);
+    found
+}
+
+// How far a glance sees: `plies` plies, and `width` moves of the first board.
+#[derive(Clone, Copy)]
+struct Sight {
+    plies: u8,
+    width: usize,
+}
+
+impl Sight {
+    // The sight from a board after a reply: as many plies as lead to boards of few empty squares, which are searched in
+    // full.
+    fn after_reply(board: &Board) -> Sight {
+        let plies = board.empties().saturating_sub(MOST_EMPTIES_IN_FULL);
+        Sight {
+            plies,
+            width: if plies >= MANY_PLIES {
+                WIDTH_AT_FIRST
+            } else {
+                WIDTH
+            },
+        }
+    }
+
+    // The sight one ply on.
+    fn below(self) -> Sight
+        requires { 0 < self.plies }
+        ensures { result.plies < self.plies }
+    {
+        Sight {
+            plies: self.plies - 1,
+            width: WIDTH,
+        }
+    }
+}
+
+/// Returns a bound, on its side of `alpha` (-64 to 63), of the value that the board after a reply to a root's move
+/// seems to have, by the selective search. No answer depends on it.
+pub fn seeming_value<C: Cells>(board: Board, alpha: i8, cells: &mut C, scoring: Scoring) -> i8
+    requires { IsThreshold alpha }
+    ensures score { IsScore result }
+    ensures fixed { C.fixed cells.new ≡ C.fixed cells.old }
+{
+    let sight = Sight::after_reply(&board);
+    glance(Node::of(board), alpha, sight, cells, scoring)
+}
+
+// As `seeming_value`, of any node, as far as `sight` goes.
+#[cycle(glancing)]
+fn glance<C: Cells>(node: Node, alpha: i8, sight: Sight, cells: &mut C, scoring: Scoring) -> i8
+    requires { IsThreshold alpha }
+    ensures score { IsScore result }
+    ensures fixed { C.fixed cells.new ≡ C.fixed cells.old }
+{
+    if sight.plies == 0 {
+        return nws_node(node, alpha, cells, scoring);
+    }
+    if node.moves != 0 {
+        return glance_at_moves(node, alpha, sight, cells, scoring);
+    }
+    let passed = Node::of(node.board.pass());
+    if passed.moves != 0 {
+        return -glance_at_moves(passed, -alpha - 1, sight, cells, scoring);
+    }
+    node.board.final_score(scoring)
+}
+
+// As `glance`, of a node whose mover has a move: by the `sight.width` best-ranked moves.
+#[cycle(glancing)]
+fn glance_at_moves<C: Cells>(
+    node: Node,
+    alpha: i8,
+    sight: Sight,
+    cells: &mut C,
+    scoring: Scoring,
+) -> i8
+    requires plies { 0 < sight.plies }
+    requires threshold { IsThreshold alpha }
+    ensures score { IsScore result }
+    ensures fixed { C.fixed cells.new ≡ C.fixed cells.old }
+{
+    let mut ranked: ArrayVec<Child, MOST_RANKED> = ranked(
+        &node,
+        FEWEST_EMPTIES_GUESS_LOOKED,
+        MOST_EMPTIES_GUESS_LOOKED,
+    );
+    let mut best = -64;
+    let mut left = node.moves;
+    for _ in 0..sight.width {
+        if left == 0 {
+            break;
+        }
+        let child = next_child(&node.board, ranked.as_mut_slice(), left);
+        left = without(left, child.square());
+        let reply = -glance(child.node(), -alpha - 1, sight.below(), cells, scoring);
+        if reply > alpha {
+            return reply;
+        }
+        best = greater(best, reply);
+    }
+    best
+}

@@ -1,0 +1,99 @@
+//! The hooks of the root driver.
+ghost use Rattle.std.specs.Prelude.{◌≡◌, negsuc, pos, ◌≤ℤ◌};
+ghost use Rattle.oth_rules.specs.Laws.{IsScore};
+ghost use Rattle.oth_search.specs.Bounds.Interval.{IsThreshold};
+
+use super::step::Pace;
+use crate::bounds::{Cells, Interval, Solved};
+use oth_rules::Board;
+
+/// Hooks of the root driver, called in the thread that searches: they hear of the searches of the boards after a root's
+/// moves, tell what other workers found, and choose how such a board is searched. By default one worker searches alone,
+/// each null window to its end. No answer depends on them.
+pub trait Observer<C: Cells> {
+    /// A search of the board after a move is about to begin.
+    fn before(&mut self, _child: &Board) {}
+
+    /// That search has ended; `replies` has the bounds of the boards after all moves by now.
+    fn after(&mut self, _child: &Board, _replies: &[Solved]) {}
+
+    /// Returns what is known of the board after a move by now, whoever found it.
+    fn hear(&mut self, known: &Solved, _cells: &mut C) -> Solved
+        ensures board { result.board ≡ known.now.board }
+        ensures scoring { result.scoring ≡ known.now.scoring }
+        ensures fixed { C.fixed _cells.new ≡ C.fixed _cells.old }
+    {
+        *known
+    }
+
+    /// Returns the least upper bound that is known of any board after a move, whoever found it: `own`, or less.
+    fn best(&mut self, own: i8) -> i8
+        requires { IsScore own }
+        ensures { IsScore result }
+    {
+        own
+    }
+
+    /// Whether others know enough of the board after a move, so that it needs no further search.
+    fn is_done(&mut self, _child: &Board) -> bool {
+        false
+    }
+
+    /// Returns the threshold of the next null window for a value between `bounds`, where no better move is known.
+    /// `start` was the first threshold of all.
+    fn next(&mut self, bounds: Interval, start: i8, pace: Pace) -> i8
+        requires { IsThreshold start }
+        ensures low { negsuc 64 ≤ℤ result }
+        ensures high { result ≤ℤ pos 64 }
+    {
+        pace.onward(bounds, start)
+    }
+
+    /// Returns closer bounds of the board after a move. They decide whether its value is above `alpha`, unless the
+    /// search ends early.
+    fn decide(&mut self, known: &Solved, alpha: i8, cells: &mut C) -> Solved
+        requires low { negsuc 64 ≤ℤ alpha }
+        requires high { alpha ≤ℤ pos 64 }
+        ensures board { result.board ≡ known.now.board }
+        ensures scoring { result.scoring ≡ known.now.scoring }
+        ensures lower { known.now.interval.lower ≤ℤ result.interval.lower }
+        ensures upper { result.interval.upper ≤ℤ known.now.interval.upper }
+        ensures fixed { C.fixed cells.new ≡ C.fixed cells.old }
+    {
+        known.decided_at(alpha, cells)
+    }
+
+    /// During a first guess: whether the board seems to have more than `alpha`, if another worker told it.
+    fn seen(&mut self, _board: &Board, _alpha: i8) -> Option<bool>
+        requires { IsThreshold _alpha }
+    {
+        None
+    }
+
+    /// During a first guess: tells the others whether the board seems to have more than `alpha`.
+    fn tell_seen(&mut self, _board: &Board, _alpha: i8, _is_above: bool)
+        requires { IsThreshold _alpha }
+    {}
+
+    /// During a first guess: whether the board is deferred, since another worker is at it.
+    fn is_left(&mut self, _board: &Board) -> bool {
+        false
+    }
+
+    /// During a first guess: a look at the board begins.
+    fn begin(&mut self, _board: &Board) {}
+
+    /// That look has ended.
+    fn end(&mut self, _board: &Board) {}
+
+    /// Whether the search ends, with no further null window.
+    fn is_over(&self, _cells: &C) -> bool {
+        false
+    }
+}
+
+/// An observer that does nothing.
+#[derive(Clone, Copy, Debug)]
+pub struct Unobserved;
+
+impl<C: Cells> Observer<C> for Unobserved {}

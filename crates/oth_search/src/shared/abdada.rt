@@ -1,0 +1,291 @@
+//! The shared search: null windows over a tree that several workers search, with the hooks of `Company` at each node. A
+//! child that another worker is at is deferred, as in ABDADA (J.-C. Weill, The ABDADA distributed minimax search
+//! algorithm, 1996), and a search that is of no more use is given up.
+ghost use Rattle.std.specs.Prelude.{◌≡◌, pos, negsuc, ◌≤ℤ◌, false};
+ghost use Rattle.oth_rules.specs.Move.{can_move};
+
+use super::company::Company;
+use crate::bounds::{Cells, Entry, Interval, NullWindow, Solved, first, known_below, without};
+use crate::root::MOST_EMPTIES;
+use crate::tuning::{LAST_MOVE_ROUND, MOVE_ROUNDS};
+use oth_rules::{Board, Scoring, Square};
+use std::alloc::Global;
+
+impl Solved {
+    /// The board with closer bounds, by a shared search of its moves. They decide the window unless the search is given
+    /// up, or there is no memory for its list of children.
+    pub fn narrowed_in<C: Cells, H: Company<C>>(
+        &self,
+        window: NullWindow,
+        cells: &mut C,
+        company: &mut H,
+    ) -> Solved
+        ensures board { result.board ≡ self.now.board }
+        ensures scoring { result.scoring ≡ self.now.scoring }
+        ensures lower { self.now.interval.lower ≤ℤ result.interval.lower }
+        ensures upper { result.interval.upper ≤ℤ self.now.interval.upper }
+        ensures fixed { C.fixed cells.new ≡ C.fixed cells.old }
+    {
+        if window.is_decided(self.interval) {
+            return *self;
+        }
+        let unknown = Solved::unknown(self.board, self.scoring);
+        self.joined(&narrow(&unknown, window, MOST_EMPTIES, cells, company))
+    }
+}
+
+// Bounds of the board's value, by a shared search at most `plies` plies deep. They decide the window as `narrowed_in`
+// says.
+#[cycle(narrowing)]
+fn narrow<C: Cells, H: Company<C>>(
+    asked: &Solved,
+    window: NullWindow,
+    plies: u8,
+    cells: &mut C,
+    company: &mut H,
+) -> Solved
+    ensures board { result.board ≡ asked.now.board }
+    ensures scoring { result.scoring ≡ asked.now.scoring }
+    ensures fixed { C.fixed cells.new ≡ C.fixed cells.old }
+{
+    let board = asked.board;
+    if plies == 0 || board.empties() < company.fewest() {
+        return window.search(&board, cells, asked.scoring);
+    }
+    if !board.can_move() {
+        return narrow_past(asked, window, plies - 1, cells, company);
+    }
+    let known = Solved::looked_up(&board, cells, asked.scoring);
+    if window.is_decided(known.interval) {
+        return known;
+    }
+    let depth = company.enter(&board, window);
+    let found = narrow_moves(asked, window, plies - 1, cells, company);
+    company.leave(depth);
+    if window.is_decided(found.interval) {
+        return found;
+    }
+    found.joined(&Solved::looked_up(&board, cells, asked.scoring))
+}
+
+// As `narrow`, of a board whose mover has no move.
+#[cycle(narrowing)]
+fn narrow_past<C: Cells, H: Company<C>>(
+    asked: &Solved,
+    window: NullWindow,
+    plies: u8,
+    cells: &mut C,
+    company: &mut H,
+) -> Solved
+    requires { can_move asked.now.board ≡ false }
+    ensures board { result.board ≡ asked.now.board }
+    ensures scoring { result.scoring ≡ asked.now.scoring }
+    ensures fixed { C.fixed cells.new ≡ C.fixed cells.old }
+{
+    let board = asked.board;
+    let passed = board.pass();
+    if !passed.can_move() {
+        return window.search(&board, cells, asked.scoring);
+    }
+    let after = Solved::unknown(passed, asked.scoring);
+    narrow(&after, window.turned(), plies, cells, company).before_pass(&board)
+}
+
+// A board while its moves are searched.
+#[derive(Drop)]
+struct Node {
+    board: Board,
+    scoring: Scoring,
+    window: NullWindow,
+    // How many moves are searched even if another worker is at them, and whether later ones may be deferred.
+    together: usize,
+    leaves: bool,
+    // The moves searched so far, the first of the best among them, and the score that it gives.
+    searched: u64,
+    best: Square,
+    score: i8,
+    // The bounds of the boards after them, or of the boards after a forced pass there.
+    children: Vec<Solved>,
+}
+
+impl Node {
+    // The node of a board whose moves are about to be searched.
+    fn of(asked: &Solved, window: NullWindow, together: usize, alloc: Global) -> Node
+        ensures board { result.board ≡ asked.now.board }
+        ensures scoring { result.scoring ≡ asked.now.scoring }
+    {
+        Node {
+            board: asked.board,
+            scoring: asked.scoring,
+            window,
+            together,
+            leaves: true,
+            searched: 0,
+            best: Square::numbered(0),
+            score: -65,
+            children: Vec::new(alloc),
+        }
+    }
+
+    // Whether the search of this child may be deferred.
+    fn may_leave(&self, child: &Board, fewest: u8) -> bool {
+        self.leaves && (child.empties() < fewest || self.children.len() >= self.together)
+    }
+
+    // Takes in the bounds of the board after a move.
+    fn take(&mut self, square: Square, solved: Solved)
+        ensures board { self.new.board ≡ self.old.board }
+        ensures scoring { self.new.scoring ≡ self.old.scoring }
+    {
+        let score = -upper_of(&solved);
+        if score > self.score {
+            self.score = score;
+            self.best = square;
+        }
+        let _ = self.children.push(solved.awake());
+    }
+
+    // The board, with all scores as its bounds.
+    fn unknown(&self) -> Solved
+        ensures board { result.board ≡ self.now.board }
+        ensures scoring { result.scoring ≡ self.now.scoring }
+    {
+        Solved::unknown(self.board, self.scoring)
+    }
+}
+
+// Bounds of the board's value by its moves, each of which is searched at most `plies` plies deep.
+#[cycle(narrowing)]
+fn narrow_moves<C: Cells, H: Company<C>>(
+    asked: &Solved,
+    window: NullWindow,
+    plies: u8,
+    cells: &mut C,
+    company: &mut H,
+) -> Solved
+    ensures board { result.board ≡ asked.now.board }
+    ensures scoring { result.scoring ≡ asked.now.scoring }
+    ensures fixed { C.fixed cells.new ≡ C.fixed cells.old }
+{
+    let board = asked.board;
+    if let Some(found) = decided_by_child(asked, window, cells) {
+        return asked.joined(&found);
+    }
+    let squares = company.order(&board);
+    let together = company.together(board.empties());
+    let mut node = Node::of(asked, window, together, company.alloc());
+    for round in 0..MOVE_ROUNDS {
+        node.leaves = round < LAST_MOVE_ROUND;
+        if let Some(found) = visit_all(&mut node, squares.as_slice(), plies, cells, company) {
+            return asked.joined(&found);
+        }
+    }
+    let solved = known_below(board, 1, node.children.as_slice(), asked.scoring);
+    put(&solved, cells);
+    if solved.interval.lower == solved.interval.upper {
+        company.prefer(&board, node.best);
+    }
+    solved
+}
+
+// Enhanced transposition cutoff: the bound of the board that a child's entry gives, if that decides the window.
+fn decided_by_child<C: Cells>(asked: &Solved, window: NullWindow, cells: &mut C) -> Option<Solved>
+    ensures fixed { C.fixed cells.new ≡ C.fixed cells.old }
+{
+    let mut rest = asked.board.moves();
+    while rest != 0 {
+        let square = first(rest);
+        rest = without(rest, square);
+        let child = asked.board.play(square)?;
+        let reply = Solved::looked_up(&child, cells, asked.scoring);
+        if window.is_reached(-upper_of(&reply)) {
+            return Some(lifted(&asked.board, square, &reply, cells));
+        }
+    }
+    None
+}
+
+// Makes one round through the moves not searched yet. Returns bounds of the board once no further move is to be
+// searched.
+#[cycle(narrowing)]
+fn visit_all<C: Cells, H: Company<C>>(
+    node: &mut Node,
+    squares: &[Square],
+    plies: u8,
+    cells: &mut C,
+    company: &mut H,
+) -> Option<Solved>
+    ensures fixed { C.fixed cells.new ≡ C.fixed cells.old }
+{
+    for square in squares {
+        if node.searched & square.word() == 0 {
+            let found = visit(node, *square, plies, cells, company);
+            if found.is_some() {
+                return found;
+            }
+        }
+    }
+    None
+}
+
+// Searches one move, unless it is deferred. Returns bounds of the board if no further move is to be searched: after a
+// cutoff, or all scores if the search is given up.
+#[cycle(narrowing)]
+fn visit<C: Cells, H: Company<C>>(
+    node: &mut Node,
+    square: Square,
+    plies: u8,
+    cells: &mut C,
+    company: &mut H,
+) -> Option<Solved>
+    ensures fixed { C.fixed cells.new ≡ C.fixed cells.old }
+{
+    let child = node.board.play(square)?;
+    if node.may_leave(&child, company.fewest()) && company.is_left(&child) {
+        return None;
+    }
+    company.begin(&child);
+    let asked = Solved::unknown(child, node.scoring);
+    let solved = narrow(&asked, node.window.turned(), plies, cells, company);
+    company.end(&child);
+    node.searched |= square.word();
+    if node.window.is_reached(-upper_of(&solved)) {
+        company.prefer(&node.board, square);
+        return Some(lifted(&node.board, square, &solved, cells));
+    }
+    node.take(square, solved);
+    if company.gives_up(&child, cells) {
+        return Some(node.unknown());
+    }
+    None
+}
+
+// The upper bound, with its range.
+fn upper_of(solved: &Solved) -> i8
+    ensures low { negsuc 63 ≤ℤ result }
+    ensures high { result ≤ℤ pos 64 }
+{
+    solved.interval.upper
+}
+
+// The bound of the board that a child's bounds give, which it stores in the cells.
+fn lifted<C: Cells>(board: &Board, square: Square, reply: &Solved, cells: &mut C) -> Solved
+    ensures fixed { C.fixed cells.new ≡ C.fixed cells.old }
+{
+    match Solved::lift(board, square, reply) {
+        Ok(bound) => {
+            put(&bound, cells);
+            bound
+        }
+        Err(_) => Solved::unknown(*board, reply.scoring),
+    }
+}
+
+/// Stores these bounds in the cells, unless they are all scores.
+pub fn put<C: Cells>(solved: &Solved, cells: &mut C)
+    ensures fixed { C.fixed cells.new ≡ C.fixed cells.old }
+{
+    if solved.interval != Interval::all() {
+        cells.put(&Entry::of(solved));
+    }
+}

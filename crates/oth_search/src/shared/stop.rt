@@ -1,0 +1,174 @@
+//! A search that may be stopped: it ends when its table look-ups are spent.
+ghost use Rattle.std.specs.Prelude.{◌≡◌, IfOk, IfErr, true, false};
+ghost use Rattle.oth_rules.specs.Position.{pass};
+ghost use Rattle.oth_rules.specs.Move.{can_move};
+ghost use Rattle.oth_search.specs.Bounds.Full.{IsFullMinimax};
+
+use super::company::Company;
+use crate::bounds::{Answer, Cells, Entry, NullWindow, Solved, known_below};
+use crate::root::{Observer, Unobserved, before_pass, ended, settle_moves, solve_moves};
+use crate::tuning::FEWEST_EMPTIES_ENDED;
+use oth_rules::{Board, Scoring};
+use std::alloc::Global;
+use thiserror::Error;
+
+/// Cells with a limit of look-ups. A search over them can be stopped when these are spent.
+#[derive(Drop)]
+pub struct Limited<C> {
+    /// Where boards are looked up and stored.
+    pub cells: C,
+    /// How many boards may still be looked up, by `look` and `recall` together.
+    pub left: u64,
+}
+
+impl<C: Cells> Limited<C> {
+    /// The cells, in which `limit` boards may be looked up.
+    pub fn of(cells: C, limit: u64) -> Limited<C>
+        ensures left { result.left ≡ limit }
+        ensures fixed { C.fixed result.cells ≡ C.fixed cells }
+    {
+        Limited { cells, left: limit }
+    }
+
+    /// The cells alone.
+    pub fn into_cells(self) -> C
+        ensures { result ≡ self.cells }
+    {
+        self.cells
+    }
+}
+
+impl<C: Cells> Cells for Limited<C> {
+    ghost Fixed = { C.Fixed };
+
+    ghost fixed = { λ l. C.fixed l.cells };
+
+    fn look(&mut self, board: &Board, scoring: Scoring) -> Option<Entry> {
+        self.left = self.left.saturating_sub(1);
+        self.cells.look(board, scoring)
+    }
+
+    fn put(&mut self, entry: &Entry) {
+        self.cells.put(entry);
+    }
+
+    fn remembers(&self, empties: u8) -> bool {
+        self.cells.remembers(empties)
+    }
+
+    fn recall(&mut self, board: &Board, scoring: Scoring) -> Option<Solved> {
+        self.left = self.left.saturating_sub(1);
+        self.cells.recall(board, scoring)
+    }
+
+    fn remember(&mut self, solved: &Solved) {
+        self.cells.remember(solved);
+    }
+}
+
+// A search by one worker that is stopped when the look-ups are spent.
+#[derive(Clone, Copy)]
+struct UntilSpent {
+    alloc: Global,
+}
+
+impl<C: Cells> Company<Limited<C>> for UntilSpent {
+    fn alloc(&self) -> Global {
+        self.alloc
+    }
+
+    fn fewest(&self) -> u8 {
+        FEWEST_EMPTIES_ENDED
+    }
+
+    fn gives_up(&mut self, _searched: &Board, cells: &mut Limited<C>) -> bool {
+        cells.left == 0
+    }
+}
+
+impl<C: Cells> Observer<Limited<C>> for UntilSpent {
+    fn decide(&mut self, known: &Solved, alpha: i8, cells: &mut Limited<C>) -> Solved {
+        if known.interval.decides(alpha, alpha + 1) {
+            return *known;
+        }
+        known.narrowed_in(NullWindow::at(alpha + 1), cells, self)
+    }
+
+    fn is_over(&self, cells: &Limited<C>) -> bool {
+        cells.left == 0
+    }
+}
+
+/// A search was stopped before it was done; `known` is what was known of its board by then.
+#[derive(Clone, Copy, PartialEq, Eq, Debug, Error)]
+#[error("the search was ended before it was done")]
+pub struct Stopped {
+    pub known: Solved,
+}
+
+/// The answer of a board by a search over the cells, or what is known of the board if the look-ups are spent before.
+/// The search stops at the next board of 11 and more empty squares, so somewhat later than they are spent.
+pub fn solve_until<C: Cells>(
+    alloc: Global,
+    board: &Board,
+    cells: &mut Limited<C>,
+    scoring: Scoring,
+) -> Result<Answer, Stopped>
+    ensures board { IfOk result (λ a. (a.board ≡ board.now) × (a.scoring ≡ scoring)) }
+    ensures full { IfOk result (IsFullMinimax board.now scoring) }
+    ensures known { IfErr result (λ s. (s.known.board ≡ board.now) × (s.known.scoring ≡ scoring)) }
+    ensures spent { IfErr result (λ s. cells.new.left ≡ 0) }
+    ensures fixed { C.fixed cells.new.cells ≡ C.fixed cells.old.cells }
+{
+    if board.is_over() {
+        return Ok(ended(*board, scoring));
+    }
+    if board.can_move() {
+        return solve_moves_until(alloc, *board, cells, scoring);
+    }
+    solve_past_until(alloc, board, cells, scoring)
+}
+
+// As `solve_until`, of a board whose mover must pass.
+fn solve_past_until<C: Cells>(
+    alloc: Global,
+    board: &Board,
+    cells: &mut Limited<C>,
+    scoring: Scoring,
+) -> Result<Answer, Stopped>
+    requires none { can_move board.now ≡ false }
+    requires some { can_move (pass board.now) ≡ true }
+    ensures board { IfOk result (λ a. (a.board ≡ board.now) × (a.scoring ≡ scoring)) }
+    ensures known { IfErr result (λ s. (s.known.board ≡ board.now) × (s.known.scoring ≡ scoring)) }
+    ensures spent { IfErr result (λ s. cells.new.left ≡ 0) }
+    ensures fixed { C.fixed cells.new.cells ≡ C.fixed cells.old.cells }
+{
+    match solve_moves_until(alloc, board.pass(), cells, scoring) {
+        Ok(passed) => Ok(before_pass(*board, passed)),
+        Err(stopped) => Err(Stopped {
+            known: stopped.known.before_pass(board),
+        }),
+    }
+}
+
+// As `solve_until`, of a board whose mover has a move.
+fn solve_moves_until<C: Cells>(
+    alloc: Global,
+    board: Board,
+    cells: &mut Limited<C>,
+    scoring: Scoring,
+) -> Result<Answer, Stopped>
+    requires { can_move board ≡ true }
+    ensures board { IfOk result (λ a. (a.board ≡ board) × (a.scoring ≡ scoring)) }
+    ensures known { IfErr result (λ s. (s.known.board ≡ board) × (s.known.scoring ≡ scoring)) }
+    ensures spent { IfErr result (λ s. cells.new.left ≡ 0) }
+    ensures fixed { C.fixed cells.new.cells ≡ C.fixed cells.old.cells }
+{
+    let root = Solved::unknown(board, scoring);
+    let replies = settle_moves(&root, &[], cells, &mut UntilSpent { alloc });
+    if cells.left == 0 {
+        let known = known_below(board, 1, replies.as_slice(), scoring);
+        return Err(Stopped { known });
+    }
+    Ok(solve_moves(root, replies.as_slice(), cells, &mut Unobserved))
+}

@@ -1,5 +1,0 @@
-use Rattle.std.proofs.Common.{◌≡◌}
-use Rattle.oth_walk.proofs.way.Walk.is_any_decided.Given as goal
-
-abbrev pub invariant-loop-place : goal.invariant-loop-place
-invariant-loop-place g l = g.C.Cells.fixed l.cells ≡ g.C.Cells.fixed l.fn.cells

@@ -1,0 +1,96 @@
+"""Tests the edits, and that each edit and each test that docs/WRONG_BODIES.md and docs/TESTED.md name is where they say."""
+import re
+
+import edits
+from checks.shared import ROOT, cells_below, crate_folders, lines_of, shown, text_of, unless
+
+SNAKE = re.compile(r"[a-z]\w*_\w*")
+TEST = re.compile(r"#\[test\]\s*(?:#\[[^\]]*\]\s*)*fn (\w+)")
+# The columns of docs/WRONG_BODIES.md, with the folder whose edits stand there.
+COLUMNS = {"Refused at each gate by": "must-fail", "Refused by `./mutants`": "mutants"}
+
+
+class Crate:
+    """The edits of a crate by their folder, its functions, its tests by their module, and its files."""
+
+    def __init__(self, path):
+        self.tiers = {tier: {edit.stem for edit in edits.edits_of(path, [tier])} for tier in edits.TIERS}
+        self.edits = set().union(*self.tiers.values())
+        self.functions, self.modules, self.files = set(), {}, {path.name}
+        for file in path.glob("src/**/*.rt"):
+            text = text_of(file)
+            module = "::".join(file.relative_to(path / "src").with_suffix("").parts)
+            self.files.add(file.stem)
+            self.functions.update(re.findall(r"\bfn (\w+)", text))
+            self.modules[module] = set(TEST.findall(text))
+        self.tests = set().union(*self.modules.values())
+
+
+def crates():
+    """Returns the crates by their names."""
+    return {path.name: Crate(path) for path in crate_folders()}
+
+
+def test_faults():
+    """Tests that each test of docs/TESTED.md stands in the crate and the module that are named with it."""
+    known = crates()
+    document = ROOT / "docs/TESTED.md"
+    for number, cell in cells_below(document, "Test"):
+        crate, module = None, None
+        for name in re.findall(r"`([^`]+)`", cell):
+            if name in known:
+                crate, module = known[name], None
+            elif crate and name in crate.modules:
+                module = name
+            elif re.fullmatch(r"[\w:]+", name):
+                there = crate and name in crate.modules.get(module, ())
+                fault = f"{shown(document)}:{number}: no test {name} in the crate and module that are named before it"
+                yield unless(there, fault)
+
+
+def wrong_body_faults():
+    """Tests that each name of docs/WRONG_BODIES.md is an edit of the folder of its column, or a test or a part of the code."""
+    known = crates()
+    document = ROOT / "docs/WRONG_BODIES.md"
+    for heading, tier in COLUMNS.items():
+        for number, cell in cells_below(document, heading):
+            yield from cell_faults(f"{shown(document)}:{number}", cell, tier, known)
+    every = set().union(*(crate.edits | crate.functions | crate.files for crate in known.values()))
+    for number, line in enumerate(lines_of(document), 1):
+        place = f"{shown(document)}:{number}"
+        for name in re.findall(r"`([^`/]+)`", line):
+            if SNAKE.fullmatch(name):
+                yield unless(name in every, f"{place}: no edit, function or part of a crate {name}")
+        if "test" in line:
+            for name, owner in re.findall(r"`([a-z]\w*_\w*)` of `(\w+)`", line):
+                there = owner in known and name in known[owner].tests
+                yield unless(there, f"{place}: no test {name} in {owner}")
+
+
+def cell_faults(place, cell, tier, known):
+    """Tests that each edit that this cell names is one of the folder, and each test one of its crate."""
+    crate = None
+    for name in re.findall(r"`([^`]+)`", cell):
+        owner, _, edit = name.rpartition("/")
+        if name in known:
+            crate = known[name]
+        elif owner in known:
+            crate = known[owner]
+            yield unless(edit in crate.tiers[tier], f"{place}: no edit {edit} in {tier}/ of {owner}")
+        elif crate and SNAKE.fullmatch(name):
+            there = name in crate.tiers[tier] | crate.tests
+            yield unless(there, f"{place}: no edit of {tier}/ and no test {name} in the crate named before it")
+
+
+def edit_faults():
+    """Tests that each edit can be applied, changes something, and has a name that no other one of its crate has."""
+    for crate in crate_folders():
+        found = edits.edits_of(crate)
+        for edit in found:
+            if edits.NAME.fullmatch(edit.name):
+                wrong = edits.applied(edit, crate)[1]
+            else:
+                wrong = "its name isn't one of small letters, digits and _ that ends in .edit"
+            yield unless(not wrong, f"{shown(edit)}: {wrong}")
+            alone = sum(other.name == edit.name for other in found) == 1
+            yield unless(alone, f"{shown(edit)}: another edit of the crate has this name")

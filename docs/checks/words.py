@@ -1,0 +1,55 @@
+"""Tests the words of documents and comments: phrases that are replaced, terms of the glossary, and the headline."""
+import re
+
+from checks.shared import ROOT, documents, lines_of, shown, source_files, text_of, unless
+
+# What the documents said before, or said of themselves, and what docs/GLOSSARY.md says for it. A pattern is of a line without `code`.
+OLD = {
+    r"[Ww]ant of memory": "out of memory",
+    r"by the clock": "wall-clock",
+    r"processor time": "CPU time",
+    r"waits for nobody": "non-blocking",
+    r"does nothing undefined": "has no undefined behaviour",
+    r"comes? to (?:no more|few|fewer|the same) boards": "visits .. nodes",
+    r"work done twice": "search overhead",
+    r"eldest": "elder brother, or first",
+    r"(?<!table )\bprob(?:e|es|ed|ing)\b": "null-window search; a look into the table is a table probe",
+    r"some hours before|within the hour|in an earlier run|was learned": "a line of bench/log.csv",
+}
+MOST_LINES_OF_README = 110
+
+
+def phrase_faults():
+    """Tests that no page says a phrase that the glossary replaces, nor the C header, and that no comment begins with "The same"."""
+    for page in [*documents(), *sorted(ROOT.glob("include/*.h"))]:
+        text = [re.sub(r"`[^`]*`|\]\([^)]*\)", "``", line) for line in lines_of(page)]
+        for old, new in OLD.items():
+            found = numbers_of(text, re.compile(old).search)
+            yield unless(not found, f"{shown(page)}: line {found} says {old}: {new}")
+    for path in source_files():
+        found = numbers_of(lines_of(path), re.compile(r" *//[/!]? The same\b").match)
+        yield unless(not found, f"{shown(path)}: line {found} begins with The same: say what differs, as `As NAME, of ..`")
+
+
+def numbers_of(text, is_meant):
+    """Returns the numbers of the lines that are meant, as a text."""
+    return ", ".join(str(number) for number, line in enumerate(text, 1) if is_meant(line))
+
+
+def glossary_faults():
+    """Tests that each identifier of the column `In the code` of docs/GLOSSARY.md is a word of the code or of `specs/`."""
+    document = ROOT / "docs/GLOSSARY.md"
+    files = [*source_files(), *ROOT.glob("crates/*/specs/**/*.antt")]
+    words = set().union(*(re.findall(r"\w+", text_of(path)) for path in files))
+    for number, line in enumerate(lines_of(document), 1):
+        cells = line.split(" | ")
+        for name in re.findall(r"`(\w+)`", cells[1]) if len(cells) == 3 else ():
+            yield unless(name in words, f"{shown(document)}:{number}: the code has no word {name}")
+
+
+def headline_faults():
+    """Tests that the headline is the same wherever it stands, and that the README is short."""
+    said = {line for document in documents() for line in lines_of(document) if line.startswith("**For every board")}
+    yield unless(len(said) == 1, f"the headline is said in {len(said)} ways")
+    length = len(lines_of(ROOT / "README.md")) - 1
+    yield unless(length <= MOST_LINES_OF_README, f"README.md has {length} lines")
