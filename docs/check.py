@@ -17,8 +17,8 @@ It tests, in each document and, where it says so, in the code:
 - that in each row `| `CONSTANT` | `PATH` | `VALUE` |` of a table the file gives the constant that value, and that in each row
   `| `EXPRESSION` | `PATH` |` the file has this text, that each constant of a `tuning.rt` has a row in docs/TUNING.md, and that no two
   constants of the code have one name;
-- that no page, nor the C header, says one of the phrases that docs/GLOSSARY.md replaces, and that no comment of the code begins with
-  "The same", nor a line of one;
+- that no page, nor the C header, says one of the phrases that docs/GLOSSARY.md replaces, that no comment of the code begins with "The
+  same", nor a line of one, and that no code, specification, proof or script says "so many";
 - of docs/GLOSSARY.md: that each identifier of the column `In the code` is a word of the code or of `specs/`;
 - of docs/ARCHITECTURE.md: that the lemmas which it lists for a crate are those that proofs of other crates import;
 - that each lemma and each definition is named somewhere else than at its own statement, but those of `Examples`;

@@ -1,7 +1,7 @@
 /* Calls the C library as a program would, and prints what `othsolve` prints, so that both can be compared byte by byte.
  *     c_calls refusals                          each refusal by its name; prints the names of those that do not come, or that write something
  *     c_calls moves | transcript | play         each line of standard input
- *     c_calls solve SCORING CELLS THREADS       so many threads at once solve all lines, with 1 MB of stack each; prints what all of them found
+ *     c_calls solve SCORING CELLS THREADS       this many threads solve all lines at once, with 1 MB of stack each; prints what all of them found
  *     c_calls share SCORING CELLS THREADS       the same over one table, each thread from a seat of its own
  *     c_calls within SCORING CELLS THREADS      the same, each line by calls that may look up 1, 2, 4, .. boards until one is done; 1 where bounds of an ended call
  *                                               do not enclose the score, or none was ended

@@ -5,7 +5,7 @@
 
 CRATES is the folder of the crates, `crates` if not given. Each step is a line, `ok` or `FAILED` and its name, and after a failure what is
 wrong. Where parts are named only their steps are run: `statuses`, `texts`, `flow`, `limits`, `seen`, `terminal`, `progress`,
-`differential`, `recipes`, `refusals`, `c_library`, `installed`. As many parts run at once as there are processors, and the lines come
+`differential`, `small_boards`, `recipes`, `refusals`, `c_library`, `installed`. As many parts run at once as there are processors, and the lines come
 in the order of the parts. The last line is `N passed, M failed`; the exit status is 1 where a step failed.
 """
 import argparse
@@ -25,6 +25,7 @@ import recipes
 import refusals
 import running
 import seen
+import small_boards
 import statuses
 import terminal
 import texts
@@ -42,6 +43,7 @@ def every_part(crates):
         "terminal": lambda: terminal.steps(program),
         "progress": lambda: progress.steps(program),
         "differential": lambda: differential.steps(program),
+        "small_boards": lambda: small_boards.steps(program),
         "recipes": lambda: recipes.steps(program),
         "refusals": lambda: refusals.steps(crates),
         "c_library": lambda: c_library.steps(crates),

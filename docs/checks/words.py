@@ -17,10 +17,12 @@ OLD = {
     r"some hours before|within the hour|in an earlier run|was learned": "a line of bench/log.csv",
 }
 MOST_LINES_OF_README = 110
+TREES_THAT_COUNT = ("crates/*/specs/**/*.antt", "crates/*/proofs/**/*.antt", "hostile/*.[cp]*", "bench/*.py")
 
 
 def phrase_faults():
-    """Tests that no page says a phrase that the glossary replaces, nor the C header, and that no comment begins with "The same"."""
+    """Tests that no page says a phrase that the glossary replaces, nor the C header, that no comment begins with "The same", and that none
+    says "so many" for a number."""
     for page in [*documents(), *sorted(ROOT.glob("include/*.h"))]:
         text = [re.sub(r"`[^`]*`|\]\([^)]*\)", "``", line) for line in lines_of(page)]
         for old, new in OLD.items():
@@ -29,6 +31,9 @@ def phrase_faults():
     for path in source_files():
         found = numbers_of(lines_of(path), re.compile(r" *//[/!]? The same\b").match)
         yield unless(not found, f"{shown(path)}: line {found} begins with The same: say what differs, as `As NAME, of ..`")
+    for path in [*source_files(), *(path for tree in TREES_THAT_COUNT for path in sorted(ROOT.glob(tree)))]:
+        found = numbers_of(lines_of(path), re.compile(r"\bso many\b").search)
+        yield unless(not found, f"{shown(path)}: line {found} says so many: name the number")
 
 
 def numbers_of(text, is_meant):

@@ -3,16 +3,33 @@
 ghost use Rattle.std.specs.Prelude.{◌≤◌};
 
 use crate::asked::Asked;
-use crate::tuning::{EFFORT_OF_A_THREAD, EMPTIES_FOR_SCORES, effort_of};
+use crate::tuning::{EFFORT_OF_A_THREAD, EMPTIES_FOR_SCORES, FEWEST_EMPTIES_TOGETHER, effort_of};
 use oth_rules::Board;
 
 /// How long it takes to find what is asked of a board, in units of some 40 nanoseconds.
 pub fn effort(asked: Asked, board: &Board) -> u64 {
-    let empties = match asked {
+    effort_of(empties_to_search(asked, board))
+}
+
+/// Returns how many of `workers` workers pay for a board that no batch has: all of them, or one where its search takes
+/// less time than the start of a further thread.
+pub fn workers_for(asked: Asked, board: &Board, workers: u8) -> u8
+    ensures few { result ≤ workers }
+    ensures some { 1 ≤ workers → 1 ≤ result }
+{
+    if empties_to_search(asked, board) < FEWEST_EMPTIES_TOGETHER {
+        workers.min(1)
+    } else {
+        workers
+    }
+}
+
+// The empty squares of a board whose answer takes as long as what is asked of this one.
+fn empties_to_search(asked: Asked, board: &Board) -> u8 {
+    match asked {
         Asked::Answer => board.empties(),
         Asked::Scores => board.empties() + EMPTIES_FOR_SCORES,
-    };
-    effort_of(empties)
+    }
 }
 
 /// Who solves which boards of a batch.

@@ -21,6 +21,7 @@ mod verifying;
 pub use asked::Asked;
 pub use batch::Batch;
 pub use boards::Boards;
+pub use effort::workers_for;
 pub use found::answer_among;
 pub use jobs::Jobs;
 pub use tuning::{MOST_BOARDS, MOST_EMPTIES_FOR_ONE};

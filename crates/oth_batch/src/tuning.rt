@@ -19,6 +19,6 @@ pub(crate) fn effort_of(empties: u8) -> u64 {
     1 << (u32::from(empties) * 5 / 4).min(40)
 }
 
-/// Empty squares: from here on all workers together solve a claim of a book that no batch had. Below it the caller's
-/// thread does, since starting others takes longer.
+/// Empty squares: from here on all workers together solve a board that no batch has. Below it the caller's thread does,
+/// since starting others takes longer.
 pub(crate) const FEWEST_EMPTIES_TOGETHER: u8 = 13;

@@ -158,7 +158,7 @@ none_before v bytes fits = record {
 pub header_long : (v : Version) (bytes : List ℕ) → fit_of (Header v) bytes ≡ Whole → header_len v ≤ length bytes
 header_long v bytes fits = (is_whole (Header v) bytes fits).len
 
--- ---- a place: so many entries, and the last of them
+-- ---- a place: a number of entries, and the last of them
 
 slice_get_end : (xs : List Claim) (c : Claim) → slice_get (xs ++ c ∷ []) (length xs) ≡ Some c
 slice_get_end [] c = refl

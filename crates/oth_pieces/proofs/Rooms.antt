@@ -1,16 +1,19 @@
--- A frontier of a board with at most 30 empty squares has at most so many items as there is room for.
+-- How many items there are: as many as moves after the move to a board, and no more in a frontier of a board with at most 30 empty
+-- squares than there is room for.
+use Rattle.std.specs.Prelude.{count_ones}
 use Rattle.std.proofs.Common.{◌≡◌, ℕ, zero, suc, ◌+◌, ◌*◌, ◌<◌, ◌≤◌, Bool, true, false, cond, ◌&&◌, List, [], ◌∷◌, map, length, get_or, refl, sym, ◌∙◌, arith}
 use Rattle.std.specs.List.{filter, flat_map, range_with_len, All}
 use Rattle.std.proofs.lemmas.Bool.{false≢true}
 use Rattle.std.proofs.lemmas.List.{length-map, length-append, get_or_default}
 use Rattle.std.proofs.lemmas.List.Elements.{All-head, All-tail}
 use Rattle.std.proofs.lemmas.List.Sums.{length-filter}
-use Rattle.oth_rules.specs.Square.{squares, directions}
+use Rattle.oth_rules.specs.Square.{squares, directions, word_of}
 use Rattle.oth_rules.specs.Position.{Position, is_empty, empty_count, pass}
 use Rattle.oth_rules.specs.Move.{is_legal, legal_squares, is_over, after}
 use Rattle.oth_rules.specs.Line.{outflanks}
 use Rattle.oth_rules.specs.Laws.{IsLegal}
 use Rattle.std.specs.List.{list_any}
+use Rattle.oth_rules.proofs.Counts.{ones-word_of}
 use Rattle.oth_rules.proofs.Legal.{legal-is}
 use Rattle.oth_rules.proofs.SearchLaws.{empty_count-after, empty_count-pass, IsLegal-from_contains}
 use Rattle.oth_pieces.specs.declared.frontier.TheConstants.{MOST_ITEMS}
@@ -75,3 +78,13 @@ two_room p few =
     let same = awake_count p in
     let most = all_below r (omega arith) (legal_squares r) (all_legal r) in
     omega (arith, most_moves r)
+
+-- where the game goes on after a move, the items below are as many as the moves that follow
+pub counted_below : (parent : Item) (p : Position) → is_over (awake p) ≡ false → count_ones (word_of (is_legal (awake p))) ≡ length (below (item_after parent p))
+unfolding legal_squares
+counted_below parent p on =
+    ones-word_of (is_legal (awake p)) ∙ (sym (length-filter (is_legal (awake p)) squares) ∙ at (is_over (awake p)) on)
+  where
+    at : (b : Bool) → b ≡ false → length (filter (is_legal (awake p)) squares) ≡ length (cond b (item_after parent p ∷ []) (children (item_after parent p)))
+    at false e = sym (length-map (legal_squares (awake p)) (λ s. item_after (item_after parent p) (after (awake p) s)))
+    at true e = absurd (false≢true (sym e))

@@ -81,6 +81,18 @@ impl Frontier {
     }
 }
 
+/// How many items two plies below a root come after the move that leads to this board: one where the game is over then,
+/// else one for each move that follows, after a forced pass where there is one.
+pub fn count_below(child: &Board) -> u32
+    ensures { (parent : Item) → result ≡ length (below (item_after parent child.now)) }
+{
+    let (board, _) = awake(*child);
+    if board.is_over() {
+        return 1;
+    }
+    board.moves().count_ones()
+}
+
 /// The board after a forced pass, where there is one, and whether there is.
 pub fn awake(board: Board) -> (Board, bool)
     ensures board { result.0 ≡ awake board }

@@ -1,8 +1,6 @@
 //! Tells a gate of a search by one worker.
-ghost use Rattle.oth_pool.specs.Solving.{IsSolvable};
-
 use arrayvec::ArrayVec;
-use oth_pieces::{Frontier, MOST_ITEMS, awake};
+use oth_pieces::{awake, count_below};
 use oth_rules::{Board, Scoring, Square};
 use oth_search::{Cells, Observer, Solved, known_below};
 use oth_walk::{Gate, move_to};
@@ -15,25 +13,30 @@ pub(crate) struct Announcer<'g, G> {
     root: Board,
     scoring: Scoring,
     gate: &'g G,
-    // The root's move of each item, by the item's number.
-    squares: ArrayVec<Square, MOST_ITEMS>,
+    below: ArrayVec<Below, 64>,
     // The moves whose items were announced.
     announced: u64,
     // The move whose items are being searched for the first time.
     open: Option<Square>,
 }
 
+// The items below a move of the root: those of the numbers from `first` up to, and without, `end`.
+#[derive(Clone, Copy, Default)]
+struct Below {
+    square: Square,
+    first: u32,
+    end: u32,
+}
+
 impl<'g, G: Gate> Announcer<'g, G> {
     /// An announcer that has announced no item of the board, after a forced pass where there is one.
-    pub fn of(board: &Board, scoring: Scoring, gate: &'g G) -> Announcer<'g, G>
-        requires { IsSolvable board.now }
-    {
+    pub fn of(board: &Board, scoring: Scoring, gate: &'g G) -> Announcer<'g, G> {
         let (root, _) = awake(*board);
         Announcer {
             root,
             scoring,
             gate,
-            squares: squares_of_items(board),
+            below: items_below(&root),
             announced: 0,
             open: None,
         }
@@ -41,15 +44,40 @@ impl<'g, G: Gate> Announcer<'g, G> {
 
     /// Announces the items of the moves that needed no search.
     pub fn finish(&self) {
-        for number in 0..MOST_ITEMS as u32 {
-            if let Some(square) = self.squares.get(number as usize) {
-                if self.announced & square.word() == 0 {
+        for below in self.below.as_slice() {
+            if self.announced & below.square.word() == 0 {
+                for number in below.first..below.end {
                     self.gate.before(number);
                     self.gate.after(number);
                 }
             }
         }
     }
+}
+
+// Returns the items below the root's move to this square: none where it isn't legal.
+fn below_move(all: &[Below], square: Square) -> Below {
+    for below in all {
+        if below.square == square {
+            return *below;
+        }
+    }
+    Below::default()
+}
+
+// Returns the items below each move of the root, numbered as a frontier has them.
+fn items_below(root: &Board) -> ArrayVec<Below, 64> {
+    let mut all = ArrayVec::new();
+    let mut first = 0u32;
+    for number in 0..64 {
+        let square = Square::numbered(number);
+        if let Some(child) = root.play(square) {
+            let end = first.saturating_add(count_below(&child));
+            let _ = all.try_push(Below { square, first, end });
+            first = end;
+        }
+    }
+    all
 }
 
 // Returns the bounds of the root, backed up from `replies`, its children, and how many of these need no further search.
@@ -64,22 +92,6 @@ fn known_of(root: Board, replies: &[Solved], scoring: Scoring) -> (Solved, u64) 
     (root, settled)
 }
 
-// Returns the root's move of each item two plies below the board. Of the items nothing else is kept, which leaves the
-// stack to the search.
-#[inline(never)]
-fn squares_of_items(board: &Board) -> ArrayVec<Square, MOST_ITEMS>
-    requires { IsSolvable board.now }
-{
-    let frontier = Frontier::of(board, 2);
-    let mut squares = ArrayVec::new();
-    for number in 0..frontier.len() {
-        if let Some(item) = frontier.entry(number) {
-            let _ = squares.try_push(item.square);
-        }
-    }
-    squares
-}
-
 impl<'g, G: Gate, C: Cells> Observer<C> for Announcer<'g, G> {
     fn before(&mut self, child: &Board) {
         let Some(square) = move_to(&self.root, child) else {
@@ -90,10 +102,9 @@ impl<'g, G: Gate, C: Cells> Observer<C> for Announcer<'g, G> {
         }
         self.announced |= square.word();
         self.open = Some(square);
-        for number in 0..MOST_ITEMS as u32 {
-            if self.squares.get(number as usize) == Some(&square) {
-                self.gate.before(number);
-            }
+        let below = below_move(self.below.as_slice(), square);
+        for number in below.first..below.end {
+            self.gate.before(number);
         }
     }
 
@@ -103,10 +114,9 @@ impl<'g, G: Gate, C: Cells> Observer<C> for Announcer<'g, G> {
             self.gate.goes_on(&root, settled);
         }
         if let Some(square) = self.open.take() {
-            for number in 0..MOST_ITEMS as u32 {
-                if self.squares.get(number as usize) == Some(&square) {
-                    self.gate.after(number);
-                }
+            let below = below_move(self.below.as_slice(), square);
+            for number in below.first..below.end {
+                self.gate.after(number);
             }
         }
     }

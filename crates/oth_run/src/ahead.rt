@@ -5,7 +5,7 @@ ghost use Rattle.oth_rules.specs.Position.{empty_count};
 
 use crate::lines::split_line;
 use crate::solver::Solver;
-use oth_batch::{Asked, Batch, Boards, Jobs, MOST_BOARDS, answer_among};
+use oth_batch::{Asked, Batch, Boards, Jobs, answer_among};
 use oth_pool::Gate;
 use oth_rules::Board;
 use oth_search::{Answer, MOST_EMPTIES, TooManyEmpties};
@@ -109,11 +109,11 @@ pub(crate) fn jobs_of<'b, T: Threads + Sync, G: Gate>(
     }
 }
 
-// Lets the boards of the whole lines in these bytes wait, up to a batch, and gives the number of these lines: no more
-// than a batch has boards.
+// Lets the boards of the whole lines in these bytes wait, up to a batch, and gives the number of these lines, each of
+// which has at least one byte.
 fn gather(boards: &mut Boards, bytes: &[u8]) -> usize {
     let mut rest = bytes;
-    for lines in 0..MOST_BOARDS {
+    for lines in 0..bytes.len() {
         if boards.is_full() {
             return lines;
         }
@@ -125,5 +125,5 @@ fn gather(boards: &mut Boards, bytes: &[u8]) -> usize {
         }
         rest = others;
     }
-    MOST_BOARDS
+    bytes.len()
 }

@@ -6,7 +6,7 @@ ghost use Rattle.oth_text.specs.Ranking.{scores_line_of};
 
 use crate::checking::Lawful;
 use arrayvec::ArrayVec;
-use oth_batch::{Batch, Jobs};
+use oth_batch::{Asked, Batch, Jobs, workers_for};
 use oth_book::Book;
 use oth_pool::{Gate, scores, solve};
 use oth_rules::Board;
@@ -33,7 +33,7 @@ pub struct Solver<'s, T, G> {
 }
 
 impl<'s, T: Threads + Sync, G: Gate> Solver<'s, T, G> {
-    /// The value and all best moves of a board.
+    /// The value and all best moves of a board, by as many workers as pay for one board.
     pub fn answer_of(&self, board: &Board) -> Result<Answer, TooManyEmpties>
         ensures refused { IsErr result ↔ (30 < empty_count board.now) }
         ensures counted { IfErr result (λ e. e.empties ≡ empty_count board.now) }
@@ -41,16 +41,10 @@ impl<'s, T: Threads + Sync, G: Gate> Solver<'s, T, G> {
         ensures scoring { IfOk result (λ a. a.scoring ≡ self.now.settings.scoring) }
     {
         let asked = self.settings.get();
-        match solve(
-            self.rt,
-            self.alloc,
-            board,
-            asked.workers,
-            asked.cells,
-            self.gate,
-            self.book,
-            asked.scoring,
-        ) {
+        let workers = workers_for(Asked::Answer, board, asked.workers);
+        let (cells, scoring) = (asked.cells, asked.scoring);
+        let (rt, alloc, gate, book) = (self.rt, self.alloc, self.gate, self.book);
+        match solve(rt, alloc, board, workers, cells, gate, book, scoring) {
             Ok(answer) => Ok(answer),
             Err(_) => Err(TooManyEmpties {
                 empties: board.empties(),
@@ -58,7 +52,7 @@ impl<'s, T: Threads + Sync, G: Gate> Solver<'s, T, G> {
         }
     }
 
-    // The scores of a board's moves.
+    // The scores of a board's moves, by as many workers as pay for one board.
     fn scores_of(&self, board: &Board) -> Result<Scores, TooManyEmpties>
         ensures refused { IsErr result ↔ (30 < empty_count board.now) }
         ensures counted { IfErr result (λ e. e.empties ≡ empty_count board.now) }
@@ -71,6 +65,7 @@ impl<'s, T: Threads + Sync, G: Gate> Solver<'s, T, G> {
             scoring,
             ..
         } = self.settings.get();
+        let workers = workers_for(Asked::Scores, board, workers);
         let (rt, alloc, gate, book) = (self.rt, self.alloc, self.gate, self.book);
         match scores(rt, alloc, board, workers, cells, gate, book, scoring) {
             Ok(scores) => Ok(scores),

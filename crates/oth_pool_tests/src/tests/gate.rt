@@ -2,8 +2,8 @@
 
 use super::crews::BOARDS;
 use super::fixtures::{answer_of, board_of};
-use super::{C, CORNERS};
-use oth_pool::{Gate, solve};
+use super::{A, B, C, CORNERS};
+use oth_pool::{Frontier, Gate, solve};
 use oth_rules::{Board, Scoring};
 use oth_search::Solved;
 use std::alloc::Global;
@@ -96,6 +96,42 @@ fn the_gate_hears_each_item_once_from_one_worker(rt: HostRuntime) {
     let found = alone(&rt, rt.alloc(), CORNERS, &gate);
     assert!(rt; found == Some((64, 0x8100_0000_0000_0081)));
     assert!(rt; gate.heard_once(12));
+}
+
+// How many searches began and ended, and the sum of the items' numbers.
+#[derive(Drop)]
+struct Counting {
+    begun: AtomicU64,
+    ended: AtomicU64,
+    numbers: AtomicU64,
+}
+
+impl Gate for Counting {
+    fn before(&self, task: u32) {
+        self.begun.fetch_add(1, Ordering::SeqCst);
+        self.numbers.fetch_add(u64::from(task), Ordering::SeqCst);
+    }
+
+    fn after(&self, _task: u32) {
+        self.ended.fetch_add(1, Ordering::SeqCst);
+    }
+}
+
+#[test]
+fn one_worker_announces_as_many_items_as_the_frontier_has(rt: HostRuntime) {
+    for words in [A, B, C, CORNERS, BOARDS[0]] {
+        let gate = Counting {
+            begun: AtomicU64::new(0),
+            ended: AtomicU64::new(0),
+            numbers: AtomicU64::new(0),
+        };
+        let board = board_of(&rt, words);
+        let items = u64::from(Frontier::of(&board, 2).len());
+        assert!(rt; alone(&rt, rt.alloc(), words, &gate).is_some());
+        assert!(rt; gate.begun.load(Ordering::SeqCst) == items);
+        assert!(rt; gate.ended.load(Ordering::SeqCst) == items);
+        assert!(rt; gate.numbers.load(Ordering::SeqCst) == items * items.saturating_sub(1) / 2);
+    }
 }
 
 #[test]

@@ -1,4 +1,4 @@
--- the bytes begin with the header and the lines of some entries, so many and with this last one
+-- the bytes begin with the header and the lines of a number of entries, of which this one is the last
 use Rattle.std.proofs.Common.{◌≡◌, List, length}
 use Rattle.oth_book.specs.declared.claim.Claim.{Claim}
 use Rattle.oth_book.specs.Fault.{Begins, last_of}
