@@ -13,11 +13,10 @@ import textwrap
 
 import c_library
 import minimax
-from running import TOP, ran, text_of
+from running import TOP, VERSION, ran, text_of, version_line
 
 INSTALL = f"{TOP}/install"
 PYTHON = f"{TOP}/examples/python"
-VERSION = "0.1.0"
 SONAME = f"libothsolve.so.{VERSION.split('.')[0]}"
 THREADS_SEED, THREADS_BOARDS, THREADS_EMPTIES = 20261125, 200, 6
 ANALYSED_EMPTIES = 7
@@ -37,14 +36,18 @@ share/zsh/site-functions/_othsolve
 FRESH = r"""
 #include <othsolve.h>
 #include <stdio.h>
+#include <string.h>
 
 int main(void) {
     const char *line = "--OXOOO-OOOOOOOOOOOOOOOOOOOOOOOOOOOOOOOOOOOOOOOOOOOOOOOOOOOOOOOO X";
     const uint8_t moves[] = {37, 43, 18, 19, 26}; /* f5 d6 c3 d3 c4 */
     oth_position position;
     oth_answer answer;
-    uint8_t place, text[OTH_BOARD_LINE];
+    uint8_t place, text[OTH_BOARD_LINE], version[OTH_VERSION_LINE];
+    size_t written;
     printf("othsolve %s\n", OTHSOLVE_VERSION);
+    if (oth_version(version, sizeof version, &written) != OTH_DONE) return 6;
+    printf("%d\n", memcmp(version, OTHSOLVE_VERSION " ", sizeof OTHSOLVE_VERSION));
     if (oth_read_board((const uint8_t *)line, OTH_BOARD_LINE, &position, &place) != OTH_DONE) return 1;
     if (oth_solve_alone(position.board, OTH_SCORING_WINNER, 64, &answer) != OTH_DONE) return 2;
     printf("%d %d %d\n", answer.score, (int)answer.best, answer.kind);
@@ -59,6 +62,7 @@ int main(void) {
 }
 """
 FRESH_WRITES = f"""othsolve {VERSION}
+0
 -50 {1 << 7} 0
 ------------------XO------XXX------OXX-----O-------------------- O
 """
@@ -320,6 +324,8 @@ def program(prefix):
     if shutil.which("man"):
         found = ran(["man", "-w", "othsolve"], env={**os.environ, "MANPATH": f"{prefix}/share/man"})
         yield "man finds the page", None if os.path.realpath(page) == os.path.realpath(found.wrote.decode().strip()) else f"{found}"
+    wrong = c_library.ran_wrong([f"{prefix}/bin/othsolve", "--version"], "", version_line(f"{prefix}/bin/othsolve"))
+    yield "the version is the header's, and the logic what the compiler wrote into the program", wrong
 
 
 def shared_object(prefix):
@@ -363,9 +369,7 @@ def c_programs(folder, prefix):
     """Tests a fresh program and the example, over the shared object and over the archive."""
     words, libraries, version = flags(prefix)
     yield "what othsolve.pc says", differs((words, libraries, version), flags_by_hand(prefix))
-    printed = ran([f"{prefix}/bin/othsolve", "--version"]).wrote.decode()
-    yield "othsolve.pc has the program's version", differs(f"othsolve {version}\n", printed)
-    yield "the header's version is the program's", differs(FRESH_WRITES.splitlines(True)[0], printed)
+    yield "othsolve.pc has the header's version", differs(version, VERSION)
     here = f"{folder}/work"
     with open(f"{here}/fresh.c", "w", encoding="ascii") as file:
         file.write(FRESH)
@@ -391,6 +395,9 @@ def python(folder, prefix):
     yield f"{len(rows)} expressions in Python", c_library.ran_wrong([sys.executable, "-c", EVALUATES], given, wanted, env=told)
     yield "each refusal says in Python what the header says", refusals_differ(told)
     yield from python_shown(told)
+    words = [sys.executable, "-c", "import othsolve; print(othsolve.__version__); print('othsolve', othsolve.LIBRARY_VERSION)"]
+    wanted = f"{VERSION}\n{version_line(told['OTHSOLVE_LIBRARY'])}"
+    yield "the module's version, and the library's", c_library.ran_wrong(words, "", wanted, env=told)
     boards = list(minimax.boards(THREADS_SEED, THREADS_BOARDS, THREADS_EMPTIES))
     lines = text_of(minimax.board_line(*board) for board in boards)
     reports = list(zip(*(minimax.reports(*board) for board in boards), strict=True))
