@@ -20,18 +20,20 @@ PYTHON = f"{TOP}/examples/python"
 SONAME = f"libothsolve.so.{VERSION.split('.')[0]}"
 THREADS_SEED, THREADS_BOARDS, THREADS_EMPTIES = 20261125, 200, 6
 ANALYSED_EMPTIES = 7
-FILES = f"""bin/othsolve
-include/othsolve.h
-lib/libothsolve.a
-lib/libothsolve.so
-lib/{SONAME}
-lib/libothsolve.so.{VERSION}
-lib/pkgconfig/othsolve.pc
+FILES_OF_PROGRAM = """bin/othsolve
 share/bash-completion/completions/othsolve
 share/man/man1/othsolve.1
 share/othsolve/installed
 share/zsh/site-functions/_othsolve
 """.split()
+FILES_OF_LIBRARY = f"""include/othsolve.h
+lib/libothsolve.a
+lib/libothsolve.so
+lib/{SONAME}
+lib/libothsolve.so.{VERSION}
+lib/pkgconfig/othsolve.pc
+""".split()
+FILES = sorted([*FILES_OF_PROGRAM, *FILES_OF_LIBRARY])
 # A C program that knows the header alone. Its answers are worked ones.
 FRESH = r"""
 #include <othsolve.h>
@@ -199,6 +201,8 @@ try:
 except Refused as refused:
     print(len(answers), refused)
 """
+# What `install --program` runs.
+TOOLS = "bash chmod cp dirname find install mkdir mktemp realpath rm rmdir sed sort tac".split()
 # What is typed, and what completion offers.
 COMPLETES = {
     "othsolve b": "book-add book-verify",
@@ -250,9 +254,7 @@ def steps(crates):
     """Yields a step for each thing that is asked: its name, and what is wrong, if anything."""
     with tempfile.TemporaryDirectory() as folder:
         os.mkdir(f"{folder}/work")
-        if not os.path.isfile(f"{crates}/oth_c/out/liboth_c.a"):
-            made = [f"{TOP}/examples/c/library.sh", f"{folder}/work", crates]
-            yield "the C library is made", c_library.ran_wrong(made, patience=c_library.BUILD_PATIENCE)
+        yield from library(f"{folder}/work", crates)
         yield from refused(folder, crates)
         prefix = f"{folder}/prefix"
         found = ran([INSTALL, prefix, crates])
@@ -268,7 +270,15 @@ def steps(crates):
         yield from zsh_completion(prefix)
         yield from again_and_away(folder, prefix, crates)
         yield from below_destdir(folder, crates)
+        yield from program_alone(folder, crates)
         yield from without_room(folder, crates)
+
+
+def library(folder, crates):
+    """Makes the C library where it isn't there yet, and puts it into the folder."""
+    if not os.path.isfile(f"{crates}/oth_c/out/liboth_c.a"):
+        made = [f"{TOP}/examples/c/library.sh", folder, crates]
+        yield "the C library is made", c_library.ran_wrong(made, patience=c_library.BUILD_PATIENCE)
 
 
 def differs(found, wanted):
@@ -292,6 +302,8 @@ def refused(folder, crates):
     rows = [
         ("no PREFIX", [], 2, "PREFIX is missing"),
         ("an option that isn't there", ["--prefix"], 2, "there is no option --prefix"),
+        ("an option behind PREFIX", ["a", "--program"], 2, "--program stands in front of PREFIX"),
+        ("two options", ["--program", "--uninstall", "a"], 2, "there is no option --uninstall"),
         ("too many words", ["a", "b", "c"], 2, "too many words"),
         ("a PREFIX below a file", [f"{INSTALL}/below", crates], 1, f"{INSTALL} is no folder"),
         ("a PREFIX that can't be made", ["/proc/othsolve", crates], 1, "nothing was installed"),
@@ -303,7 +315,8 @@ def refused(folder, crates):
         right = found.status == status and found.wrote == b"" and said in found.said.decode() and not os.listdir(f"{folder}/empty")
         yield f"install is refused: {name}", None if right else f"{found}"
     helped = ran([INSTALL, "--help"])
-    yield "install tells its usage", None if helped.status == 0 and helped.wrote.startswith(b"usage: ./install PREFIX") else f"{helped}"
+    right = helped.status == 0 and helped.wrote.startswith(b"usage: ./install [--program] PREFIX")
+    yield "install tells its usage", None if right else f"{helped}"
     said = ran([INSTALL, f"{folder}/empty", f"{folder}/no_crates"]).said.decode()
     for crate, command in (("othsolve", "rt run -- --version"), ("oth_c", "rt lib")):
         told = f"(cd {os.path.realpath(folder)}/no_crates/{crate} && {command})"
@@ -580,6 +593,36 @@ def below_destdir(folder, crates):
     yield "othsolve.pc names PREFIX and not DESTDIR", None if pc.startswith("prefix=/opt/othsolve\n") and "package" not in pc else pc
     found = ran([INSTALL, "--uninstall", "/opt/othsolve"], env=told)
     yield "nothing is left below DESTDIR", differs((found.status, files(f"{folder}/package"), os.listdir(root)), (0, [], []))
+
+
+def program_alone(folder, crates):
+    """Tests an installation of the program alone, where neither the C library nor what makes it is there, and one of all over it."""
+    prefix, alone, tools = f"{folder}/alone", f"{folder}/program/othsolve/out", f"{folder}/tools"
+    os.makedirs(alone)
+    os.mkdir(tools)
+    shutil.copy(f"{crates}/othsolve/out/othsolve", alone)
+    for tool in TOOLS:
+        os.symlink(shutil.which(tool), f"{tools}/{tool}")
+    told = {**os.environ, "PATH": tools}
+    found = ran([INSTALL, "--program", prefix, f"{folder}/program"], env=told)
+    yield "the program alone is installed without rt, cc and ar", differs((found.status, files(prefix)), (0, FILES_OF_PROGRAM))
+    yield "it answers", c_library.ran_wrong([f"{prefix}/bin/othsolve", "moves"], "X" * 64 + " O\n", "end\n")
+    found = ran([INSTALL, f"{folder}/all", f"{folder}/program"], env=told)
+    right = found.status == 1 and b"./install --program" in found.said and not os.path.exists(f"{folder}/all")
+    yield "without it, it is named where the library isn't built", None if right else f"{found}"
+    found = ran([INSTALL, prefix, crates])
+    yield "all is installed over the program", differs((found.status, files(prefix)), (0, FILES))
+    found = ran([INSTALL, "--program", prefix, crates])
+    yield "the program takes the place of all", differs((found.status, files(prefix)), (0, FILES_OF_PROGRAM))
+    found = ran([INSTALL, "--uninstall", prefix], env=told)
+    yield "it is taken away", differs((found.status, os.listdir(prefix)), (0, []))
+    found = ran([INSTALL, prefix, crates], env={**os.environ, "LIBDIR": "lib64"})
+    wanted = sorted(re.sub("^lib/", "lib64/", name) for name in FILES)
+    yield "LIBDIR gets the libraries", differs((found.status, files(prefix)), (0, wanted))
+    pc = read(f"{prefix}/lib64/pkgconfig/othsolve.pc")
+    yield "othsolve.pc names LIBDIR", None if f"prefix={prefix}\nlibdir=${{prefix}}/lib64\n" in pc else pc
+    found = ran([INSTALL, "--uninstall", prefix])
+    yield "LIBDIR is taken away", differs((found.status, os.listdir(prefix)), (0, []))
 
 
 def without_room(folder, crates):

@@ -8,6 +8,8 @@ from checks.shared import ROOT, text_of, unless
 
 # Where the version of the C header stands too, and how: by itself, or with the logic.
 VERSIONS = {
+    "CHANGELOG.md": "\n## {version}\n",
+    "README.md": "/pahkrin_{version}_amd64.deb",
     "crates/oth_c/specs/Texts.antt": 'version_text = codes "{version} (rattle logic {logic})"\n',
     "crates/oth_c/src/version.rt": 'const LIBRARY_VERSION: &str = "{version} (rattle logic {logic})";\n',
     "crates/oth_words/src/command_line.rt": 'const VERSION: &str = "{version} (rattle logic {logic})";\n',
@@ -27,6 +29,8 @@ def version_faults():
     for name, text in VERSIONS.items():
         said = text.format(version=version, logic=logic)
         yield unless(said in text_of(ROOT / name), f"{name}: it doesn't say {said.strip()}")
+    newest = re.search(r"\n## (.*)\n", text_of(ROOT / "CHANGELOG.md")).group(1)
+    yield unless(newest == version, f"CHANGELOG.md: the newest version is {newest}, that of the C header {version}")
     if shutil.which("rt"):
         kit = ran(["rt", "version"]).stdout.strip()
         yield unless(kit.endswith(f" logic {logic}"), f"README.md: its logic is {logic}, and the kit is {kit}")
