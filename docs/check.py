@@ -34,7 +34,8 @@ It tests, in each document and, where it says so, in the code:
   longer than 140, and of `proofs/`, than 200;
 - that the tables and the plot of the measured figures are those of bench/figures.txt (`bench/plot.py --check`), and that a plain Rust
   copy of the search can be made (`bench/plain.py --check`);
-- that the version is the same in the code, docs/FORMATS.md, the man page, the C header and two parts of hostile;
+- that the version is that of the C header in the code, the man page, the Python module, CHANGELOG.md and wherever else it stands, and the
+  logic that of the README, and of the kit where `rt` is there;
 - that groff, where there is one, shows the man page without a warning.
 
 The tests stand in docs/checks/, a module for each kind.

@@ -1,5 +1,6 @@
 /* Calls the C library as a program would, and prints what `othsolve` prints, so that both can be compared byte by byte.
  *     c_calls refusals                          each refusal by its name; prints the names of those that do not come, or that write something
+ *     c_calls version                          what the library says of its version, behind the program's name
  *     c_calls moves | transcript | play         each line of standard input
  *     c_calls solve SCORING CELLS THREADS       this many threads solve all lines at once, with 1 MB of stack each; prints what all of them found
  *     c_calls share SCORING CELLS THREADS       the same over one table, each thread from a seat of its own
@@ -404,6 +405,27 @@ static void refusals_of_texts(void) {
     want("transcript: empty", oth_read_transcript(buffer, 0, &position, &place) == OTH_DONE && position.board.own == open_board.own);
 }
 
+/* The version's text, whatever its length, in a buffer that holds just it and in none that is shorter. */
+static void refusals_of_version(void) {
+    uint8_t buffer[OTH_VERSION_LINE + 1];
+    size_t length = 7, written = 7;
+    memset(buffer, 7, sizeof buffer);
+    want("version: no room", oth_version(buffer, 0, &written) == OTH_ROOM && written == 7 && buffer[0] == 7);
+    want("version", oth_version(buffer, OTH_VERSION_LINE, &length) == OTH_DONE && length <= OTH_VERSION_LINE && buffer[length] == 7);
+    want("version: begins as the header's", memcmp(buffer, OTHSOLVE_VERSION " (", sizeof OTHSOLVE_VERSION + 1) == 0);
+    memset(buffer, 7, sizeof buffer);
+    want("version: room", oth_version(buffer, length - 1, &written) == OTH_ROOM && written == 7 && buffer[0] == 7);
+    want("version: just room", oth_version(buffer, length, &written) == OTH_DONE && written == length && buffer[length - 1] == ')');
+}
+
+static void print_version(void) {
+    uint8_t buffer[OTH_VERSION_LINE];
+    size_t written = 0;
+    if (oth_version(buffer, sizeof buffer, &written) == OTH_DONE) {
+        printf("othsolve %.*s\n", (int)written, (const char *)buffer);
+    }
+}
+
 static int keeps_position(uint32_t code, uint32_t wanted, oth_position position) {
     return code == wanted && position.board.own == 7 && position.board.opp == 8 && position.mover == 7;
 }
@@ -439,7 +461,12 @@ int main(int count, char **words) {
         refusals_of_seats();
         refusals_of_texts();
         refusals_of_games();
+        refusals_of_version();
         return wrong;
+    }
+    if (strcmp(command, "version") == 0) {
+        print_version();
+        return 0;
     }
     read_lines();
     by_parts = strcmp(command, "within") == 0;

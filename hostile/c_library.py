@@ -50,6 +50,7 @@ def steps(crates):
             return
         calls = f"{tests}/c_calls"
         yield "each refusal of a C call", ran_wrong([calls, "refusals"])
+        yield "the library's version is the program's", ran_wrong([calls, "version"], wanted=printed([program, "--version"], ""))
         lines = board_lines()
         yield from against_program(program, calls, lines)
         yield from scores(program, calls)

@@ -13,38 +13,43 @@ import textwrap
 
 import c_library
 import minimax
-from running import TOP, ran, text_of
+from running import TOP, VERSION, ran, text_of, version_line
 
 INSTALL = f"{TOP}/install"
 PYTHON = f"{TOP}/examples/python"
-VERSION = "0.1.0"
 SONAME = f"libothsolve.so.{VERSION.split('.')[0]}"
 THREADS_SEED, THREADS_BOARDS, THREADS_EMPTIES = 20261125, 200, 6
 ANALYSED_EMPTIES = 7
-FILES = f"""bin/othsolve
-include/othsolve.h
-lib/libothsolve.a
-lib/libothsolve.so
-lib/{SONAME}
-lib/libothsolve.so.{VERSION}
-lib/pkgconfig/othsolve.pc
+FILES_OF_PROGRAM = """bin/othsolve
 share/bash-completion/completions/othsolve
 share/man/man1/othsolve.1
 share/othsolve/installed
 share/zsh/site-functions/_othsolve
 """.split()
+FILES_OF_LIBRARY = f"""include/othsolve.h
+lib/libothsolve.a
+lib/libothsolve.so
+lib/{SONAME}
+lib/libothsolve.so.{VERSION}
+lib/pkgconfig/othsolve.pc
+""".split()
+FILES = sorted([*FILES_OF_PROGRAM, *FILES_OF_LIBRARY])
 # A C program that knows the header alone. Its answers are worked ones.
 FRESH = r"""
 #include <othsolve.h>
 #include <stdio.h>
+#include <string.h>
 
 int main(void) {
     const char *line = "--OXOOO-OOOOOOOOOOOOOOOOOOOOOOOOOOOOOOOOOOOOOOOOOOOOOOOOOOOOOOOO X";
     const uint8_t moves[] = {37, 43, 18, 19, 26}; /* f5 d6 c3 d3 c4 */
     oth_position position;
     oth_answer answer;
-    uint8_t place, text[OTH_BOARD_LINE];
+    uint8_t place, text[OTH_BOARD_LINE], version[OTH_VERSION_LINE];
+    size_t written;
     printf("othsolve %s\n", OTHSOLVE_VERSION);
+    if (oth_version(version, sizeof version, &written) != OTH_DONE) return 6;
+    printf("%d\n", memcmp(version, OTHSOLVE_VERSION " ", sizeof OTHSOLVE_VERSION));
     if (oth_read_board((const uint8_t *)line, OTH_BOARD_LINE, &position, &place) != OTH_DONE) return 1;
     if (oth_solve_alone(position.board, OTH_SCORING_WINNER, 64, &answer) != OTH_DONE) return 2;
     printf("%d %d %d\n", answer.score, (int)answer.best, answer.kind);
@@ -59,6 +64,7 @@ int main(void) {
 }
 """
 FRESH_WRITES = f"""othsolve {VERSION}
+0
 -50 {1 << 7} 0
 ------------------XO------XXX------OXX-----O-------------------- O
 """
@@ -195,6 +201,8 @@ try:
 except Refused as refused:
     print(len(answers), refused)
 """
+# What `install --program` runs.
+TOOLS = "bash chmod cp dirname find install mkdir mktemp realpath rm rmdir sed sort tac".split()
 # What is typed, and what completion offers.
 COMPLETES = {
     "othsolve b": "book-add book-verify",
@@ -246,9 +254,7 @@ def steps(crates):
     """Yields a step for each thing that is asked: its name, and what is wrong, if anything."""
     with tempfile.TemporaryDirectory() as folder:
         os.mkdir(f"{folder}/work")
-        if not os.path.isfile(f"{crates}/oth_c/out/liboth_c.a"):
-            made = [f"{TOP}/examples/c/library.sh", f"{folder}/work", crates]
-            yield "the C library is made", c_library.ran_wrong(made, patience=c_library.BUILD_PATIENCE)
+        yield from library(f"{folder}/work", crates)
         yield from refused(folder, crates)
         prefix = f"{folder}/prefix"
         found = ran([INSTALL, prefix, crates])
@@ -264,7 +270,15 @@ def steps(crates):
         yield from zsh_completion(prefix)
         yield from again_and_away(folder, prefix, crates)
         yield from below_destdir(folder, crates)
+        yield from program_alone(folder, crates)
         yield from without_room(folder, crates)
+
+
+def library(folder, crates):
+    """Makes the C library where it isn't there yet, and puts it into the folder."""
+    if not os.path.isfile(f"{crates}/oth_c/out/liboth_c.a"):
+        made = [f"{TOP}/examples/c/library.sh", folder, crates]
+        yield "the C library is made", c_library.ran_wrong(made, patience=c_library.BUILD_PATIENCE)
 
 
 def differs(found, wanted):
@@ -288,6 +302,8 @@ def refused(folder, crates):
     rows = [
         ("no PREFIX", [], 2, "PREFIX is missing"),
         ("an option that isn't there", ["--prefix"], 2, "there is no option --prefix"),
+        ("an option behind PREFIX", ["a", "--program"], 2, "--program stands in front of PREFIX"),
+        ("two options", ["--program", "--uninstall", "a"], 2, "there is no option --uninstall"),
         ("too many words", ["a", "b", "c"], 2, "too many words"),
         ("a PREFIX below a file", [f"{INSTALL}/below", crates], 1, f"{INSTALL} is no folder"),
         ("a PREFIX that can't be made", ["/proc/othsolve", crates], 1, "nothing was installed"),
@@ -299,7 +315,8 @@ def refused(folder, crates):
         right = found.status == status and found.wrote == b"" and said in found.said.decode() and not os.listdir(f"{folder}/empty")
         yield f"install is refused: {name}", None if right else f"{found}"
     helped = ran([INSTALL, "--help"])
-    yield "install tells its usage", None if helped.status == 0 and helped.wrote.startswith(b"usage: ./install PREFIX") else f"{helped}"
+    right = helped.status == 0 and helped.wrote.startswith(b"usage: ./install [--program] PREFIX")
+    yield "install tells its usage", None if right else f"{helped}"
     said = ran([INSTALL, f"{folder}/empty", f"{folder}/no_crates"]).said.decode()
     for crate, command in (("othsolve", "rt run -- --version"), ("oth_c", "rt lib")):
         told = f"(cd {os.path.realpath(folder)}/no_crates/{crate} && {command})"
@@ -320,6 +337,8 @@ def program(prefix):
     if shutil.which("man"):
         found = ran(["man", "-w", "othsolve"], env={**os.environ, "MANPATH": f"{prefix}/share/man"})
         yield "man finds the page", None if os.path.realpath(page) == os.path.realpath(found.wrote.decode().strip()) else f"{found}"
+    wrong = c_library.ran_wrong([f"{prefix}/bin/othsolve", "--version"], "", version_line(f"{prefix}/bin/othsolve"))
+    yield "the version is the header's, and the logic what the compiler wrote into the program", wrong
 
 
 def shared_object(prefix):
@@ -363,9 +382,7 @@ def c_programs(folder, prefix):
     """Tests a fresh program and the example, over the shared object and over the archive."""
     words, libraries, version = flags(prefix)
     yield "what othsolve.pc says", differs((words, libraries, version), flags_by_hand(prefix))
-    printed = ran([f"{prefix}/bin/othsolve", "--version"]).wrote.decode()
-    yield "othsolve.pc has the program's version", differs(f"othsolve {version}\n", printed)
-    yield "the header's version is the program's", differs(FRESH_WRITES.splitlines(True)[0], printed)
+    yield "othsolve.pc has the header's version", differs(version, VERSION)
     here = f"{folder}/work"
     with open(f"{here}/fresh.c", "w", encoding="ascii") as file:
         file.write(FRESH)
@@ -391,6 +408,9 @@ def python(folder, prefix):
     yield f"{len(rows)} expressions in Python", c_library.ran_wrong([sys.executable, "-c", EVALUATES], given, wanted, env=told)
     yield "each refusal says in Python what the header says", refusals_differ(told)
     yield from python_shown(told)
+    words = [sys.executable, "-c", "import othsolve; print(othsolve.__version__); print('othsolve', othsolve.LIBRARY_VERSION)"]
+    wanted = f"{VERSION}\n{version_line(told['OTHSOLVE_LIBRARY'])}"
+    yield "the module's version, and the library's", c_library.ran_wrong(words, "", wanted, env=told)
     boards = list(minimax.boards(THREADS_SEED, THREADS_BOARDS, THREADS_EMPTIES))
     lines = text_of(minimax.board_line(*board) for board in boards)
     reports = list(zip(*(minimax.reports(*board) for board in boards), strict=True))
@@ -573,6 +593,36 @@ def below_destdir(folder, crates):
     yield "othsolve.pc names PREFIX and not DESTDIR", None if pc.startswith("prefix=/opt/othsolve\n") and "package" not in pc else pc
     found = ran([INSTALL, "--uninstall", "/opt/othsolve"], env=told)
     yield "nothing is left below DESTDIR", differs((found.status, files(f"{folder}/package"), os.listdir(root)), (0, [], []))
+
+
+def program_alone(folder, crates):
+    """Tests an installation of the program alone, where neither the C library nor what makes it is there, and one of all over it."""
+    prefix, alone, tools = f"{folder}/alone", f"{folder}/program/othsolve/out", f"{folder}/tools"
+    os.makedirs(alone)
+    os.mkdir(tools)
+    shutil.copy(f"{crates}/othsolve/out/othsolve", alone)
+    for tool in TOOLS:
+        os.symlink(shutil.which(tool), f"{tools}/{tool}")
+    told = {**os.environ, "PATH": tools}
+    found = ran([INSTALL, "--program", prefix, f"{folder}/program"], env=told)
+    yield "the program alone is installed without rt, cc and ar", differs((found.status, files(prefix)), (0, FILES_OF_PROGRAM))
+    yield "it answers", c_library.ran_wrong([f"{prefix}/bin/othsolve", "moves"], "X" * 64 + " O\n", "end\n")
+    found = ran([INSTALL, f"{folder}/all", f"{folder}/program"], env=told)
+    right = found.status == 1 and b"./install --program" in found.said and not os.path.exists(f"{folder}/all")
+    yield "without it, it is named where the library isn't built", None if right else f"{found}"
+    found = ran([INSTALL, prefix, crates])
+    yield "all is installed over the program", differs((found.status, files(prefix)), (0, FILES))
+    found = ran([INSTALL, "--program", prefix, crates])
+    yield "the program takes the place of all", differs((found.status, files(prefix)), (0, FILES_OF_PROGRAM))
+    found = ran([INSTALL, "--uninstall", prefix], env=told)
+    yield "it is taken away", differs((found.status, os.listdir(prefix)), (0, []))
+    found = ran([INSTALL, prefix, crates], env={**os.environ, "LIBDIR": "lib64"})
+    wanted = sorted(re.sub("^lib/", "lib64/", name) for name in FILES)
+    yield "LIBDIR gets the libraries", differs((found.status, files(prefix)), (0, wanted))
+    pc = read(f"{prefix}/lib64/pkgconfig/othsolve.pc")
+    yield "othsolve.pc names LIBDIR", None if f"prefix={prefix}\nlibdir=${{prefix}}/lib64\n" in pc else pc
+    found = ran([INSTALL, "--uninstall", prefix])
+    yield "LIBDIR is taken away", differs((found.status, os.listdir(prefix)), (0, []))
 
 
 def without_room(folder, crates):

@@ -5,8 +5,8 @@
 
 CRATES is the folder of the crates, `crates` if not given. Each step is a line, `ok` or `FAILED` and its name, and after a failure what is
 wrong. Where parts are named only their steps are run: `statuses`, `texts`, `flow`, `limits`, `seen`, `terminal`, `progress`,
-`differential`, `small_boards`, `recipes`, `refusals`, `c_library`, `installed`. As many parts run at once as there are processors, and the lines come
-in the order of the parts. The last line is `N passed, M failed`; the exit status is 1 where a step failed.
+`differential`, `small_boards`, `recipes`, `refusals`, `c_library`, `installed`, `packed`. As many parts run at once as there are
+processors, and the lines come in the order of the parts. The last line is `N passed, M failed`; the exit status is 1 where a step failed.
 """
 import argparse
 import concurrent.futures
@@ -20,6 +20,7 @@ import differential
 import flow
 import installed
 import limits
+import packed
 import progress
 import recipes
 import refusals
@@ -48,6 +49,7 @@ def every_part(crates):
         "refusals": lambda: refusals.steps(crates),
         "c_library": lambda: c_library.steps(crates),
         "installed": lambda: installed.steps(crates),
+        "packed": lambda: packed.steps(crates),
     }
 
 

@@ -1,8 +1,9 @@
 """Holds what several parts need: runs that come to an end or are killed, steps that are told, libraries in front of the C library, lines of
-boards, and books."""
+boards, books, and the version."""
 import mmap
 import os
 import random
+import re
 import struct
 import subprocess
 from typing import NamedTuple
@@ -14,6 +15,10 @@ TOP = os.path.dirname(os.path.dirname(os.path.abspath(__file__)))
 PATIENCE = 60
 LONG = 8
 EMPTY_BOOK = b"OBOOK2 W\nEND 000000\n"
+LOGIC_DIGITS = 16
+# The version, as the C header has it.
+with open(f"{TOP}/include/othsolve.h", encoding="ascii") as header:
+    VERSION = re.search(r'^#define OTHSOLVE_VERSION "(.*)"$', header.read(), re.MULTILINE)[1]
 
 
 class Ran(NamedTuple):
@@ -36,6 +41,13 @@ def ran(words, given=b"", patience=PATIENCE, **how):
     except (OSError, subprocess.SubprocessError) as error:
         return Ran(f"(none: {error})", b"", b"")
     return Ran(done.returncode, done.stdout or b"", done.stderr or b"")
+
+
+def version_line(file):
+    """Returns what `--version` has to print of code that was built into this file: the logic is what the compiler wrote there."""
+    with open(file, "rb") as code:
+        logics = {logic.decode() for logic in re.findall(rb"rattle logic=([0-9a-f]+)", code.read())}
+    return f"othsolve {VERSION} (rattle logic {' and '.join(sorted(logic[:LOGIC_DIGITS] for logic in logics)) or 'none'})\n"
 
 
 def board_lines(seed, count, empties):

@@ -6,7 +6,7 @@ import select
 import subprocess
 import tempfile
 
-from running import EMPTY_BOOK, file_of, ran
+from running import EMPTY_BOOK, LOGIC_DIGITS, VERSION, file_of, ran
 
 START = "---------------------------OX------XO--------------------------- X"
 FIVE_MOVES = "------------------XO------XXX------OXX-----O-------------------- O"
@@ -14,7 +14,7 @@ FULL_BOARD = "X" * 64 + " X"
 EDGE = "--OXOOO-" + "O" * 56 + " X"
 CORNERS = "X" * 60 + "OOO- X"
 TWO_CORNERS = "-OXXXXO-" + "X" * 56 + " X"
-VERSION = b"othsolve 0.1.0\n"
+VERSION_LINE = re.compile(rf"\Aothsolve {re.escape(VERSION)} \(rattle logic [0-9a-f]{{{LOGIC_DIGITS}}}\)\n\Z".encode())
 MEGABYTE = 1 << 20
 LITTLE = 64
 AT_ONCE = 5
@@ -65,8 +65,8 @@ def done(folder):
     yield Case("a last line without byte 10", ["solve"], FULL_BOARD.encode(), wrote=b"+64 end\n", said=b"")
     for words in (["--help"], ["-h"], ["help"]):
         yield Case(f"help by {words[0]}", words, wrote=helps(*COMMANDS), said=b"")
-    yield Case("version", ["--version"], wrote=VERSION, said=b"")
-    yield Case("version in short", ["-V"], wrote=VERSION, said=b"")
+    for word in ("--version", "-V"):
+        yield Case(f"version by {word}", [word], wrote=VERSION_LINE, said=b"")
     for command in COMMANDS:
         for words in ([command, "--help"], [command, "-h"], ["help", command]):
             yield Case(f"help by {' '.join(words)}", words, wrote=helps(command), said=b"")

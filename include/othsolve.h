@@ -47,8 +47,8 @@
 extern "C" {
 #endif
 
-/* The version of this header and its library, as `othsolve --version` prints it. */
-#define OTHSOLVE_VERSION "0.1.0"
+/* The version of this header. That of the library is what oth_version prints. */
+#define OTHSOLVE_VERSION "0.2.0"
 
 /* What a call returns. */
 enum {
@@ -83,7 +83,7 @@ enum { OTH_STOPPED = 41 };
 enum { OTH_SCORING_WINNER = 0, OTH_SCORING_DISCS = 1 };
 enum { OTH_KIND_MOVE = 0, OTH_KIND_PASS = 1, OTH_KIND_END = 2 };
 enum { OTH_BLACK = 0, OTH_WHITE = 1 };
-enum { OTH_BOARD_LINE = 66, OTH_MOVES_LINE = 191 };
+enum { OTH_BOARD_LINE = 66, OTH_MOVES_LINE = 191, OTH_VERSION_LINE = 64 };
 enum { OTH_NO_SCORE = -128 };
 
 /* The discs of the mover and of the opponent. */
@@ -215,6 +215,13 @@ uint32_t oth_print_board(oth_position position, uint8_t *buffer, size_t size);
  * `written` gets the number of bytes, at most OTH_MOVES_LINE.
  * Refusals, the first that holds: OTH_OVERLAP, OTH_ROOM. */
 uint32_t oth_print_moves(oth_board board, uint8_t *buffer, size_t size, size_t *written);
+
+/* Prints the version of the library, and the first 16 digits of the toolchain's logic that its proofs are of, into the
+ * front of a buffer, as `othsolve --version` does behind its name: "0.2.0 (rattle logic dac8208d650f15bf)". Its first bytes
+ * are those of OTHSOLVE_VERSION where header and library belong together. `written` gets the number of bytes, at most
+ * OTH_VERSION_LINE.
+ * Refusal: OTH_ROOM. */
+uint32_t oth_version(uint8_t *buffer, size_t size, size_t *written);
 
 #ifdef __cplusplus
 }

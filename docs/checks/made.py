@@ -6,22 +6,34 @@ import sys
 
 from checks.shared import ROOT, text_of, unless
 
-# Where the version stands beside the code, and how.
+# Where the version of the C header stands too, and how: by itself, or with the logic.
 VERSIONS = {
-    "docs/FORMATS.md": "`othsolve {}`",
-    "docs/othsolve.1": '"Pahkrin {}"',
-    "include/othsolve.h": '#define OTHSOLVE_VERSION "{}"\n',
-    "hostile/installed.py": 'VERSION = "{}"\n',
-    "hostile/statuses.py": 'b"othsolve {}\\n"',
+    "CHANGELOG.md": "\n## {version}\n",
+    "README.md": "/pahkrin_{version}_amd64.deb",
+    "crates/oth_c/specs/Texts.antt": 'version_text = codes "{version} (rattle logic {logic})"\n',
+    "crates/oth_c/src/version.rt": 'const LIBRARY_VERSION: &str = "{version} (rattle logic {logic})";\n',
+    "crates/oth_words/src/command_line.rt": 'const VERSION: &str = "{version} (rattle logic {logic})";\n',
+    "docs/FORMATS.md": "`othsolve {version} (rattle logic {logic})`",
+    "docs/othsolve.1": '"Pahkrin {version}"',
+    "examples/python/othsolve/__init__.py": '__version__ = "{version}"\n',
+    "examples/python/pyproject.toml": 'version = "{version}"\n',
+    "hostile/texts/help.txt": "\nothsolve {version} (rattle logic {logic})\n",
+    "include/othsolve.h": ' "{version} (rattle logic {logic})"',
 }
 
 
 def version_faults():
-    """Tests that the version is the same in the code, the documents, the C header and two parts of hostile."""
-    code = text_of(ROOT / "crates/oth_words/src/command_line.rt")
-    version = re.search(r'const VERSION: &str = "(.*)";', code).group(1)
+    """Tests that the version is the C header's wherever it stands, and the logic that of the README, and of the kit where there is one."""
+    version = re.search(r'#define OTHSOLVE_VERSION "(.*)"\n', text_of(ROOT / "include/othsolve.h")).group(1)
+    logic = re.search(r"`logic ([0-9a-f]+)`", text_of(ROOT / "README.md")).group(1)
     for name, text in VERSIONS.items():
-        yield unless(text.format(version) in text_of(ROOT / name), f"{name}: the version isn't {version}")
+        said = text.format(version=version, logic=logic)
+        yield unless(said in text_of(ROOT / name), f"{name}: it doesn't say {said.strip()}")
+    newest = re.search(r"\n## (.*)\n", text_of(ROOT / "CHANGELOG.md")).group(1)
+    yield unless(newest == version, f"CHANGELOG.md: the newest version is {newest}, that of the C header {version}")
+    if shutil.which("rt"):
+        kit = ran(["rt", "version"]).stdout.strip()
+        yield unless(kit.endswith(f" logic {logic}"), f"README.md: its logic is {logic}, and the kit is {kit}")
 
 
 def made_faults():

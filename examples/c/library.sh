@@ -11,11 +11,14 @@ heap=$(dirname "$(rt doc)")/c/liblibc_c.a
 if [ -z "$2" ] || [ ! -f "$crates/oth_c/out/liboth_c.a" ]; then
     (cd "$crates/oth_c" && rt lib) >&2
 fi
-ar -M <<SCRIPT
-CREATE $folder/libothsolve.a
-ADDLIB $crates/oth_c/out/liboth_c.a
-ADDLIB $heap
+work=$(mktemp -d)
+trap 'rm -r "$work"' EXIT
+cp "$crates/oth_c/out/liboth_c.a" "$heap" "$work"
+(cd "$work" && ar -M) <<SCRIPT
+CREATE libothsolve.a
+ADDLIB liboth_c.a
+ADDLIB $(basename "$heap")
 SAVE
 END
 SCRIPT
-cp "$top/include/othsolve.h" "$top/examples/c/worked.c" "$folder"
+cp "$work/libothsolve.a" "$top/include/othsolve.h" "$top/examples/c/worked.c" "$folder"

@@ -5,7 +5,9 @@
 --     game_code, game_place c text      of a transcript from a position: the position's first fault, or that of the moves
 --     print_code c n      of a board line that is printed into n bytes
 --     moves_line_code b n      of a moves line that is printed into n bytes
-use Rattle.std.specs.Prelude.{ℕ, Result, Ok, Err, ◌==◌, nat_lt, length, List, if◌then◌else◌}
+--     version_text      the library's version, and the toolchain's logic that its proofs are of
+--     version_code n      of this text that is printed into n bytes
+use Rattle.std.specs.Prelude.{ℕ, Result, Ok, Err, ◌==◌, nat_lt, length, List, codes, if◌then◌else◌}
 use Rattle.oth_text.specs.declared.position.Position.{Position}
 use Rattle.oth_text.specs.declared.fault.LineFault.{LineFault}
 use Rattle.oth_text.specs.declared.fault.LineFault.TheVariants.{Length, BadCell, Space, Mover, Empties}
@@ -63,3 +65,9 @@ abbrev pub moves_line_code : OthBoard → ℕ → ℕ
 moves_line_code b n =
     if overlaps b then code_of refusal.Overlap
     else if nat_lt n (length (moves_line_of (position b))) then code_of refusal.Room else 0
+
+abbrev pub version_text : List ℕ
+version_text = codes "0.2.0 (rattle logic dac8208d650f15bf)"
+
+abbrev pub version_code : ℕ → ℕ
+version_code n = if nat_lt n (length version_text) then code_of refusal.Room else 0

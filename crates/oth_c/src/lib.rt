@@ -19,4 +19,5 @@ mod seated;
 mod sharing;
 mod solving;
 mod texts;
+mod version;
 mod within;

@@ -181,8 +181,8 @@ fn printed(position: OthPosition, line: &mut [u8]) -> Result<(), Refusal>
     put(write_board(&position).as_slice(), line)
 }
 
-// Copies the text into the front of the buffer; refused where it is too short.
-fn put(text: &[u8], buffer: &mut [u8]) -> Result<(), Refusal>
+/// Copies the text into the front of the buffer; refused where it is too short.
+pub fn put(text: &[u8], buffer: &mut [u8]) -> Result<(), Refusal>
     ensures ok { IfOk result (λ u. (length text.now ≤ length buffer.old)
         × (buffer.new ≡ text.now ++ drop (length text.now) buffer.old)) }
     ensures err { IfErr result (λ r. (length buffer.old < length text.now) × (r ≡ refusal.Room)

@@ -27,8 +27,9 @@ const SCORINGS: [&str; 2] = ["winner", "discs"];
 // The most cells that `--cells` takes; `run` then refuses what is no power of two.
 const MOST_CELLS: u32 = 262_144;
 
-// What `--version` prints behind the program's name.
-const VERSION: &str = "0.1.0";
+// What `--version` prints behind the program's name: the version, and the first 16 digits of the toolchain's logic that
+// the proofs are of.
+const VERSION: &str = "0.2.0 (rattle logic dac8208d650f15bf)";
 
 // What each command is about, how it is called, and what stands behind its help.
 

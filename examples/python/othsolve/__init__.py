@@ -34,12 +34,14 @@ from collections.abc import Iterable, Iterator
 from concurrent.futures import Future, ThreadPoolExecutor
 from dataclasses import dataclass
 
-__all__ = ["Answer", "Board", "Bounds", "Kind", "MOST_EMPTIES", "Refused", "Scoring", "Side", "Table", "solve_all"]
+__all__ = ["Answer", "Board", "Bounds", "Kind", "LIBRARY_VERSION", "MOST_EMPTIES", "Refused", "Scoring", "Side", "Table", "solve_all"]
+
+__version__ = "0.2.0"
 
 MOST_EMPTIES = 30
 """A board with more empty squares is not solved."""
 
-_BOARD_LINE, _MOVES_LINE = 66, 191
+_BOARD_LINE, _MOVES_LINE, _VERSION_LINE = 66, 191, 64
 _WAITING_PER_THREAD = 4
 
 # The number of each refusal, and what it says, as in othsolve.h.
@@ -162,9 +164,12 @@ def _library() -> ctypes.CDLL:
         "oth_play_game": [_Position, ctypes.c_char_p, ctypes.c_size_t, ctypes.POINTER(_Position), place],
         "oth_print_board": [_Position, ctypes.c_char_p, ctypes.c_size_t],
         "oth_print_moves": [_Board, ctypes.c_char_p, ctypes.c_size_t, ctypes.POINTER(ctypes.c_size_t)],
+        "oth_version": [ctypes.c_char_p, ctypes.c_size_t, ctypes.POINTER(ctypes.c_size_t)],
     }
     for name, types in calls.items():
-        call = getattr(library, name)
+        call = getattr(library, name, None)
+        if call is None:
+            raise ImportError(f"{library._name} has no {name}: it is older than this module, {__version__}")
         call.argtypes, call.restype = types, None if name == "oth_seat_free" else ctypes.c_uint32
     return library
 
@@ -175,6 +180,17 @@ _LIB = _library()
 def _done(code: int, place: int | None = None) -> None:
     if code:
         raise Refused(code, place)
+
+
+def _version() -> str:
+    """Returns what the library says of its version."""
+    line, written = ctypes.create_string_buffer(_VERSION_LINE), ctypes.c_size_t()
+    _done(_LIB.oth_version(line, _VERSION_LINE, ctypes.byref(written)))
+    return line.raw[: written.value].decode()
+
+
+LIBRARY_VERSION: str = _version()
+"""The version of the library, and the toolchain's logic that its proofs are of: `othsolve --version` prints this behind its name."""
 
 
 def _cells(cells: int) -> int:
