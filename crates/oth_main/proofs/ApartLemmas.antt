@@ -1,7 +1,11 @@
 -- The lines of a text that is ended, and of what follows it.
-use Rattle.std.proofs.Common.{◌≡◌, ◌∙◌, ◌++◌, ◌==◌, ℕ, Bool, true, false, not, cond, List, [], ◌∷◌, refl, sym, ap, append_assoc}
-use Rattle.oth_run.specs.Report.{Cut, after_end, cut, last_line, lines_of, onto_first}
-use Rattle.oth_main.specs.Joined.{ended}
+use Rattle.std.proofs.Common.{◌≡◌, ◌∙◌, ◌++◌, ◌==◌, ℕ, Bool, true, false, not, cond, List, [], ◌∷◌, map, Option, Some, None, is_some, refl, sym, ap, ap₂, append_assoc, append-nil, true≢false}
+use Rattle.std.specs.Prelude.{option_map, unwrap_or}
+use Rattle.std.specs.List.{flat_map}
+use Rattle.std.specs.Io.KnownBytes.{prepend_known}
+use Rattle.std.proofs.lemmas.List.Concat.{flat_map-append}
+use Rattle.oth_run.specs.Report.{Cut, after_end, cut, ended_report, last_line, last_report, lines_of, onto_first, report, with_end}
+use Rattle.oth_main.specs.Joined.{ended, joined}
 
 abbrev put : Bool → ℕ → Cut → Cut
 put is_end b c = cond is_end (after_end c) (onto_first b c.lines c.rest)
@@ -45,3 +49,34 @@ pub apart : (text rest : List ℕ) → lines_of (ended false text ++ rest) ≡ l
 apart text rest =
     ap (λ (c : Cut). c.lines ++ last_line c.rest) (cut_ended false text rest)
     ∙ append_assoc (lines_of text) (cut rest).lines (last_line (cut rest).rest)
+
+-- ---- reports
+
+module _ (reply : List ℕ → List ℕ) where
+  report_lines : (input : List ℕ) → report reply input ≡ flat_map (with_end reply) (lines_of input)
+  unfolding report ended_report
+  report_lines input = go (cut input).rest ∙ sym (flat_map-append (with_end reply) (cut input).lines (last_line (cut input).rest))
+    where
+      go : (rest : List ℕ) → flat_map (with_end reply) (cut input).lines ++ last_report reply rest
+          ≡ flat_map (with_end reply) (cut input).lines ++ flat_map (with_end reply) (last_line rest)
+      go [] = refl
+      go (b ∷ bs) = ap (λ l. flat_map (with_end reply) (cut input).lines ++ l) (sym (append-nil (with_end reply (b ∷ bs))))
+
+  report_apart : (text rest : List ℕ) → report reply (ended false text ++ rest) ≡ report reply text ++ report reply rest
+  report_apart text rest =
+      report_lines (ended false text ++ rest)
+      ∙ ap (flat_map (with_end reply)) (apart text rest)
+      ∙ flat_map-append (with_end reply) (lines_of text) (lines_of rest)
+      ∙ sym (ap₂ ◌++◌ (report_lines text) (report_lines rest))
+
+  -- the report of several sources is the report of each
+  pub reports : (first : List ℕ) (others : List (List ℕ))
+      → option_map (report reply) (joined false (Some first) (map (λ text. Some text) others)) ≡ Some (flat_map (report reply) (first ∷ others))
+  unfolding joined
+  reports first [] = ap Some (sym (append-nil (report reply first)))
+  reports first (text ∷ texts) = go (joined false (Some text) (map (λ t. Some t) texts)) (reports text texts)
+    where
+      go : (o : Option (List ℕ)) → option_map (report reply) o ≡ Some (flat_map (report reply) (text ∷ texts))
+          → option_map (report reply) (prepend_known (ended false first) o) ≡ Some (report reply first ++ flat_map (report reply) (text ∷ texts))
+      go None is = absurd (true≢false (sym (ap is_some is)))
+      go (Some r) is = ap Some (report_apart first r ∙ ap (λ l. report reply first ++ l) (ap (λ o. unwrap_or o []) is))

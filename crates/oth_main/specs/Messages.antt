@@ -2,9 +2,8 @@
 --     run_error fault      of the fault of a run
 --     book_refusal why      why a file is no book, with the line or the entry that is to blame
 --     book_ok count      of a true book of `count` entries
--- And one with its byte 10:
 --     awaited command      of a command whose lines are read from the terminal
-use Rattle.std.specs.Prelude.{ℕ, List, [], ◌∷◌, ◌++◌, Option, Some, None, codes, decimal}
+use Rattle.std.specs.Prelude.{ℕ, List, ◌++◌, Option, Some, None, codes, decimal}
 use Rattle.oth_book.specs.Numbers.{fault_line, fault_number, wrong_entry, wrong_number}
 use Rattle.oth_main.specs.declared.book_file.BookRefusal.{BookRefusal}
 use Rattle.oth_main.specs.declared.book_file.BookRefusal.TheVariants.{Text, Claim}
@@ -27,12 +26,9 @@ book_refusal (Claim wrong) = placed (codes "book wrong " ++ decimal (wrong_numbe
 abbrev pub book_ok : ℕ → List ℕ
 book_ok count = codes "book ok " ++ decimal count
 
-abbrev pub reading_from_terminal : List ℕ → List ℕ
-reading_from_terminal lines = (codes "othsolve: reading " ++ lines) ++ codes " from the terminal; end with Ctrl-D" ++ 10 ∷ []
-
 abbrev pub awaited : Command → List ℕ
-awaited Solve = reading_from_terminal (codes "boards")
-awaited Scores = reading_from_terminal (codes "boards")
-awaited Moves = reading_from_terminal (codes "boards")
-awaited Transcript = reading_from_terminal (codes "games")
-awaited Play = reading_from_terminal (codes "boards with moves")
+awaited Solve = codes "othsolve: reading boards from the terminal; end with Ctrl-D"
+awaited Scores = codes "othsolve: reading boards from the terminal; end with Ctrl-D"
+awaited Moves = codes "othsolve: reading boards from the terminal; end with Ctrl-D"
+awaited Transcript = codes "othsolve: reading games from the terminal; end with Ctrl-D"
+awaited Play = codes "othsolve: reading boards with moves from the terminal; end with Ctrl-D"

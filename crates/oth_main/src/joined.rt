@@ -1,8 +1,9 @@
 //! Sources that are read one after the other.
 
-ghost use Rattle.std.specs.Prelude.{◌≡◌, ◌++◌, ◌∷◌, ℕ, List, [], false, map, IsFalse, IsTrue, OnOk};
+ghost use Rattle.std.specs.Prelude.{◌≡◌, ◌++◌, ◌∷◌, ℕ, List, [], Some, false, map, option_map, IsFalse, IsTrue, OnOk};
+ghost use Rattle.std.specs.List.{flat_map};
 ghost use Rattle.oth_main.specs.Joined.{ended, joined};
-ghost use Rattle.oth_run.specs.Report.{lines_of};
+ghost use Rattle.oth_run.specs.Report.{lines_of, report};
 
 use oth_text::{Failed, Source};
 use std::alloc::{AllocError, Global};
@@ -117,8 +118,11 @@ impl<R: Source + Drop> Source for Joined<R> {
     }
 }
 
-/// A law: the lines of a source that another one follows, and of what follows, are the lines of both, each by
-/// themselves.
+/// Laws: the lines of a source that another one follows, and of what follows, are the lines of both, each by
+/// themselves; and the report of several sources, whose bytes are known, is the report of each, one after the other.
 pub fn sources_share_no_line()
-    ensures { (text rest : List ℕ) → lines_of (ended false text ++ rest) ≡ lines_of text ++ lines_of rest }
+    ensures lines { (text rest : List ℕ) → lines_of (ended false text ++ rest) ≡ lines_of text ++ lines_of rest }
+    ensures report { (reply : List ℕ → List ℕ) (first : List ℕ) (others : List (List ℕ))
+        → option_map (report reply) (joined false (Some first) (map (λ text. Some text) others))
+        ≡ Some (flat_map (report reply) (first ∷ others)) }
 {}

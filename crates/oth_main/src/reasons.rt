@@ -1,10 +1,11 @@
 //! The reasons in words, a second line for who sits at a terminal.
 
-ghost use Rattle.std.specs.Prelude.{◌≡◌, ◌+◌, None, false, true};
+ghost use Rattle.std.specs.Prelude.{◌≡◌, ◌+◌, ◌<◌, ◌++◌, ◌∷◌, [], None, false, length, true};
 ghost use Rattle.std.specs.Io.KnownBytes.{Appends};
 ghost use Rattle.oth_main.specs.Messages.{awaited};
 
 use crate::book_file::BookRefusal;
+use crate::message::Message;
 use oth_book::{AddError, Book, BookFault, Cause, Wrong};
 use oth_rules::Scoring;
 use oth_run::RunFault;
@@ -100,24 +101,14 @@ impl<E: Sink> Errors<E> {
     /// passed over.
     pub fn tell_awaited(&mut self, command: Command)
         ensures told { E.failed self.new.sink ≡ false
-            → Appends (E.contents self.old.sink) (E.contents self.new.sink) (awaited command) }
+            → Appends (E.contents self.old.sink) (E.contents self.new.sink) (awaited command ++ 10 ∷ []) }
         ensures reason { self.new.reason ≡ self.old.reason }
         ensures terminal { self.new.is_terminal ≡ self.old.is_terminal }
         ensures failed { E.failed self.old.sink ≡ true → self.new ≡ self.old }
     {
-        if self.sink.failed() {
-            return;
+        if !self.sink.failed() {
+            awaited_line(command).print(&mut self.sink);
         }
-        let line: &[u8] = match command {
-            Command::Solve | Command::Scores | Command::Moves => {
-                b"othsolve: reading boards from the terminal; end with Ctrl-D\n"
-            }
-            Command::Transcript => b"othsolve: reading games from the terminal; end with Ctrl-D\n",
-            Command::Play => {
-                b"othsolve: reading boards with moves from the terminal; end with Ctrl-D\n"
-            }
-        };
-        let _ = write_all(&mut self.sink, line);
     }
 
     // Prints a line of words on a terminal.
@@ -141,6 +132,24 @@ impl<E: Sink> Errors<E> {
         }
         if let Ok(line) = format!(in alloc; "{words}\n") {
             let _ = write_all(&mut self.sink, line.as_bytes());
+        }
+    }
+}
+
+// The line that tells what is read from the terminal.
+fn awaited_line(command: Command) -> Message
+    ensures text { result ≡ awaited command }
+    ensures short { length result < 80 }
+{
+    match command {
+        Command::Solve | Command::Scores | Command::Moves => {
+            Message::of(b"othsolve: reading boards from the terminal; end with Ctrl-D")
+        }
+        Command::Transcript => {
+            Message::of(b"othsolve: reading games from the terminal; end with Ctrl-D")
+        }
+        Command::Play => {
+            Message::of(b"othsolve: reading boards with moves from the terminal; end with Ctrl-D")
         }
     }
 }
