@@ -1,13 +1,13 @@
 # Completion of othsolve for bash. ./install puts it into PREFIX/share/bash-completion/completions.
 
-# The commands, a line each: its name, its options, and FILE where it takes one. A new command is a new line; a new option is a case of
+# The commands, a line each: its name, its options, and FILE where it takes one, or FILES where it takes several. A new command is a new line; a new option is a case of
 # _othsolve_values too, since each takes a value.
 _othsolve_commands='
-solve --workers --cells --scoring --book
-scores --workers --cells --scoring
-moves
-transcript
-play
+solve --workers --cells --scoring --book FILES
+scores --workers --cells --scoring FILES
+moves FILES
+transcript FILES
+play FILES
 book-verify FILE
 book-add --workers --cells FILE
 '
@@ -76,8 +76,8 @@ _othsolve() {
             local takes
             takes=$(_othsolve_line "$command")
             if [[ $cur == -* ]]; then
-                _othsolve_words "$cur" "${takes/FILE/} --help"
-            elif [[ $takes == *FILE* && $given == 0 ]]; then
+                _othsolve_words "$cur" "${takes/FILE*/} --help"
+            elif [[ $takes == *FILES || ($takes == *FILE && $given == 0) ]]; then
                 _othsolve_files "$cur"
             elif [[ $takes == *--* ]]; then
                 _othsolve_words "$cur" "${takes/FILE/}"

@@ -3,11 +3,11 @@
 
 # The commands, and what each is for. One with options or a FILE has a case below too.
 local -a commands=(
-    'solve:write the score and all best moves of each board line of standard input'
-    'scores:write the score of every move of each board line of standard input'
-    'moves:write all legal moves of each board line of standard input'
-    'transcript:write the board line that each transcript of standard input leads to'
-    'play:write the board line that moves on each board line of standard input lead to'
+    'solve:write the score and all best moves of each board line'
+    'scores:write the score of every move of each board line'
+    'moves:write all legal moves of each board line'
+    'transcript:write the board line that each transcript leads to'
+    'play:write the board line that the moves behind each board line lead to'
     'book-verify:verify every entry of a book'
     'book-add:write a book with the answers to the board lines of standard input added'
 )
@@ -18,6 +18,7 @@ local -a search=(
 )
 local -a scoring=('--scoring=[what a finished game is worth]:scoring:((winner\:"empty squares go to the winner" discs\:"the difference of the discs alone"))')
 local -a book=('--book=[a book that is asked first]:book:_files')
+local -a files=('*:lines:_files')
 local -a help=('(- *)'{-h,--help}'[print help]')
 
 local curcontext=$curcontext state line
@@ -26,8 +27,11 @@ case $state in
     command) _describe command commands -- '(help:print\ help)' ;;
     argument)
         case $words[1] in
-            solve) _arguments $help $search $scoring $book ;;
-            scores) _arguments $help $search $scoring ;;
+            solve) _arguments $help $search $scoring $book $files ;;
+            scores) _arguments $help $search $scoring $files ;;
+            moves) _arguments $help $files ;;
+            transcript) _arguments $help $files ;;
+            play) _arguments $help $files ;;
             book-verify) _arguments $help '1:book:_files' ;;
             book-add) _arguments $help $search '1:book:_files' ;;
             help) _describe command commands ;;

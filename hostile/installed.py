@@ -220,8 +220,9 @@ COMPLETES = {
     "othsolve book-verify one.book ": "",
     "othsolve book-add --cells 64 on": "one.book",
     "othsolve book-add --cells=64 on": "one.book",
-    "othsolve moves ": "",
-    "othsolve play ": "",
+    "othsolve moves ": "one.book other",
+    "othsolve play one.book o": "one.book other",
+    "othsolve solve --workers 2 on": "one.book",
     "othsolve solve < on": "one.book",
 }
 COMPLETION = """

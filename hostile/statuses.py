@@ -77,6 +77,50 @@ def done(folder):
     )
 
 
+def files_of_lines(folder):
+    """Yields the cases of files that are named: they are read one after the other, and no line has bytes of two."""
+    board = f"{FULL_BOARD}\n".encode()
+    texts = {"one": board, "two": f"{CORNERS}\n{TWO_CORNERS}\n".encode(), "cut": CORNERS.encode(), "empty": b"", "line": b"\n", "half": b"XX"}
+    path = {name: file_of(folder, f"{name}.txt", text) for name, text in texts.items()}
+    answers = {"one": b"+64 end\n", "two": b"+64 h8\n+64 a1 h1\n", "cut": b"+64 h8\n", "empty": b"", "line": b"error 1\n", "half": b"error 1\n"}
+    for names in (
+        ["one"],
+        ["one", "two"],
+        ["two", "one", "two"],
+        ["cut", "one"],
+        ["one", "cut"],
+        ["cut", "empty", "cut"],
+        ["empty", "empty"],
+        ["empty", "cut", "empty", "empty", "one"],
+        ["half", "half", "line", "half"],
+        ["cut"] * 30,
+    ):
+        words = [path[name] for name in names]
+        wrote = b"".join(answers[name] for name in names)
+        for workers in ("1", "4"):
+            given = ["solve", "--workers", workers, *words]
+            yield Case(f"files, {workers} workers: {' '.join(names)}"[:100], given, b"never read\n", wrote=wrote, said=b"")
+    both = ["solve", path["cut"], "-", path["one"]]
+    yield Case("standard input between two files", both, CORNERS.encode(), wrote=b"+64 h8\n+64 h8\n+64 end\n", said=b"")
+    yield Case("standard input named twice", ["solve", "-", "-"], board, wrote=b"+64 end\n", said=b"")
+    yield Case("standard input named alone", ["solve", "-"], CORNERS.encode(), wrote=b"+64 h8\n", said=b"")
+    os.link(path["cut"], f"{folder}/-odd.txt")
+    for words in (["solve", "--", "-odd.txt"], ["solve", "./-odd.txt"], ["solve", "--workers=2", "--", "-odd.txt"]):
+        yield Case(f"a name that begins with -: {' '.join(words)}", words, wrote=b"+64 h8\n", said=b"", cwd=folder)
+    edge = file_of(folder, "edge.txt", EDGE.encode())
+    mixed = ["solve", path["one"], "--workers", "2", edge, "--scoring=discs", path["cut"]]
+    yield Case("options between files", mixed, wrote=b"+64 end\n-49 h1\n+64 h8\n", said=b"")
+    games = file_of(folder, "games.txt", f"{START} f5d6c3d3c4".encode())
+    yield Case("scores of files", ["scores", path["two"], path["cut"]], wrote=b"+64 h8\n+64 a1 +64 h1\n+64 h8\n", said=b"")
+    yield Case("moves of files", ["moves", path["cut"], path["cut"]], wrote=b"h8\nh8\n", said=b"")
+    yield Case("transcript of files", ["transcript", path["line"], "-"], b"f5d6c3d3c4", wrote=f"{START}\n{FIVE_MOVES}\n".encode(), said=b"")
+    yield Case("play of files", ["play", games, games], wrote=f"{FIVE_MOVES}\n{FIVE_MOVES}\n".encode(), said=b"")
+    large = file_of(folder, "large.txt", board * 5000 + CORNERS.encode())
+    wrote = (b"+64 end\n" * 5000 + b"+64 h8\n") * 2
+    yield Case("two files larger than what is read at once", ["solve", "--workers", "2", large, large], wrote=wrote, said=b"")
+    yield Case("a pipe as a file", ["solve", path["cut"], "/dev/stdin"], CORNERS.encode(), wrote=b"+64 h8\n+64 h8\n", said=b"")
+
+
 def lines_of_every_kind():
     """Yields lines of every kind: faulty ones have their fault in their place, whatever their bytes and their length."""
     good = FULL_BOARD.encode()
@@ -114,12 +158,13 @@ def command_line(folder):
         ["solve", "--cells", "-1"],
         ["solve", "--scoring", "best"],
         ["solve", "--book"],
-        ["solve", "board"],
+        ["solve", "-x"],
         ["scores", "--workers", "17"],
         ["scores", "--book", book],
         ["moves", "--workers", "1"],
         ["solve", "--version"],
         ["nothing"],
+        ["moves", "--scoring", "discs", "boards.txt"],
         ["book-verify"],
         ["book-verify", book, book],
         ["book-add"],
@@ -130,10 +175,15 @@ def command_line(folder):
     said = b"error: a word of the command line isn't UTF-8, and such files can't be used\n"
     unreadable = os.fsencode(folder) + b"/\xff.book"
     os.link(book, unreadable)
-    for words in (["book-verify"], ["book-add"], ["solve", "--book"]):
+    for words in (["book-verify"], ["book-add"], ["solve", "--book"], ["moves"]):
         name = f"refused words: {' '.join(words)}: a name that isn't UTF-8"
         yield Case(name, [*words, unreadable], status=2, wrote=b"", said=said)
-    for words in (["solve", "--cells", "3"], ["solve", "--cells", "3", "--book", "nowhere"], ["book-add", "--cells", "3", "nowhere"]):
+    for words in (
+        ["solve", "--cells", "3"],
+        ["solve", "--cells", "3", "--book", "nowhere"],
+        ["solve", "--cells", "3", "nowhere"],
+        ["book-add", "--cells", "3", "nowhere"],
+    ):
         yield Case(f"refused cells: {' '.join(words)}", words, status=2, wrote=b"", said=b"run error 4\n")
 
 
@@ -145,6 +195,19 @@ def devices(folder):
         name = " ".join(words)
         yield Case(f"{name}: no such file", [*words, f"{folder}/nowhere"], status=1, wrote=b"", said=read)
         yield Case(f"{name}: a directory", [*words, folder], status=1, wrote=b"", said=read)
+    unopened = {
+        "nowhere": f"{folder}/nowhere: no such file",
+        ".": f"{folder}/.: is a directory",
+        "empty.book/lines": f"{folder}/empty.book/lines: Not a directory (os error 20)",
+        "a\x1b[2Jb": f"{folder}/a?[2Jb: no such file",
+    }
+    good = file_of(folder, "good.txt", line)
+    for name, told in unopened.items():
+        said = read + f"{told}\n".encode()
+        for command in ("solve", "scores", "moves", "transcript", "play"):
+            yield Case(f"{command}: {told}".replace(folder, "FOLDER"), [command, f"{folder}/{name}"], line, status=1, wrote=b"", said=said)
+        words = ["solve", good, f"{folder}/{name}", "-"]
+        yield Case(f"behind a file: {told}".replace(folder, "FOLDER"), words, line, status=1, wrote=b"", said=said)
     yield Case("standard input is a directory", ["solve"], status=1, wrote=b"", said=read, stdin=os.open(folder, os.O_RDONLY))
     for words in (
         ["solve"],
@@ -240,7 +303,7 @@ def steps(program, in_little_memory=True):
     """Yields a step for each run, also in little memory unless these are left out: its name, and what is wrong with it, if anything."""
     with tempfile.TemporaryDirectory() as folder:
         file_of(folder, "empty.book", EMPTY_BOOK)
-        for cases in (done(folder), lines_of_every_kind(), command_line(folder), devices(folder), books(folder)):
+        for cases in (done(folder), files_of_lines(folder), lines_of_every_kind(), command_line(folder), devices(folder), books(folder)):
             for case in cases:
                 if not in_little_memory and case.how.get("preexec_fn") is little_memory:
                     continue

@@ -1,6 +1,7 @@
 """Runs the built program with standard error on a terminal and on a pipe, and wants words on the terminal alone.
 
-On a terminal a second line has to say in words what the first says by a number; on a pipe not a byte may be added.
+On a terminal a second line has to say in words what the first says by a number; on a pipe not a byte may be added. Where standard input is
+a terminal and no file of lines is named, a line says what is read.
 """
 import os
 import pty
@@ -78,6 +79,39 @@ def cases():
     yield Case(["book-add", "empty.book"], 0, "line 1: error 1", "", b"X\n")
 
 
+# What standard input is said to be, where it is a terminal.
+AWAITED = {"solve": "boards", "scores": "boards", "moves": "boards", "transcript": "games", "play": "boards with moves"}
+
+
+def typed_steps(program, folder):
+    """Yields a step for each run whose standard input is a terminal on which nothing is typed but its end (byte 4)."""
+    with open(f"{folder}/none.txt", "w", encoding="ascii"):
+        pass
+    for command, lines in AWAITED.items():
+        told = f"othsolve: reading {lines} from the terminal; end with Ctrl-D\n".encode()
+        yield f"typed: {command}", wrong_typed(program, folder, [command], 0, told)
+        yield f"typed: {command} none.txt", wrong_typed(program, folder, [command, "none.txt"], 0, b"")
+        yield f"typed: {command} -", wrong_typed(program, folder, [command, "-"], 0, b"")
+    told = b"othsolve: reading boards from the terminal; end with Ctrl-D\n"
+    yield "typed: book-add empty.book", wrong_typed(program, folder, ["book-add", "empty.book"], 0, told)
+    yield "typed: solve --book empty.book", wrong_typed(program, folder, ["solve", "--book", "empty.book"], 0, told)
+    yield "typed: solve --book line.book", wrong_typed(program, folder, ["solve", "--book", "line.book"], 3, b"book error 2 at 1\n")
+    yield "typed: solve --cells 3", wrong_typed(program, folder, ["solve", "--cells", "3"], 2, b"run error 4\n")
+    yield "typed: book-verify empty.book", wrong_typed(program, folder, ["book-verify", "empty.book"], 0, b"")
+
+
+def wrong_typed(program, folder, words, status, wanted):
+    """Tells what is wrong with a run whose standard input is a terminal and whose standard error is a pipe, if anything."""
+    screen, typed = pty.openpty()
+    os.write(screen, b"\x04")
+    done = running.ran([program, *words], cwd=folder, stdin=typed)
+    os.close(typed)
+    os.close(screen)
+    if (done.status, done.said) != (status, wanted):
+        return f"status {done.status} and {done.said[:300]!r} in place of {status} and {wanted!r}"
+    return None
+
+
 def silent_pipe():
     """Returns the end for reading of a pipe that is open for writing, has nothing to read, and does not wait."""
     reading, _ = os.pipe()
@@ -87,12 +121,11 @@ def silent_pipe():
 
 # Words that clap refuses, and the line of its text that says where lines come from.
 USAGES = (
-    (["solve", "boards.txt"], "othsolve solve [OPTIONS] < BOARDS"),
-    (["solve", "-"], "othsolve solve [OPTIONS] < BOARDS"),
-    (["scores", "boards.txt"], "othsolve scores [OPTIONS] < BOARDS"),
-    (["moves", "boards.txt"], "othsolve moves < BOARDS"),
-    (["transcript", "games.txt"], "othsolve transcript < GAMES"),
-    (["play", "games.txt"], "othsolve play < GAMES"),
+    (["solve", "--x"], "othsolve solve [OPTIONS] [FILE]..."),
+    (["scores", "--book", "boards.txt"], "othsolve scores [OPTIONS] [FILE]..."),
+    (["moves", "-x"], "othsolve moves [FILE]..."),
+    (["transcript", "--workers", "2"], "othsolve transcript [FILE]..."),
+    (["play", "--x", "games.txt"], "othsolve play [FILE]..."),
     (["book-add", "empty.book", "boards.txt"], "othsolve book-add [OPTIONS] FILE < BOARDS"),
 )
 
@@ -169,3 +202,4 @@ def steps(program):
             yield f"in words: {words}: {case.told.decode().strip() or 'nothing'}", wrong(program, folder, case)
         for words, usage in USAGES:
             yield f"in words: {' '.join(words)}: Usage: {usage}", wrong_usage(program, folder, words, usage)
+        yield from typed_steps(program, folder)

@@ -1,2 +1,4 @@
 pub mod AdditionLemmas
+pub mod ApartLemmas
 pub mod FileLemmas
+pub mod JoinedLemmas

@@ -1,3 +1,4 @@
 pub mod Addition
 pub mod BookFile
+pub mod Joined
 pub mod Messages

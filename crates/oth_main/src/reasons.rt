@@ -1,12 +1,16 @@
 //! The reasons in words, a second line for who sits at a terminal.
 
-ghost use Rattle.std.specs.Prelude.{◌≡◌, ◌+◌, None, false, true};
+ghost use Rattle.std.specs.Prelude.{◌≡◌, ◌+◌, ◌<◌, ◌++◌, ◌∷◌, [], None, false, length, true};
+ghost use Rattle.std.specs.Io.KnownBytes.{Appends};
+ghost use Rattle.oth_main.specs.Messages.{awaited};
 
 use crate::book_file::BookRefusal;
+use crate::message::Message;
 use oth_book::{AddError, Book, BookFault, Cause, Wrong};
 use oth_rules::Scoring;
 use oth_run::RunFault;
 use oth_text::{Sink, write_all};
+use oth_words::Command;
 use std::alloc::Global;
 use std::fmt;
 use std::io::{Error, ErrorKind};
@@ -25,11 +29,13 @@ pub enum Reason {
 }
 
 /// What a reason is about.
-#[derive(Clone, Copy, Drop)]
+#[derive(Clone, Copy, Default, Drop)]
 pub struct Scene<'a> {
     /// The name of FILE.
     pub file: &'a str,
-    /// The error at which standard input failed.
+    /// What the input that is read, or was read last, is called.
+    pub input_name: &'a str,
+    /// The error at which that input failed.
     pub input: Option<&'a Error>,
     /// The error at which standard output failed.
     pub output: Option<&'a Error>,
@@ -73,16 +79,77 @@ impl<E: Sink> Errors<E> {
         }
     }
 
-    // Prints a line of words.
+    /// Tells in words, on a terminal or not, which file can't be opened, and why. The reason that was kept for words is
+    /// told so. An output that has failed or fails now is passed over, and so is a lack of memory.
+    pub fn tell_unopened(&mut self, alloc: Global, file: &str, error: &Error)
+        ensures reason { self.new.reason ≡ None }
+        ensures terminal { self.new.is_terminal ≡ self.old.is_terminal }
+        ensures failed { E.failed self.old.sink ≡ true → self.new.sink ≡ self.old.sink }
+    {
+        let scene = Scene {
+            file,
+            input_name: "",
+            input: None,
+            output: None,
+        };
+        let reason = Reason::File(*error);
+        self.write(alloc, &InWords { reason, scene });
+        self.reason = None;
+    }
+
+    /// Tells that the lines of the command are read from the terminal, and how they end. An output that has failed is
+    /// passed over.
+    pub fn tell_awaited(&mut self, command: Command)
+        ensures told { E.failed self.new.sink ≡ false
+            → Appends (E.contents self.old.sink) (E.contents self.new.sink) (awaited command ++ 10 ∷ []) }
+        ensures reason { self.new.reason ≡ self.old.reason }
+        ensures terminal { self.new.is_terminal ≡ self.old.is_terminal }
+        ensures failed { E.failed self.old.sink ≡ true → self.new ≡ self.old }
+    {
+        if !self.sink.failed() {
+            awaited_line(command).print(&mut self.sink);
+        }
+    }
+
+    // Prints a line of words on a terminal.
     fn tell<D: fmt::Display>(&mut self, alloc: Global, words: &D)
         ensures silent { self.old.is_terminal ≡ false → self.new ≡ self.old }
         ensures failed { E.failed self.old.sink ≡ true → self.new ≡ self.old }
     {
-        if !self.is_terminal || self.sink.failed() {
+        if self.is_terminal {
+            self.write(alloc, words);
+        }
+    }
+
+    // Prints a line of words.
+    fn write<D: fmt::Display>(&mut self, alloc: Global, words: &D)
+        ensures reason { self.new.reason ≡ self.old.reason }
+        ensures terminal { self.new.is_terminal ≡ self.old.is_terminal }
+        ensures failed { E.failed self.old.sink ≡ true → self.new ≡ self.old }
+    {
+        if self.sink.failed() {
             return;
         }
         if let Ok(line) = format!(in alloc; "{words}\n") {
             let _ = write_all(&mut self.sink, line.as_bytes());
+        }
+    }
+}
+
+// The line that tells what is read from the terminal.
+fn awaited_line(command: Command) -> Message
+    ensures text { result ≡ awaited command }
+    ensures short { length result < 80 }
+{
+    match command {
+        Command::Solve | Command::Scores | Command::Moves => {
+            Message::of(b"othsolve: reading boards from the terminal; end with Ctrl-D")
+        }
+        Command::Transcript => {
+            Message::of(b"othsolve: reading games from the terminal; end with Ctrl-D")
+        }
+        Command::Play => {
+            Message::of(b"othsolve: reading boards with moves from the terminal; end with Ctrl-D")
         }
     }
 }
@@ -187,7 +254,10 @@ impl Scene<'_> {
     // Writes why a run ended, with the device that failed.
     fn fmt_run<W: fmt::Write>(&self, fault: RunFault, f: &mut fmt::Formatter<W>) -> fmt::Result {
         match (fault, self.input, self.output) {
-            (RunFault::Read, Some(error), _) => write!(f, "standard input: {}", Why(error)),
+            (RunFault::Read, Some(error), _) => {
+                let input = Name(self.input_name);
+                write!(f, "{input}: {}", Why(error))
+            }
             (RunFault::Write, _, Some(error)) => write!(f, "standard output: {}", Why(error)),
             _ => f.write_str(words_of_run(fault)),
         }

@@ -5,6 +5,7 @@ mod batches;
 mod books;
 mod devices;
 mod gates;
+mod joined;
 mod reasons;
 mod refused;
 mod rows;

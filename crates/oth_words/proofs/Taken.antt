@@ -17,7 +17,8 @@ use Rattle.clap.specs.declared.builder.value_parser.ValueParser.TheVariants as p
 use Rattle.oth_words.proofs.RowsPass.{HasText}
 use Rattle.oth_words.proofs.Levels.{IsOrdinary, enters, number_of, text_of}
 use Rattle.oth_words.proofs.WalkKeeps.{Each, MayEnter}
-use Rattle.oth_words.specs.CommandLine.{AreScorings, HasNumbers, IsNumber, Meaning, Means, ScoringWords, add, add_app, othsolve, program, run, scores_app, scoring_word, solve_app, verify, verify_app}
+use Rattle.oth_words.specs.CommandLine.{AreScorings, HasNumbers, IsNumber, Meaning, Means, ScoringWords, add, add_app, files_of}
+use Rattle.oth_words.specs.CommandLine.{othsolve, plain_app, program, run, scores_app, scoring_word, solve_app, verify, verify_app}
 use Rattle.oth_rules.specs.declared.scoring.Scoring.{Scoring}
 use Rattle.oth_rules.specs.declared.scoring.Scoring.TheVariants.{Winner, Discs}
 use Rattle.oth_words.specs.declared.settings.Settings.{Settings}
@@ -69,6 +70,10 @@ MeansSome sub = (m : Meaning) × Means (Some sub) m
 abbrev add_shape : Shape
 add_shape = built_sub add_app
 
+-- the settings of a command without options
+abbrev plain_settings : Command → Settings
+plain_settings command = record { command = command; workers = 1; cells = 0; scoring = Winner }
+
 -- the numbers of a search for this command, with this scoring
 numbers_taken : (command : Command) (scoring : Scoring) (rows : List Row) → HasText (built_rule add_shape (codes "workers")) rows → HasText (built_rule add_shape (codes "cells")) rows
     → (s : Settings) × HasNumbers rows s × (s.command ≡ command) × (s.scoring ≡ scoring)
@@ -85,7 +90,19 @@ module _ (scorings : ScoringWords) (are : AreScorings scorings) where
   solve_shape = built_sub (solve_app scorings)
 
   solve_ordinary : Each (IsOrdinary solve_shape.rules) solve_shape.rules
-  solve_ordinary = ((refl, inl (refl, refl)), ((refl, inl (refl, refl)), ((refl, inl (refl, refl)), ((refl, inl (refl, refl)), ((refl, inr refl), tt)))))
+  solve_ordinary = (
+    (refl, inl (refl, refl)),
+    (
+      (refl, inl (refl, refl)),
+      (
+        (refl, inl (refl, refl)),
+        (
+          (refl, inl (refl, refl)),
+          ((refl, inr (inl (refl, refl))), ((refl, inr (inr refl)), tt)),
+        ),
+      ),
+    ),
+  )
 
   solve_taken : (words : List Text) → level_passes solve_shape [] nothing_held words false ≡ true → MeansSome (rows_at solve_shape words)
   solve_taken words e =
@@ -94,11 +111,14 @@ module _ (scorings : ScoringWords) (are : AreScorings scorings) where
       let scoring_is = text (built_rule solve_shape (codes "scoring")) refl (inl tt) in
       let scoring = scoring_text scorings are scoring_is.text scoring_is.passes in
       let numbers = numbers_taken Solve scoring.0 rows (text (built_rule solve_shape (codes "workers")) refl (inl tt)) (text (built_rule solve_shape (codes "cells")) refl (inl tt)) in (
-        run (record { command = Solve; workers = numbers.0.workers; cells = numbers.0.cells; scoring = scoring.0 }) (first_of (codes "book") rows),
+        run (record { command = Solve; workers = numbers.0.workers; cells = numbers.0.cells; scoring = scoring.0 }) (first_of (codes "book") rows) (files_of rows),
         (
-          refl,
-          record { workers = numbers.1.workers; cells = numbers.1.cells; some_workers = numbers.1.some_workers; most_workers = numbers.1.most_workers; most_cells = numbers.1.most_cells },
-          scoring_is.first ∙ ap Some scoring.1,
+          (
+            refl,
+            record { workers = numbers.1.workers; cells = numbers.1.cells; some_workers = numbers.1.some_workers; most_workers = numbers.1.most_workers; most_cells = numbers.1.most_cells },
+            scoring_is.first ∙ ap Some scoring.1,
+            refl,
+          ),
           refl,
         ),
       )
@@ -107,7 +127,16 @@ module _ (scorings : ScoringWords) (are : AreScorings scorings) where
   scores_shape = built_sub (scores_app scorings)
 
   scores_ordinary : Each (IsOrdinary scores_shape.rules) scores_shape.rules
-  scores_ordinary = ((refl, inl (refl, refl)), ((refl, inl (refl, refl)), ((refl, inl (refl, refl)), ((refl, inr refl), tt))))
+  scores_ordinary = (
+    (refl, inl (refl, refl)),
+    (
+      (refl, inl (refl, refl)),
+      (
+        (refl, inl (refl, refl)),
+        ((refl, inr (inl (refl, refl))), ((refl, inr (inr refl)), tt)),
+      ),
+    ),
+  )
 
   scores_taken : (words : List Text) → level_passes scores_shape [] nothing_held words false ≡ true → MeansSome (rows_at scores_shape words)
   scores_taken words e =
@@ -116,17 +145,20 @@ module _ (scorings : ScoringWords) (are : AreScorings scorings) where
       let scoring_is = text (built_rule scores_shape (codes "scoring")) refl (inl tt) in
       let scoring = scoring_text scorings are scoring_is.text scoring_is.passes in
       let numbers = numbers_taken Scores scoring.0 rows (text (built_rule scores_shape (codes "workers")) refl (inl tt)) (text (built_rule scores_shape (codes "cells")) refl (inl tt)) in (
-        run (record { command = Scores; workers = numbers.0.workers; cells = numbers.0.cells; scoring = scoring.0 }) None,
+        run (record { command = Scores; workers = numbers.0.workers; cells = numbers.0.cells; scoring = scoring.0 }) None (files_of rows),
         (
-          refl,
-          record { workers = numbers.1.workers; cells = numbers.1.cells; some_workers = numbers.1.some_workers; most_workers = numbers.1.most_workers; most_cells = numbers.1.most_cells },
-          scoring_is.first ∙ ap Some scoring.1,
+          (
+            refl,
+            record { workers = numbers.1.workers; cells = numbers.1.cells; some_workers = numbers.1.some_workers; most_workers = numbers.1.most_workers; most_cells = numbers.1.most_cells },
+            scoring_is.first ∙ ap Some scoring.1,
+            refl,
+          ),
           refl,
         ),
       )
 
 verify_ordinary : Each (IsOrdinary (built_sub verify_app).rules) (built_sub verify_app).rules
-verify_ordinary = ((refl, inl (refl, refl)), ((refl, inr refl), tt))
+verify_ordinary = ((refl, inl (refl, refl)), ((refl, inr (inr refl)), tt))
 
 verify_taken : (words : List Text) → level_passes (built_sub verify_app) [] nothing_held words false ≡ true → MeansSome (rows_at (built_sub verify_app) words)
 verify_taken words e =
@@ -134,7 +166,7 @@ verify_taken words e =
     (verify file.text, (refl, file.first))
 
 add_ordinary : Each (IsOrdinary add_shape.rules) add_shape.rules
-add_ordinary = ((refl, inl (refl, refl)), ((refl, inl (refl, refl)), ((refl, inl (refl, refl)), ((refl, inr refl), tt))))
+add_ordinary = ((refl, inl (refl, refl)), ((refl, inl (refl, refl)), ((refl, inl (refl, refl)), ((refl, inr (inr refl)), tt))))
 
 add_taken : (words : List Text) → level_passes add_shape [] nothing_held words false ≡ true → MeansSome (rows_at add_shape words)
 add_taken words e =
@@ -169,11 +201,11 @@ module _ (scorings : ScoringWords) (are : AreScorings scorings) where
         (
           λ hit e. scores_taken scorings are p.1 e,
           (
-            λ hit e. (run (record { command = Moves; workers = 1; cells = 0; scoring = Winner }) None, (refl, (refl, refl, refl), refl)),
+            λ hit e. (run (plain_settings Moves) None (files_of (rows_at (built_sub (plain_app (codes "moves"))) p.1).1), ((refl, (refl, refl, refl), refl), refl)),
             (
-              λ hit e. (run (record { command = Transcript; workers = 1; cells = 0; scoring = Winner }) None, (refl, (refl, refl, refl), refl)),
+              λ hit e. (run (plain_settings Transcript) None (files_of (rows_at (built_sub (plain_app (codes "transcript"))) p.1).1), ((refl, (refl, refl, refl), refl), refl)),
               (
-                λ hit e. (run (record { command = Play; workers = 1; cells = 0; scoring = Winner }) None, (refl, (refl, refl, refl), refl)),
+                λ hit e. (run (plain_settings Play) None (files_of (rows_at (built_sub (plain_app (codes "play"))) p.1).1), ((refl, (refl, refl, refl), refl), refl)),
                 (
                   λ hit e. verify_taken p.1 e,
                   (

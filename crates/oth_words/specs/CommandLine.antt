@@ -2,17 +2,19 @@
 -- `othsolve` is the command as clap sees it: its subcommands, and the rule of each of their arguments. By clap's exact meaning
 -- `takes` says whether the words are a lawful call of it, `fault_of` which fault they have, and `subcommand_of` which subcommand
 -- they name, with a row of texts for each argument, the default where none is given. `Means` says what that stands for.
-use Rattle.std.specs.Prelude.{◌≡◌, ◌≢◌, ◌≤◌, ℕ, pos, true, List, [], ◌∷◌, Option, Some, None, Result, Ok, Err, codes, option_map}
+use Rattle.std.specs.Prelude.{◌≡◌, ◌≢◌, ◌≤◌, ℕ, pos, true, List, [], ◌∷◌, Option, Some, None, Result, Ok, Err, codes, map, option_map}
+use Rattle.std.specs.Prelude.{unwrap_or}
 use Rattle.clap.specs.declared.error.Error.{Error}
 use Rattle.clap.specs.declared.error.kind.ErrorKind.TheVariants.{OutOfMemory}
 use Rattle.std.specs.Borrow.{Bor}
 use Rattle.std.specs.Str.Parse.{IsNumeral, digits_value, without_leading_plus}
 use Rattle.std.specs.String.{string_bytes}
 use Rattle.clap.specs.Kinds.{HasKind}
+use Rattle.clap.specs.Lexer.{usize_max}
 use Rattle.clap.specs.Walk.{texts}
-use Rattle.clap.specs.Words.{App, Row, Rule, Text, fault_of, first_of, kind_of, new_app, new_rule, one_of, subcommand_of, takes, with_rule}
-use Rattle.clap.specs.Words.{with_subcommand}
-use Rattle.clap.specs.declared.builder.action.ArgAction.TheVariants.{Set}
+use Rattle.clap.specs.Words.{App, Row, Rule, Text, all_of, fault_of, first_of, kind_of, new_app, new_rule, one_of, subcommand_of, takes}
+use Rattle.clap.specs.Words.{with_rule, with_subcommand}
+use Rattle.clap.specs.declared.builder.action.ArgAction.TheVariants.{Append, Set}
 use Rattle.clap.specs.declared.builder.texts.Texts.{Texts}
 use Rattle.clap.specs.declared.builder.texts.Texts.TheVariants.{One, Many}
 use Rattle.clap.specs.declared.builder.value_parser.ValueParser.TheVariants as parser
@@ -64,6 +66,14 @@ scoring_rule scorings = record (option_rule (codes "scoring")) {
 abbrev pub book_rule : Rule
 book_rule = option_rule (codes "book")
 
+-- FILE .. : any number of words that are no options
+abbrev pub files_rule : Rule
+files_rule = record (new_rule (codes "files")) {
+  action = Some Append;
+  range = Some (record { start_inclusive = 1; end_inclusive = usize_max });
+  value_names = 1;
+}
+
 abbrev pub file_rule : Rule
 file_rule = record (new_rule (codes "file")) { action = Some Set; required = true; value_names = 1 }
 
@@ -72,10 +82,14 @@ abbrev pub searcher_app : App → ScoringWords → App
 searcher_app titled scorings = with_rule (with_rule (with_rule titled workers_rule) cells_rule) (scoring_rule scorings)
 
 abbrev pub solve_app : ScoringWords → App
-solve_app scorings = with_rule (searcher_app (new_app (codes "solve")) scorings) book_rule
+solve_app scorings = with_rule (with_rule (searcher_app (new_app (codes "solve")) scorings) book_rule) files_rule
 
 abbrev pub scores_app : ScoringWords → App
-scores_app scorings = searcher_app (new_app (codes "scores")) scorings
+scores_app scorings = with_rule (searcher_app (new_app (codes "scores")) scorings) files_rule
+
+-- a subcommand without options
+abbrev pub plain_app : Text → App
+plain_app name = with_rule (new_app name) files_rule
 
 abbrev pub verify_app : App
 verify_app = with_rule (new_app (codes "book-verify")) file_rule
@@ -96,9 +110,9 @@ othsolve scorings =
     with_subcommand (with_subcommand (with_subcommand (with_subcommand (with_subcommand (with_subcommand (with_subcommand program
     (solve_app scorings).top)
     (scores_app scorings).top)
-    (new_app (codes "moves")).top)
-    (new_app (codes "transcript")).top)
-    (new_app (codes "play")).top)
+    (plain_app (codes "moves")).top)
+    (plain_app (codes "transcript")).top)
+    (plain_app (codes "play")).top)
     verify_app.top)
     add_app.top
 
@@ -106,12 +120,12 @@ othsolve scorings =
 
 -- the words of a command line, with a file's name as its text
 pub data Meaning : Type 0 where
-  run : Settings → Option Text → Meaning
+  run : Settings → Option Text → List Text → Meaning
   verify : Text → Meaning
   add : Settings → Text → Meaning
 
 abbrev pub meaning_of : Words → Meaning
-meaning_of (Run settings book) = run settings (option_map string_bytes book)
+meaning_of (Run settings book files) = run settings (option_map string_bytes book) (map string_bytes files.items)
 meaning_of (Verify file) = verify (string_bytes file)
 meaning_of (Add settings file) = add settings (string_bytes file)
 
@@ -147,10 +161,14 @@ MeansRun Moves sub s book = (sub.0 ≡ codes "moves") × IsPlain s × (book ≡ 
 MeansRun Transcript sub s book = (sub.0 ≡ codes "transcript") × IsPlain s × (book ≡ None)
 MeansRun Play sub s book = (sub.0 ≡ codes "play") × IsPlain s × (book ≡ None)
 
+-- the words that are no options, in their order
+abbrev pub files_of : List Row → List Text
+files_of rows = unwrap_or (all_of (codes "files") rows) []
+
 -- a subcommand, by its name and its matches, stands for this
 abbrev pub Means : Option (Text × List Row) → Meaning → Type 0
 Means None m = ⊥
-Means (Some sub) (run s book) = MeansRun s.command sub s book
+Means (Some sub) (run s book files) = MeansRun s.command sub s book × (files_of sub.1 ≡ files)
 Means (Some sub) (verify file) = (sub.0 ≡ codes "book-verify") × (first_of (codes "file") sub.1 ≡ Some file)
 Means (Some sub) (add s file) = (sub.0 ≡ codes "book-add") × HasNumbers sub.1 s × (s.command ≡ Solve) × (s.scoring ≡ Winner)
     × (first_of (codes "file") sub.1 ≡ Some file)

@@ -1,11 +1,17 @@
 -- What a plan stands for: a value of the code before its texts are copied.
-use Rattle.std.specs.Prelude.{option_map}
+use Rattle.std.specs.Prelude.{List, [], Option, map, option_map, unwrap_or}
+use Rattle.std.specs.Borrow.{Bor}
+use Rattle.clap.specs.Words.{Text}
 use Rattle.oth_words.specs.CommandLine.{Meaning, add, run, verify}
 use Rattle.oth_words.specs.declared.plan.Plan.{Plan}
 use Rattle.oth_words.specs.declared.plan.Plan.TheVariants as plan
 
--- the file's name is the text that the words have
+-- the texts of a list of words, or none where there is no list
+abbrev pub listed : Option (Bor (List (Bor Text))) → List Text
+listed words = unwrap_or (option_map (λ list. map (λ t. t.now) list.now) words) []
+
+-- a file's name is the text that the words have
 abbrev pub plan_meaning : Plan → Meaning
-plan_meaning (plan.Run settings book) = run settings (option_map (λ t. t.now) book)
+plan_meaning (plan.Run settings book files) = run settings (option_map (λ t. t.now) book) (listed files)
 plan_meaning (plan.Verify file) = verify file.now
 plan_meaning (plan.Add settings file) = add settings file.now

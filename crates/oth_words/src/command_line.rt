@@ -1,17 +1,18 @@
 //! The command line, read by clap.
 
 ghost use Rattle.std.specs.Prelude.{◌≡◌, ◌≤◌, ◌+◌, ℕ, List, Option, Some, None, IfOk, IfErr, MatchOption, codes, false};
-ghost use Rattle.std.specs.Prelude.{map, option_map, true};
-ghost use Rattle.clap.specs.Words.{app_of, first_of, found_of, kind_of, new_app, one_text, rows_of, rule_of};
+ghost use Rattle.std.specs.Prelude.{map, option_map, string_bytes, true};
+ghost use Rattle.clap.specs.Words.{app_of, first_of, found_of, kind_of, new_app, new_rule, one_text, rows_of, rule_of};
 ghost use Rattle.clap.specs.Words.{subcommand_of, subcommand_rows_of, takes};
 ghost use Rattle.clap.specs.declared.builder.command.Command.TheViews.{out-Command};
 ghost use Rattle.clap.specs.declared.builder.texts.Texts.TheVariants.{One};
 ghost use Rattle.oth_words.specs.CommandLine.{AreScorings, HasNumbers, IsCalled, IsNumber, IsPlain, IsReading};
 ghost use Rattle.oth_words.specs.CommandLine.{Meaning, Means};
-ghost use Rattle.oth_words.specs.CommandLine.{ScoringWords, add_app, book_rule, cells_rule, file_rule, meaning_of};
+ghost use Rattle.oth_words.specs.CommandLine.{ScoringWords, add_app, book_rule, cells_rule, file_rule, files_of};
+ghost use Rattle.oth_words.specs.CommandLine.{files_rule, meaning_of, plain_app};
 ghost use Rattle.oth_words.specs.CommandLine.{option_rule, othsolve, run, scores_app, scoring_rule, scoring_word};
 ghost use Rattle.oth_words.specs.CommandLine.{searcher_app, solve_app, titled, verify_app, workers_rule};
-ghost use Rattle.oth_words.specs.Plans.{plan_meaning};
+ghost use Rattle.oth_words.specs.Plans.{listed, plan_meaning};
 ghost use Rattle.clap.specs.declared.error.kind.ErrorKind.TheVariants.{OutOfMemory};
 
 use crate::plan::Plan;
@@ -34,7 +35,8 @@ const VERSION: &str = "0.2.0 (rattle logic dac8208d650f15bf)";
 // What each command is about, how it is called, and what stands behind its help.
 
 const PROGRAM_NOTES: &str = "\
-Lines come from standard input, answers go to standard output, one for each line:
+Lines come from standard input, or from the files that are named; answers go to standard output, one
+for each line:
 
     $ echo '-OXXXXO-XXXXXXXXXXXXXXXXXXXXXXXXXXXXXXXXXXXXXXXXXXXXXXXXXXXXXXXX X' | othsolve solve
     +64 a1 h1
@@ -44,19 +46,18 @@ square), a space, and the side to move. A line that can't be read is answered by
 
 Statuses, and what is then on standard error:
     0  done; faults of lines don't change it
-    1  run error 1: a read failed, of FILE too; run error 2: a write failed
+    1  run error 1: a read failed, or a FILE can't be opened; run error 2: a write failed
     2  the words can't be obeyed; run error 3: the workers aren't 1 to 16; run error 4: the cells are
        neither 0 nor a power of two up to 262144
     3  book error N, book wrong N: FILE is no book, or no true one (see book-verify --help);
        line I: book error N: an answer can't be added (see book-add --help)";
 
-const SOLVE_ABOUT: &str =
-    "Writes the score and all best moves of each board line of standard input";
+const SOLVE_ABOUT: &str = "Writes the score and all best moves of each board line";
 
-const SOLVE_USAGE: &str = "othsolve solve [OPTIONS] < BOARDS";
+const SOLVE_USAGE: &str = "othsolve solve [OPTIONS] [FILE]...";
 
 const SOLVE_NOTES: &str = "\
-Boards are read from standard input, a line each: othsolve solve < boards.txt
+Boards are read a line each, from standard input or from files: othsolve solve boards.txt
 
 A board line, and its answer, the score for the side to move and all best moves:
 
@@ -73,12 +74,12 @@ Faults of a board line:
     error 4       byte 66 is neither X nor O
     error 5 N     N squares are empty, more than 30";
 
-const SCORES_ABOUT: &str = "Writes the score of every move of each board line of standard input";
+const SCORES_ABOUT: &str = "Writes the score of every move of each board line";
 
-const SCORES_USAGE: &str = "othsolve scores [OPTIONS] < BOARDS";
+const SCORES_USAGE: &str = "othsolve scores [OPTIONS] [FILE]...";
 
 const SCORES_NOTES: &str = "\
-Boards are read from standard input, a line each: othsolve scores < boards.txt
+Boards are read a line each, from standard input or from files: othsolve scores boards.txt
 
 A board line, and its answer, every legal move behind its score for the side to move, the best first
 and equal ones in the order a1, b1 .. h8:
@@ -88,12 +89,12 @@ and equal ones in the order a1, b1 .. h8:
 
 Where the side to move has no move, the answer and the faults are those of solve (see solve --help).";
 
-const MOVES_ABOUT: &str = "Writes all legal moves of each board line of standard input";
+const MOVES_ABOUT: &str = "Writes all legal moves of each board line";
 
-const MOVES_USAGE: &str = "othsolve moves < BOARDS";
+const MOVES_USAGE: &str = "othsolve moves [FILE]...";
 
 const MOVES_NOTES: &str = "\
-Boards are read from standard input, a line each: othsolve moves < boards.txt
+Boards are read a line each, from standard input or from files: othsolve moves boards.txt
 
 A board line, and its answer, all legal moves:
 
@@ -104,13 +105,12 @@ A board line, and its answer, all legal moves:
 'end' where the game is over. The number of empty squares is not limited. A line that can't be read
 is answered by 'error 1' to 'error 4', as in solve --help.";
 
-const TRANSCRIPT_ABOUT: &str =
-    "Writes the board line that each transcript of standard input leads to";
+const TRANSCRIPT_ABOUT: &str = "Writes the board line that each transcript leads to";
 
-const TRANSCRIPT_USAGE: &str = "othsolve transcript < GAMES";
+const TRANSCRIPT_USAGE: &str = "othsolve transcript [FILE]...";
 
 const TRANSCRIPT_NOTES: &str = "\
-Games are read from standard input, a line each: othsolve transcript < games.txt
+Games are read a line each, from standard input or from files: othsolve transcript games.txt
 
 A transcript is the names of the moves from the start of a game with nothing between them. Forced
 passes are not written; they are put in. An empty line is the start. A transcript, and its answer:
@@ -124,13 +124,12 @@ Faults of a transcript, whose pairs of bytes are counted from 1:
     error 4 at K  the game is over before pair K
     error 3 at K  the move of pair K is illegal";
 
-const PLAY_ABOUT: &str =
-    "Writes the board line that moves on each board line of standard input lead to";
+const PLAY_ABOUT: &str = "Writes the board line that the moves behind each board line lead to";
 
-const PLAY_USAGE: &str = "othsolve play < GAMES";
+const PLAY_USAGE: &str = "othsolve play [FILE]...";
 
 const PLAY_NOTES: &str = "\
-Games are read from standard input, a line each: othsolve play < games.txt
+Games are read a line each, from standard input or from files: othsolve play games.txt
 A line is a board line, a space and the names of moves with nothing between them. A board line alone
 has no moves. Forced passes are not written; they are put in, before the first move too. A line, and
 its answer:
@@ -243,20 +242,44 @@ fn book_option<'a>(alloc: Global) -> Arg<'a>
     )
 }
 
+// An argument with this id that is no option, and that help calls FILE.
+fn argument<'a>(alloc: Global, id: &'a str) -> Arg<'a>
+    ensures rule { rule_of result ≡ record (new_rule id.entry.now) { value_names = 1 } }
+    ensures value { IsCalled result.val_names (codes "FILE") }
+    ensures local { result.global ≡ false }
+{
+    Arg::new(alloc, id).value_name("FILE")
+}
+
+// The argument `FILE..` of the commands that report lines.
+fn files_argument<'a>(alloc: Global) -> Arg<'a>
+    ensures rule { rule_of result ≡ files_rule }
+    ensures value { IsCalled result.val_names (codes "FILE") }
+    ensures local { result.global ≡ false }
+{
+    argument(alloc, "files")
+        .action(ArgAction::Append)
+        .num_args(1..)
+        .help(
+            "A file of lines, or - for standard input, which is read where no FILE is given; several are read one \
+             after the other",
+        )
+}
+
 // The argument `FILE` of the commands of the book.
 fn file_argument<'a>(alloc: Global) -> Arg<'a>
     ensures rule { rule_of result ≡ file_rule }
     ensures value { IsCalled result.val_names (codes "FILE") }
     ensures local { result.global ≡ false }
 {
-    Arg::new(alloc, "file")
-        .value_name("FILE")
+    argument(alloc, "file")
         .action(ArgAction::Set)
         .required(true)
         .help("The file of a book of solved positions")
 }
 
-// A subcommand of this name and its help, without options: what it is about, how it is called, and what stands behind.
+// A subcommand of this name and its help, without arguments: what it is about, how it is called, and what stands
+// behind.
 fn titled_command<'a>(
     alloc: Global,
     name: &'a str,
@@ -295,7 +318,9 @@ fn solve_command<'a>(alloc: Global, scorings: &'a [&'a str]) -> Result<App<'a>, 
     ensures local { IfOk result (λ c. (out-Command c).has_globals ≡ false) }
 {
     let solve = titled_command(alloc, "solve", SOLVE_ABOUT, SOLVE_USAGE, SOLVE_NOTES);
-    with_search_options(alloc, solve, scorings)?.arg(book_option(alloc))
+    with_search_options(alloc, solve, scorings)?
+        .arg(book_option(alloc))?
+        .arg(files_argument(alloc))
 }
 
 // The subcommand `scores` with its options.
@@ -304,7 +329,21 @@ fn scores_command<'a>(alloc: Global, scorings: &'a [&'a str]) -> Result<App<'a>,
     ensures local { IfOk result (λ c. (out-Command c).has_globals ≡ false) }
 {
     let scores = titled_command(alloc, "scores", SCORES_ABOUT, SCORES_USAGE, SCORES_NOTES);
-    with_search_options(alloc, scores, scorings)
+    with_search_options(alloc, scores, scorings)?.arg(files_argument(alloc))
+}
+
+// A subcommand without options, of this name and with this help.
+fn plain_command<'a>(
+    alloc: Global,
+    name: &'a str,
+    about: &'a str,
+    usage: &'a str,
+    notes: &'a str,
+) -> Result<App<'a>, AllocError>
+    ensures app { IfOk result (λ c. app_of c ≡ plain_app name.entry.now) }
+    ensures local { IfOk result (λ c. (out-Command c).has_globals ≡ false) }
+{
+    titled_command(alloc, name, about, usage, notes).arg(files_argument(alloc))
 }
 
 // The subcommand `book-verify`.
@@ -353,15 +392,15 @@ fn command<'a>(alloc: Global, scorings: &'a [&'a str]) -> Result<App<'a>, AllocE
         .subcommand_required(true)
         .subcommand(solve_command(alloc, scorings)?)?
         .subcommand(scores_command(alloc, scorings)?)?
-        .subcommand(titled_command(alloc, "moves", MOVES_ABOUT, MOVES_USAGE, MOVES_NOTES))?
-        .subcommand(titled_command(
+        .subcommand(plain_command(alloc, "moves", MOVES_ABOUT, MOVES_USAGE, MOVES_NOTES)?)?
+        .subcommand(plain_command(
             alloc,
             "transcript",
             TRANSCRIPT_ABOUT,
             TRANSCRIPT_USAGE,
             TRANSCRIPT_NOTES,
-        ))?
-        .subcommand(titled_command(alloc, "play", PLAY_ABOUT, PLAY_USAGE, PLAY_NOTES))?
+        )?)?
+        .subcommand(plain_command(alloc, "play", PLAY_ABOUT, PLAY_USAGE, PLAY_NOTES)?)?
         .subcommand(verify_command(alloc)?)?
         .subcommand(add_command(alloc)?)
 }
@@ -406,6 +445,13 @@ fn text<'a>(matches: &ArgMatches<'a>, id: &str) -> Option<&'a str>
     matches.get_str(id)
 }
 
+// The words FILE, if any are given.
+fn files<'m, 'a>(matches: &'m ArgMatches<'a>) -> Option<&'m [&'a str]>
+    ensures { listed result ≡ files_of (rows_of (found_of matches.now)) }
+{
+    matches.get_strs("files")
+}
+
 // The value of `--scoring`.
 fn scoring(matches: &ArgMatches<'_>) -> Option<Scoring>
     ensures { MatchOption result
@@ -420,27 +466,27 @@ fn scoring(matches: &ArgMatches<'_>) -> Option<Scoring>
 }
 
 // What `solve` stands for.
-fn solve_plan<'a>(matches: &ArgMatches<'a>) -> Option<Plan<'a>>
+fn solve_plan<'m, 'a>(matches: &'m ArgMatches<'a>) -> Option<Plan<'m, 'a>>
     ensures { MatchOption result
         ((m : Meaning) → Means (Some (codes "solve", rows_of (found_of matches.now))) m → ⊥)
         (λ p. Means (Some (codes "solve", rows_of (found_of matches.now))) (plan_meaning p)) }
 {
     let settings = search_settings(matches, Command::Solve, scoring(matches)?)?;
-    Some(Plan::Run(settings, text(matches, "book")))
+    Some(Plan::Run(settings, text(matches, "book"), files(matches)))
 }
 
 // What `scores` stands for.
-fn scores_plan<'a>(matches: &ArgMatches<'a>) -> Option<Plan<'a>>
+fn scores_plan<'m, 'a>(matches: &'m ArgMatches<'a>) -> Option<Plan<'m, 'a>>
     ensures { MatchOption result
         ((m : Meaning) → Means (Some (codes "scores", rows_of (found_of matches.now))) m → ⊥)
         (λ p. Means (Some (codes "scores", rows_of (found_of matches.now))) (plan_meaning p)) }
 {
     let settings = search_settings(matches, Command::Scores, scoring(matches)?)?;
-    Some(Plan::Run(settings, None))
+    Some(Plan::Run(settings, None, files(matches)))
 }
 
 // What `book-verify` stands for.
-fn verify_plan<'a>(matches: &ArgMatches<'a>) -> Option<Plan<'a>>
+fn verify_plan<'m, 'a>(matches: &'m ArgMatches<'a>) -> Option<Plan<'m, 'a>>
     ensures { MatchOption result
         ((m : Meaning) → Means (Some (codes "book-verify", rows_of (found_of matches.now))) m → ⊥)
         (λ p. Means (Some (codes "book-verify", rows_of (found_of matches.now))) (plan_meaning p)) }
@@ -449,7 +495,7 @@ fn verify_plan<'a>(matches: &ArgMatches<'a>) -> Option<Plan<'a>>
 }
 
 // What `book-add` stands for.
-fn add_plan<'a>(matches: &ArgMatches<'a>) -> Option<Plan<'a>>
+fn add_plan<'m, 'a>(matches: &'m ArgMatches<'a>) -> Option<Plan<'m, 'a>>
     ensures { MatchOption result
         ((m : Meaning) → Means (Some (codes "book-add", rows_of (found_of matches.now))) m → ⊥)
         (λ p. Means (Some (codes "book-add", rows_of (found_of matches.now))) (plan_meaning p)) }
@@ -459,8 +505,9 @@ fn add_plan<'a>(matches: &ArgMatches<'a>) -> Option<Plan<'a>>
 }
 
 // What the commands without options ask for.
-fn plain<'a>(command: Command) -> Plan<'a>
-    ensures { (s : Settings) × (plan_meaning result ≡ run s None) × (s.command ≡ command) × IsPlain s }
+fn plain<'m, 'a>(matches: &'m ArgMatches<'a>, command: Command) -> Plan<'m, 'a>
+    ensures { (s : Settings) × (plan_meaning result ≡ run s None (files_of (rows_of (found_of matches.now))))
+        × (s.command ≡ command) × IsPlain s }
 {
     let settings = Settings {
         command,
@@ -468,11 +515,11 @@ fn plain<'a>(command: Command) -> Plan<'a>
         cells: 0,
         scoring: Scoring::Winner,
     };
-    Plan::Run(settings, None)
+    Plan::Run(settings, None, files(matches))
 }
 
 // What a subcommand and its matches stand for.
-fn plan<'a>(name: &str, matches: &ArgMatches<'a>) -> Option<Plan<'a>>
+fn plan<'m, 'a>(name: &str, matches: &'m ArgMatches<'a>) -> Option<Plan<'m, 'a>>
     ensures { MatchOption result
         ((m : Meaning) → Means (Some (name.now, rows_of (found_of matches.now))) m → ⊥)
         (λ p. Means (Some (name.now, rows_of (found_of matches.now))) (plan_meaning p)) }
@@ -480,9 +527,9 @@ fn plan<'a>(name: &str, matches: &ArgMatches<'a>) -> Option<Plan<'a>>
     match name {
         "solve" => solve_plan(matches),
         "scores" => scores_plan(matches),
-        "moves" => Some(plain(Command::Moves)),
-        "transcript" => Some(plain(Command::Transcript)),
-        "play" => Some(plain(Command::Play)),
+        "moves" => Some(plain(matches, Command::Moves)),
+        "transcript" => Some(plain(matches, Command::Transcript)),
+        "play" => Some(plain(matches, Command::Play)),
         "book-verify" => verify_plan(matches),
         "book-add" => add_plan(matches),
         _ => None,
@@ -490,7 +537,7 @@ fn plan<'a>(name: &str, matches: &ArgMatches<'a>) -> Option<Plan<'a>>
 }
 
 // What the subcommand of a parse stands for.
-fn chosen<'a>(matches: &ArgMatches<'a>) -> Option<Plan<'a>>
+fn chosen<'m, 'a>(matches: &'m ArgMatches<'a>) -> Option<Plan<'m, 'a>>
     ensures { MatchOption result
         ((m : Meaning) → Means (subcommand_rows_of matches.now) m → ⊥)
         (λ p. Means (subcommand_rows_of matches.now) (plan_meaning p)) }
@@ -501,14 +548,46 @@ fn chosen<'a>(matches: &ArgMatches<'a>) -> Option<Plan<'a>>
     }
 }
 
+// The texts as texts of their own.
+fn texts_copied(alloc: Global, texts: &[&str]) -> Result<Vec<String>, AllocError>
+    ensures { IfOk result (λ copies. map string_bytes copies.items ≡ map (λ t. t.now) texts.now) }
+{
+    let mut copies = Vec::new(alloc);
+    for at in 0..texts.len() {
+        copies.push(String::from_str(alloc, texts[at])?)?;
+    }
+    Ok(copies)
+}
+
+// The names of the files as texts of their own.
+fn files_copied(alloc: Global, files: Option<&[&str]>) -> Result<Vec<String>, AllocError>
+    ensures { IfOk result (λ copies. map string_bytes copies.items ≡ listed files.entry) }
+{
+    match files {
+        Some(files) => texts_copied(alloc, files),
+        None => Ok(Vec::new(alloc)),
+    }
+}
+
+// The name of a book as a text of its own.
+fn book_copied(alloc: Global, book: Option<&str>) -> Result<Option<String>, AllocError>
+    ensures { IfOk result (λ copy. option_map string_bytes copy ≡ option_map (λ t. t.now) book.entry) }
+{
+    match book {
+        Some(book) => Ok(Some(String::from_str(alloc, book)?)),
+        None => Ok(None),
+    }
+}
+
 // The plan with texts of its own.
-fn copied(alloc: Global, plan: Plan<'_>) -> Result<Words, AllocError>
+fn copied(alloc: Global, plan: Plan<'_, '_>) -> Result<Words, AllocError>
     ensures { IfOk result (λ w. meaning_of w ≡ plan_meaning plan.entry) }
 {
     match plan {
-        Plan::Run(settings, None) => Ok(Words::Run(settings, None)),
-        Plan::Run(settings, Some(book)) => {
-            Ok(Words::Run(settings, Some(String::from_str(alloc, book)?)))
+        Plan::Run(settings, book, files) => {
+            let book = book_copied(alloc, book)?;
+            let files = files_copied(alloc, files)?;
+            Ok(Words::Run(settings, book, files))
         }
         Plan::Verify(file) => Ok(Words::Verify(String::from_str(alloc, file)?)),
         Plan::Add(settings, file) => Ok(Words::Add(settings, String::from_str(alloc, file)?)),
@@ -534,15 +613,17 @@ fn read_with<'a>(
 
 /// Reads the words of a command line, of which the first names the program:
 ///
-/// - `solve [--workers N] [--cells N] [--scoring winner|discs] [--book FILE]`
-/// - `scores [--workers N] [--cells N] [--scoring winner|discs]`
-/// - `moves`, `transcript`, `play`: by one worker, without a table
+/// - `solve [--workers N] [--cells N] [--scoring winner|discs] [--book FILE] [FILE]..`
+/// - `scores [--workers N] [--cells N] [--scoring winner|discs] [FILE]..`
+/// - `moves [FILE]..`, `transcript [FILE]..`, `play [FILE]..`: by one worker, without a table
 /// - `book-verify FILE`
 /// - `book-add [--workers N] [--cells N] FILE`: it solves under `winner`
 ///
-/// There are 1 to 16 workers, or 1 by default, and 0 to 262,144 cells, or 65,536. The default scoring is `winner`. The
-/// subcommand and each value are those that clap's exact meaning gives for the words. Where that meaning takes the
-/// words, out of memory is the only error. Where clap finds a fault in the words, the error is of that fault's kind,
+/// The names of `[FILE]..` come in the order of the words, each as often as it stands there; what begins with `-` is
+/// one only behind `--`, but for `-` itself. There are 1 to 16 workers, or 1 by default, and 0 to 262,144 cells, or
+/// 65,536. The default scoring is `winner`. The subcommand and each value are those that clap's exact meaning gives for
+/// the words. Where that meaning takes the words, out of memory is the only error. Where clap finds a fault in the
+/// words, the error is of that fault's kind,
 /// or out of memory. A call for help or for the version is such a fault, with the text as clap writes it.
 pub fn read_words(alloc: Global, words: &[&str]) -> Result<Words, Error>
     ensures { (scorings : ScoringWords) × AreScorings scorings

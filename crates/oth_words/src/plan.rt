@@ -2,10 +2,10 @@
 
 use crate::settings::Settings;
 
-/// As `Words`, with a file's name as it stands in the words.
+/// As `Words`, with each file's name as it stands in the words.
 #[derive(Clone, Copy, Debug, Drop)]
-pub enum Plan<'a> {
-    Run(Settings, Option<&'a str>),
+pub enum Plan<'m, 'a> {
+    Run(Settings, Option<&'a str>, Option<&'m [&'a str]>),
     Verify(&'a str),
     Add(Settings, &'a str),
 }

@@ -1,14 +1,17 @@
 //! The program: it does what its command line asks for, with standard input and output and the file of a book.
 #![tactic(auto)]
 
+mod inputs;
+
 ghost use Rattle.std.specs.Prelude.{◌≡◌, ◌≤◌, ◌⊎◌, ◌↔◌, IfOk, IfErr, false, true};
 ghost use Rattle.oth_run.specs.Run.{AreLawful};
 ghost use Rattle.othsolve.specs.Program.{AreRefused, HasObeyed, HasReported, TellsFault};
 
+use crate::inputs::{STANDARD_INPUT, inputs_of};
 use oth_book::{Book, BookFault};
 use oth_main::{
-    BookRefusal, Errors, MOST_BOOK_BYTES, REFUSED, Reason, Report, RunFault, STATUS_DONE, Scene,
-    Settings, Watch, Words, book_add, book_verify, check_settings, open_book, print_refusal,
+    BookRefusal, Errors, Joined, MOST_BOOK_BYTES, REFUSED, Reason, Report, RunFault, STATUS_DONE,
+    Scene, Settings, Watch, Words, book_add, book_verify, check_settings, open_book, print_refusal,
     print_run_fault, read_words, run, tell_scoring,
 };
 use oth_text::{FromRead, Sink, Source, ToWrite};
@@ -29,26 +32,43 @@ const DEVICE_FAULT: u8 = 1;
 // Status 2: the words of the command line can't be obeyed.
 const COMMAND_LINE_FAULT: u8 = 2;
 
+// Whoever sits at a terminal.
+#[derive(Clone, Copy)]
+struct Sitter<'m, S> {
+    // Shows how far a search is where standard error is a terminal.
+    watch: &'m Watch<S>,
+    // Whether standard input is a terminal.
+    types: bool,
+}
+
 // What the words are obeyed with.
 #[derive(Clone, Copy)]
 struct Means<'m, T, S> {
     rt: &'m T,
-    // Shows how far a search is where standard error is a terminal.
-    watch: &'m Watch<S>,
+    sitter: &'m Sitter<'m, S>,
 }
 
 // Obeys the words of the command line.
 fn main(rt: HostRuntime) -> ExitCode {
-    let mut reader = FromRead::new(rt.stdin());
     let mut errors = Errors::new(ToWrite::new(rt.stderr()), rt.stderr().is_terminal());
-    let status = match words(&rt) {
-        Ok(words) => {
-            let watch = Watch::on(ToWrite::new(rt.stderr()), errors.is_terminal);
-            let mut report = Report::of(&rt, &watch, ToWrite::new(rt.stdout()));
-            obey_watched(&watch, &words, &mut reader, &mut report, &mut errors)
-        }
-        Err(status) => status,
+    let words = match words(&rt) {
+        Ok(words) => words,
+        Err(status) => return ExitCode::from(status),
     };
+    let mut inputs = match inputs_of(&rt, rt.stdin(), &words, &mut errors) {
+        Ok(inputs) => inputs,
+        Err(status) => {
+            errors.explain(rt.alloc(), &Scene::default());
+            return ExitCode::from(status);
+        }
+    };
+    let watch = Watch::on(ToWrite::new(rt.stderr()), errors.is_terminal);
+    let mut report = Report::of(&rt, &watch, ToWrite::new(rt.stdout()));
+    let sitter = Sitter {
+        watch: &watch,
+        types: rt.stdin().is_terminal(),
+    };
+    let status = obey_watched(&sitter, &words, &mut inputs, &mut report, &mut errors);
     ExitCode::from(status)
 }
 
@@ -56,21 +76,22 @@ fn main(rt: HostRuntime) -> ExitCode {
 fn obey_watched<
     'w,
     T: Wait + Threads + Clock + Sync + Files + AllocGlobal,
-    R: Read,
+    R: Read + Drop,
     W: Write,
     S: Sink + Send,
     E: Sink,
 >(
-    watch: &Watch<S>,
+    sitter: &Sitter<'_, S>,
     words: &Words,
-    reader: &mut FromRead<R>,
+    reader: &mut Joined<FromRead<R>>,
     report: &mut Report<'w, T, ToWrite<W>, S>,
     errors: &mut Errors<E>,
 ) -> u8
-    requires reader { ⟦<FromRead<R> as Source>⟧.failed reader.old ≡ false }
+    requires reader { ⟦<Joined<FromRead<R>> as Source>⟧.failed reader.old ≡ false }
     requires writer { ⟦<Report<'w, T, ToWrite<W>, S> as Sink>⟧.failed report.old ≡ false }
     ensures done { result ≡ 0 → HasObeyed words.now
-        (⟦<FromRead<R> as Source>⟧.remaining reader.old) (⟦<FromRead<R> as Source>⟧.remaining reader.new)
+        (⟦<Joined<FromRead<R>> as Source>⟧.remaining reader.old)
+        (⟦<Joined<FromRead<R>> as Source>⟧.remaining reader.new)
         (⟦<Report<'w, T, ToWrite<W>, S> as Sink>⟧.contents report.old)
         (⟦<Report<'w, T, ToWrite<W>, S> as Sink>⟧.contents report.new) }
     ensures works { result ≡ 0 → (⟦<Report<'w, T, ToWrite<W>, S> as Sink>⟧.failed report.new ≡ false)
@@ -80,7 +101,7 @@ fn obey_watched<
     ensures statuses { result ≤ 3 }
 {
     let rt = report.runtime();
-    let means = Means { rt, watch };
+    let means = Means { rt, sitter };
     let status = obey_beside(&means, words, reader, report, errors);
     explain(rt.alloc(), words, reader, report.writer(), errors);
     status
@@ -109,7 +130,7 @@ fn obey_beside<
     ensures untouched { result ≡ 2 → (reader.new ≡ reader.old) × (writer.new ≡ writer.old) }
     ensures statuses { result ≤ 3 }
 {
-    let (rt, watch) = (means.rt, means.watch);
+    let (rt, watch) = (means.rt, means.sitter.watch);
     let mut obeying = || -> u8
         requires { (R.failed reader.now ≡ false) × (W.failed writer.now ≡ false) }
         ensures done { result ≡ 0 → HasObeyed words.entry.now
@@ -124,10 +145,10 @@ fn obey_beside<
 }
 
 // Tells why the words' work ended, where the error output is a terminal.
-fn explain<R: Read, W: Write, E: Sink>(
+fn explain<R: Read + Drop, W: Write, E: Sink>(
     alloc: Global,
     words: &Words,
-    reader: &FromRead<R>,
+    reader: &Joined<FromRead<R>>,
     writer: &ToWrite<W>,
     errors: &mut Errors<E>,
 )
@@ -135,17 +156,28 @@ fn explain<R: Read, W: Write, E: Sink>(
 {
     let scene = Scene {
         file: file_name(words),
-        input: reader.failure(),
+        input_name: input_name(words, reader.place()),
+        input: reader.source().failure(),
         output: writer.failure(),
     };
     errors.explain(alloc, &scene);
 }
 
-// The name of the file that the words name.
+// What the input at this place among all is called, counted from 0.
+fn input_name(words: &Words, place: usize) -> &str {
+    if let Words::Run(_, _, names) = words {
+        if place < names.len() && names[place].as_str() != STANDARD_INPUT {
+            return names[place].as_str();
+        }
+    }
+    "standard input"
+}
+
+// The name of the book that the words name.
 fn file_name(words: &Words) -> &str {
     match words {
-        Words::Run(_, Some(name)) => name.as_str(),
-        Words::Run(_, None) => "",
+        Words::Run(_, Some(name), _) => name.as_str(),
+        Words::Run(_, None, _) => "",
         Words::Verify(name) => name.as_str(),
         Words::Add(_, name) => name.as_str(),
     }
@@ -177,29 +209,52 @@ fn obey<
 {
     let rt = means.rt;
     match words {
-        Words::Run(settings, None) => report(means, settings, None, reader, writer, errors),
-        Words::Run(settings, Some(name)) => match book_of(rt, settings, name.as_str(), errors) {
-            Ok(book) => report(means, settings, Some(&book), reader, writer, errors),
-            Err(status) => status,
-        },
+        Words::Run(settings, None, names) => {
+            greet(means, settings, names.is_empty(), errors);
+            report(means, settings, None, reader, writer, errors)
+        }
+        Words::Run(settings, Some(name), names) => {
+            match book_of(rt, settings, name.as_str(), errors) {
+                Ok(book) => {
+                    greet(means, settings, names.is_empty(), errors);
+                    report(means, settings, Some(&book), reader, writer, errors)
+                }
+                Err(status) => status,
+            }
+        }
         Words::Verify(name) => match file_of(rt, name.as_str(), errors) {
             Ok(file) => book_verify(rt, rt.alloc(), file.as_slice(), writer, errors),
             Err(status) => status,
         },
         Words::Add(settings, name) => {
             match tested_file_of(rt, settings, name.as_str(), errors) {
-                Ok(file) => book_add(
-                    rt,
-                    rt.alloc(),
-                    file.as_slice(),
-                    reader,
-                    writer,
-                    errors,
-                    settings,
-                ),
+                Ok(file) => {
+                    greet(means, settings, true, errors);
+                    book_add(
+                        rt,
+                        rt.alloc(),
+                        file.as_slice(),
+                        reader,
+                        writer,
+                        errors,
+                        settings,
+                    )
+                }
                 Err(status) => status,
             }
         }
+    }
+}
+
+// Tells whoever types the lines that they are awaited, where no file is named and the settings are lawful.
+fn greet<T, S, E: Sink>(
+    means: &Means<'_, T, S>,
+    settings: &Settings,
+    names_none: bool,
+    errors: &mut Errors<E>,
+) {
+    if means.sitter.types && names_none && check_settings(settings).is_ok() {
+        errors.tell_awaited(settings.command);
     }
 }
 
@@ -222,7 +277,7 @@ fn report<T: Wait + Threads + Sync + AllocGlobal, R: Source, W: Sink, S: Sink + 
     ensures untouched { result ≡ 2 → (reader.new ≡ reader.old) × (writer.new ≡ writer.old) }
     ensures statuses { result ≤ 2 }
 {
-    let (rt, gate) = (means.rt, means.watch.gate());
+    let (rt, gate) = (means.rt, means.sitter.watch.gate());
     match run(rt, rt.alloc(), reader, writer, settings, gate, book) {
         Ok(()) => STATUS_DONE,
         Err(fault) => print_run_fault(fault, errors),

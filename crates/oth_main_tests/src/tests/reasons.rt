@@ -4,7 +4,7 @@ use super::NO_FAILURE;
 use super::books::EMPTY_BOOK;
 use oth_book::{AddError, BookFault, Cause, Wrong};
 use oth_main::{
-    BookRefusal, Errors, Reason, RunFault, Scene, book_verify, open_book, print_run_fault,
+    BookRefusal, Command, Errors, Reason, RunFault, Scene, book_verify, open_book, print_run_fault,
     tell_scoring,
 };
 use oth_rules::Scoring;
@@ -87,6 +87,7 @@ pub(super) fn told(
     errors.reason = reason;
     let scene = Scene {
         file,
+        input_name: "standard input",
         input: None,
         output: None,
     };
@@ -130,6 +131,7 @@ fn nothing_is_told_where_nobody_reads_it(rt: HostRuntime) {
     let mut errors = Errors::new(ByteSink::<128>::new(0), true);
     let scene = Scene {
         file: "",
+        input_name: "standard input",
         input: None,
         output: None,
     };
@@ -149,6 +151,7 @@ fn told_of_run(
     let _ = print_run_fault(fault, &mut errors);
     let scene = Scene {
         file: "my.book",
+        input_name: "standard input",
         input,
         output,
     };
@@ -209,6 +212,7 @@ fn a_refused_file_keeps_its_reason(rt: HostRuntime) {
     assert!(rt; errors.sink.taken() == b"book error 2 at 1\n".as_slice());
     let scene = Scene {
         file: "my.book",
+        input_name: "standard input",
         input: None,
         output: None,
     };
@@ -238,4 +242,50 @@ fn a_book_of_the_other_scoring_is_told(rt: HostRuntime) {
     assert!(rt; done.taken() == b"my.book: by the other scoring, so it is not asked\n".as_slice());
     assert!(rt; told_of_scoring(&rt, Scoring::Winner, true).calls() == 0);
     assert!(rt; told_of_scoring(&rt, Scoring::Discs, false).calls() == 0);
+}
+
+#[test]
+fn a_file_of_lines_is_named_where_it_fails(rt: HostRuntime) {
+    let error = Error::from(ErrorKind::StorageFull);
+    let mut errors = Errors::new(ByteSink::<128>::new(NO_FAILURE), true);
+    let _ = print_run_fault(RunFault::Read, &mut errors);
+    let scene = Scene {
+        file: "my.book",
+        input_name: "b\u{1b}.txt",
+        input: Some(&error),
+        output: None,
+    };
+    errors.explain(rt.alloc(), &scene);
+    assert!(rt; errors.sink.taken() == b"run error 1\nb?.txt: no space left\n".as_slice());
+}
+
+// On a terminal and elsewhere, and once.
+#[test]
+fn a_file_that_cannot_be_opened_is_named_everywhere(rt: HostRuntime) {
+    for is_terminal in [false, true] {
+        let mut errors = Errors::new(ByteSink::<128>::new(NO_FAILURE), is_terminal);
+        let _ = print_run_fault(RunFault::Read, &mut errors);
+        errors.tell_unopened(rt.alloc(), "a\u{7}.txt", &Error::from(ErrorKind::NotFound));
+        errors.explain(rt.alloc(), &Scene::default());
+        assert!(rt; errors.sink.taken() == b"run error 1\na?.txt: no such file\n".as_slice());
+    }
+}
+
+#[test]
+fn lines_from_a_terminal_are_awaited(rt: HostRuntime) {
+    let rows = [
+        (Command::Solve, "boards"),
+        (Command::Scores, "boards"),
+        (Command::Moves, "boards"),
+        (Command::Transcript, "games"),
+        (Command::Play, "boards with moves"),
+    ];
+    for (command, lines) in rows {
+        let mut errors = Errors::new(ByteSink::<128>::new(NO_FAILURE), false);
+        errors.tell_awaited(command);
+        let wanted = format!(in rt.alloc();
+            "othsolve: reading {lines} from the terminal; end with Ctrl-D\n"
+        ).expect(&rt, "words");
+        assert!(rt; errors.sink.taken() == wanted.as_bytes());
+    }
 }

@@ -12,12 +12,28 @@ fn kind_of_error(alloc: Global, words: &[&str]) -> Option<ErrorKind> {
     }
 }
 
-// The settings of the run without a book that these words ask for.
+// The settings of the run without a book over standard input that these words ask for.
 fn run_of(alloc: Global, words: &[&str]) -> Option<Settings> {
     match read_words(alloc, words) {
-        Ok(Words::Run(settings, None)) => Some(settings),
+        Ok(Words::Run(settings, None, files)) if files.is_empty() => Some(settings),
         _ => None,
     }
+}
+
+// Whether these words ask for a run over just these files.
+fn reads(alloc: Global, words: &[&str], wanted: &[&str]) -> bool {
+    let Ok(Words::Run(_, _, files)) = read_words(alloc, words) else {
+        return false;
+    };
+    if files.len() != wanted.len() {
+        return false;
+    }
+    for at in 0..wanted.len() {
+        if files[at].as_str() != wanted[at] {
+            return false;
+        }
+    }
+    true
 }
 
 const DEFAULTS: Settings = Settings {
@@ -44,7 +60,7 @@ fn solve_has_defaults_and_takes_values(rt: HostRuntime) {
         "a.book",
     ];
     match read_words(rt.alloc(), words.as_slice()).expect(&rt, "words") {
-        Words::Run(settings, Some(book)) => {
+        Words::Run(settings, Some(book), _) => {
             assert!(rt;
                 settings
                     == Settings {
@@ -101,6 +117,29 @@ fn the_plain_commands_take_no_options(rt: HostRuntime) {
         };
         assert!(rt; run_of(rt.alloc(), ["othsolve", word].as_slice()) == Some(wanted));
     }
+}
+
+#[test]
+fn files_come_in_the_order_of_the_words(rt: HostRuntime) {
+    let commands = ["solve", "scores", "moves", "transcript", "play"];
+    for command in commands {
+        let words = ["othsolve", command, "b.txt", "-", "a.txt", "b.txt"];
+        let wanted = ["b.txt", "-", "a.txt", "b.txt"];
+        assert!(rt; reads(rt.alloc(), words.as_slice(), wanted.as_slice()));
+        let words = ["othsolve", command, "--", "--workers"];
+        assert!(rt; reads(rt.alloc(), words.as_slice(), ["--workers"].as_slice()));
+    }
+    let words = [
+        "othsolve",
+        "solve",
+        "a",
+        "--workers",
+        "2",
+        "b",
+        "--book=c",
+        "d",
+    ];
+    assert!(rt; reads(rt.alloc(), words.as_slice(), ["a", "b", "d"].as_slice()));
 }
 
 #[test]

@@ -13,8 +13,8 @@ returns c =
     ap app_of_fields c.subcommand_required.ensures ∙ ap (λ (a : App). record a { top = record a.top { subcommand_required = true } }) c.titled_program.ensures.app in
     let first = c.in_ok-subcommand.ensures.shape c.in_ok-solve_command.ensures.local ∙ ap₂ with_subcommand program_is (ap top c.in_ok-solve_command.ensures.app) in
     let second = c.in_ok-subcommand-2.ensures.shape c.in_ok-scores_command.ensures.local ∙ ap₂ with_subcommand first (ap top c.in_ok-scores_command.ensures.app) in
-    let third = c.in_ok-subcommand-3.ensures.shape c.titled_command.ensures.local ∙ ap₂ with_subcommand second (ap top c.titled_command.ensures.app) in
-    let fourth = c.in_ok-subcommand-4.ensures.shape c.titled_command-2.ensures.local ∙ ap₂ with_subcommand third (ap top c.titled_command-2.ensures.app) in
-    let fifth = c.in_ok-subcommand-5.ensures.shape c.titled_command-3.ensures.local ∙ ap₂ with_subcommand fourth (ap top c.titled_command-3.ensures.app) in
+    let third = c.in_ok-subcommand-3.ensures.shape c.in_ok-plain_command.ensures.local ∙ ap₂ with_subcommand second (ap top c.in_ok-plain_command.ensures.app) in
+    let fourth = c.in_ok-subcommand-4.ensures.shape c.in_ok-plain_command-2.ensures.local ∙ ap₂ with_subcommand third (ap top c.in_ok-plain_command-2.ensures.app) in
+    let fifth = c.in_ok-subcommand-5.ensures.shape c.in_ok-plain_command-3.ensures.local ∙ ap₂ with_subcommand fourth (ap top c.in_ok-plain_command-3.ensures.app) in
     let sixth = c.in_ok-subcommand-6.ensures.shape c.in_ok-verify_command.ensures.local ∙ ap₂ with_subcommand fifth (ap top c.in_ok-verify_command.ensures.app) in
     IfOk-weaker c.subcommand-7.result _ _ (λ r added. added.shape c.in_ok-add_command.ensures.local ∙ ap₂ with_subcommand sixth (ap top c.in_ok-add_command.ensures.app)) c.subcommand-7.ensures

@@ -16,6 +16,8 @@ returns-in_err-settings c = rw c.from_residual-in_err-settings.ensures (λ m mea
 
 pub returns : goal.returns
 returns c =
-    let settings = c.in_ok-settings.ensures in
-    subst (λ t. MeansRun t (codes "scores", rows_of (found_of c.args.matches.now)) c.in_ok-settings.settings None) (sym settings.1)
-    (refl, settings.0, c.in_ok-scoring.ensures ∙ ap (λ s. Some (scoring_word s)) (sym settings.2), refl)
+    let settings = c.in_ok-settings.ensures in (
+      subst (λ t. MeansRun t (codes "scores", rows_of (found_of c.args.matches.now)) c.in_ok-settings.settings None) (sym settings.1)
+          (refl, settings.0, c.in_ok-scoring.ensures ∙ ap (λ s. Some (scoring_word s)) (sym settings.2), refl),
+      sym c.files.ensures,
+    )
