@@ -1,17 +1,15 @@
 //! Tells a gate of a search by one worker.
 use arrayvec::ArrayVec;
 use oth_pieces::{awake, count_below};
-use oth_rules::{Board, Scoring, Square};
-use oth_search::{Cells, Observer, Solved, known_below};
-use oth_walk::{Gate, move_to};
+use oth_rules::{Board, Square};
+use oth_search::{Cells, Observer, RootMove, RootMoves, Solved};
+use oth_walk::Gate;
 
 /// Tells a gate of each item two plies below a board, before its search and after, and how far the search is. One
 /// worker searches the root's children, not the items: those below a move are announced before the first search of its
 /// child and after it.
 #[derive(Drop)]
 pub(crate) struct Announcer<'g, G> {
-    root: Board,
-    scoring: Scoring,
     gate: &'g G,
     below: ArrayVec<Below, 64>,
     // The moves whose items were announced.
@@ -30,11 +28,9 @@ struct Below {
 
 impl<'g, G: Gate> Announcer<'g, G> {
     /// An announcer that has announced no item of the board, after a forced pass where there is one.
-    pub fn of(board: &Board, scoring: Scoring, gate: &'g G) -> Announcer<'g, G> {
+    pub fn of(board: &Board, gate: &'g G) -> Announcer<'g, G> {
         let (root, _) = awake(*board);
         Announcer {
-            root,
-            scoring,
             gate,
             below: items_below(&root),
             announced: 0,
@@ -67,10 +63,14 @@ fn below_move(all: &[Below], square: Square) -> Below {
 
 // Returns the items below each move of the root, numbered as a frontier has them.
 fn items_below(root: &Board) -> ArrayVec<Below, 64> {
+    let moves = root.moves();
     let mut all = ArrayVec::new();
     let mut first = 0u32;
     for number in 0..64 {
         let square = Square::numbered(number);
+        if moves & square.word() == 0 {
+            continue;
+        }
         if let Some(child) = root.play(square) {
             let end = first.saturating_add(count_below(&child));
             let _ = all.try_push(Below { square, first, end });
@@ -80,12 +80,12 @@ fn items_below(root: &Board) -> ArrayVec<Below, 64> {
     all
 }
 
-// Returns the bounds of the root, backed up from `replies`, its children, and how many of these need no further search.
-fn known_of(root: Board, replies: &[Solved], scoring: Scoring) -> (Solved, u64) {
-    let root = known_below(root, 1, replies, scoring);
+// Returns what is known of the root, and how many of its moves need no further search.
+fn known_of(moves: &RootMoves) -> (Solved, u64) {
+    let root = moves.backed_up();
     let mut settled = 0u64;
-    for reply in replies {
-        if reply.is_settled(-root.interval.lower) {
+    for root_move in moves.as_slice() {
+        if root_move.child.is_settled(-root.interval.lower) {
             settled = settled.saturating_add(1);
         }
     }
@@ -93,10 +93,8 @@ fn known_of(root: Board, replies: &[Solved], scoring: Scoring) -> (Solved, u64) 
 }
 
 impl<'g, G: Gate, C: Cells> Observer<C> for Announcer<'g, G> {
-    fn before(&mut self, child: &Board) {
-        let Some(square) = move_to(&self.root, child) else {
-            return;
-        };
+    fn before(&mut self, root_move: &RootMove) {
+        let square = root_move.square;
         if self.announced & square.word() != 0 {
             return;
         }
@@ -108,9 +106,9 @@ impl<'g, G: Gate, C: Cells> Observer<C> for Announcer<'g, G> {
         }
     }
 
-    fn after(&mut self, _child: &Board, replies: &[Solved]) {
+    fn after(&mut self, _root_move: &RootMove, moves: &RootMoves) {
         if self.gate.follows() {
-            let (root, settled) = known_of(self.root, replies, self.scoring);
+            let (root, settled) = known_of(moves);
             self.gate.goes_on(&root, settled);
         }
         if let Some(square) = self.open.take() {
