@@ -3,11 +3,12 @@
 
     hostile/limits.py PROGRAM [--fine]
 
-Status 0 wants all answers, status 1, 2 or 3 a text on standard error and a beginning of the answers. Of the address spaces in which
-memory is wanting at a bad moment many are narrow: `--fine` tries one each 500 kB, and takes half a minute where the coarse walk takes ten
-seconds.
+Status 0 wants all answers, status 1, 2 or 3 a text on standard error and a beginning of the answers. Searches of large boards are ended
+after two seconds, and nothing else may end them. Of the address spaces in which memory is wanting at a bad moment many are narrow: `--fine`
+tries one each 500 kB, and takes half a minute where the coarse walk takes ten seconds.
 """
 import argparse
+import itertools
 import os
 import signal
 import sys
@@ -20,14 +21,20 @@ SEED = 20261126
 BOARDS = 20
 EMPTIES = 14
 WORKERS = (1, 2, 4, 8, 16)
+# Boards whose search doesn't end soon: it is ended after some seconds, when it has been as deep as it gets.
+LARGE_EMPTIES = (22, 26, 30)
+LARGE_WORKERS = (1, 4, 16)
+LARGE_SECONDS = 2
 # In kB.
 COARSE_MEMORY = sorted((*range(4000, 40001, 4000), 10500, 11500, 19000, 20500, 28500, 29000, 36500, 37000))
 FINE_MEMORY = range(4000, 40001, 500)
 STACKS = (128, 192, 256, 320, 384, 448, 512, 768, 1024)
-# The environment lies on the stack: below the second of these there is none, from there on one of a usual size, in bytes.
-WITH_ENVIRONMENT = STACKS[1]
+LARGE_STACK = 192
+# The environment lies on the stack: one of a usual size, in bytes.
 ENVIRONMENT = {"USUAL": "x" * 16_000}
 USUAL_STACK = 8192
+# The status of `timeout` where it ended what it ran.
+TIMED_OUT = 124
 AT_ONCE = 4
 # A shell sets both limits, soft and hard, and becomes the program.
 UNDER = 'ulimit -s "$0" && ulimit -v "$1" && shift && exec "$@"; exit 99'
@@ -51,8 +58,7 @@ class Walk:
 
     def wrong_under(self, stack, memory, wanted):
         """Tells what is wrong under these limits, if anything."""
-        environment = ENVIRONMENT if stack >= WITH_ENVIRONMENT else {}
-        done = ran(["sh", "-c", UNDER, str(stack), str(memory), *self.words], self.given, env=environment)
+        done = ran(["sh", "-c", UNDER, str(stack), str(memory), *self.words], self.given, env=ENVIRONMENT)
         if done.status == 0:
             return None if done.wrote == wanted else "other answers"
         if done.status not in (1, 2, 3):
@@ -60,6 +66,22 @@ class Walk:
         if not done.said:
             return f"status {done.status} without a word"
         return None if wanted.startswith(done.wrote) else f"status {done.status} behind other answers"
+
+
+def large_wrong(program):
+    """Tells which search of a large board is ended by another signal than the one that it gets after some seconds, if any is."""
+    searches = itertools.product(("solve", "scores"), LARGE_EMPTIES, LARGE_WORKERS)
+    with ThreadPoolExecutor(AT_ONCE) as at_once:
+        return "; ".join(filter(None, at_once.map(lambda search: large_wrong_in(program, *search), searches))) or None
+
+
+def large_wrong_in(program, command, empties, workers):
+    """Tells what is wrong with the search of one large board, if anything."""
+    words = ["sh", "-c", UNDER, str(LARGE_STACK), "unlimited", "timeout", str(LARGE_SECONDS), program, command, "--workers", str(workers)]
+    done = ran(words, board_lines(SEED, 1, empties), env={"PATH": os.environ["PATH"], **ENVIRONMENT})
+    if done.status in (0, TIMED_OUT):
+        return None
+    return f"{command}, {empties} empty squares, {workers} workers: status {status_name(done.status)}"
 
 
 def status_name(status):
@@ -100,6 +122,7 @@ def steps(program, fine=False):
     """Yields a step for each walk: its name, and what is wrong with it, if anything."""
     for name, walk in walks(program, fine):
         yield name, walk.wrong()
+    yield f"boards of {', '.join(map(str, LARGE_EMPTIES))} empty squares in {LARGE_STACK} kB of stack", large_wrong(program)
 
 
 def main():

@@ -171,8 +171,7 @@ fn answer_alone<'t, R: Threads + Sync, G: Gate>(
     by_book: &Solved,
     access: &mut Option<TableCells<'t>>,
 ) -> Answer
-    requires some { can_move by_book.now.board ≡ true }
-    requires few { IsSolvable by_book.now.board }
+    requires { can_move by_book.now.board ≡ true }
     ensures board { result.board ≡ by_book.now.board }
     ensures scoring { result.scoring ≡ by_book.now.scoring }
 {

@@ -122,9 +122,7 @@ fn value_alone<R, G: Gate, C: Cells>(
     by_book: &Solved,
     sibling: Option<&Solved>,
     cells: &mut C,
-) -> Solved
-    requires { IsSolvable by_book.now.board }
-{
+) -> Solved {
     if is_exact(by_book) {
         return *by_book;
     }
