@@ -15,21 +15,31 @@ fn kind_of_error(alloc: Global, words: &[&str]) -> Option<ErrorKind> {
 // The settings of the run without a book over standard input that these words ask for.
 fn run_of(alloc: Global, words: &[&str]) -> Option<Settings> {
     match read_words(alloc, words) {
-        Ok(Words::Run(settings, None, files)) if files.is_empty() => Some(settings),
-        _ => None,
+        Ok(Words::Run(settings, book, files)) => {
+            let is_plain = book.is_none() && files.is_empty();
+            if is_plain { Some(settings) } else { None }
+        }
+        Ok(_words) => None,
+        Err(_error) => None,
     }
 }
 
 // Whether these words ask for a run over just these files.
 fn reads(alloc: Global, words: &[&str], wanted: &[&str]) -> bool {
-    let Ok(Words::Run(_, _, files)) = read_words(alloc, words) else {
-        return false;
-    };
-    if files.len() != wanted.len() {
+    match read_words(alloc, words) {
+        Ok(Words::Run(_settings, _book, files)) => are(files.as_slice(), wanted),
+        Ok(_words) => false,
+        Err(_error) => false,
+    }
+}
+
+// Whether the texts are the wanted ones, in their order.
+fn are(texts: &[String], wanted: &[&str]) -> bool {
+    if texts.len() != wanted.len() {
         return false;
     }
     for at in 0..wanted.len() {
-        if files[at].as_str() != wanted[at] {
+        if at >= texts.len() || texts[at].as_str() != wanted[at] {
             return false;
         }
     }
@@ -60,7 +70,8 @@ fn solve_has_defaults_and_takes_values(rt: HostRuntime) {
         "a.book",
     ];
     match read_words(rt.alloc(), words.as_slice()).expect(&rt, "words") {
-        Words::Run(settings, Some(book), _) => {
+        Words::Run(settings, book, files) => {
+            assert!(rt; files.is_empty());
             assert!(rt;
                 settings
                     == Settings {
@@ -70,7 +81,10 @@ fn solve_has_defaults_and_takes_values(rt: HostRuntime) {
                         scoring: Scoring::Discs
                     }
             );
-            assert!(rt; book.as_str() == "a.book");
+            match book {
+                Some(book) => assert!(rt; book.as_str() == "a.book"),
+                None => panic!(rt; "no book"),
+            }
         }
         _ => panic!(rt; "another command"),
     }
