@@ -2,18 +2,16 @@
 ghost use Rattle.oth_pool.specs.Solving.{IsSolvable};
 
 use arrayvec::ArrayVec;
-use oth_pieces::{Frontier, MOST_ITEMS, awake};
-use oth_rules::{Board, Scoring, Square};
-use oth_search::{Cells, Observer, Solved, known_below};
-use oth_walk::{Gate, move_to};
+use oth_pieces::{Frontier, MOST_ITEMS};
+use oth_rules::{Board, Square};
+use oth_search::{Cells, Observer, RootMove, RootMoves, Solved};
+use oth_walk::Gate;
 
 /// Tells a gate of each item two plies below a board, before its search and after, and how far the search is. One
 /// worker searches the root's children, not the items: those below a move are announced before the first search of its
 /// child and after it.
 #[derive(Drop)]
 pub(crate) struct Announcer<'g, G> {
-    root: Board,
-    scoring: Scoring,
     gate: &'g G,
     // The root's move of each item, by the item's number.
     squares: ArrayVec<Square, MOST_ITEMS>,
@@ -25,13 +23,10 @@ pub(crate) struct Announcer<'g, G> {
 
 impl<'g, G: Gate> Announcer<'g, G> {
     /// An announcer that has announced no item of the board, after a forced pass where there is one.
-    pub fn of(board: &Board, scoring: Scoring, gate: &'g G) -> Announcer<'g, G>
+    pub fn of(board: &Board, gate: &'g G) -> Announcer<'g, G>
         requires { IsSolvable board.now }
     {
-        let (root, _) = awake(*board);
         Announcer {
-            root,
-            scoring,
             gate,
             squares: squares_of_items(board),
             announced: 0,
@@ -52,12 +47,12 @@ impl<'g, G: Gate> Announcer<'g, G> {
     }
 }
 
-// Returns the bounds of the root, backed up from `replies`, its children, and how many of these need no further search.
-fn known_of(root: Board, replies: &[Solved], scoring: Scoring) -> (Solved, u64) {
-    let root = known_below(root, 1, replies, scoring);
+// Returns what is known of the root, and how many of its moves need no further search.
+fn known_of(moves: &RootMoves) -> (Solved, u64) {
+    let root = moves.backed_up();
     let mut settled = 0u64;
-    for reply in replies {
-        if reply.is_settled(-root.interval.lower) {
+    for root_move in moves.as_slice() {
+        if root_move.child.is_settled(-root.interval.lower) {
             settled = settled.saturating_add(1);
         }
     }
@@ -81,10 +76,8 @@ fn squares_of_items(board: &Board) -> ArrayVec<Square, MOST_ITEMS>
 }
 
 impl<'g, G: Gate, C: Cells> Observer<C> for Announcer<'g, G> {
-    fn before(&mut self, child: &Board) {
-        let Some(square) = move_to(&self.root, child) else {
-            return;
-        };
+    fn before(&mut self, root_move: &RootMove) {
+        let square = root_move.square;
         if self.announced & square.word() != 0 {
             return;
         }
@@ -97,9 +90,9 @@ impl<'g, G: Gate, C: Cells> Observer<C> for Announcer<'g, G> {
         }
     }
 
-    fn after(&mut self, _child: &Board, replies: &[Solved]) {
+    fn after(&mut self, _root_move: &RootMove, moves: &RootMoves) {
         if self.gate.follows() {
-            let (root, settled) = known_of(self.root, replies, self.scoring);
+            let (root, settled) = known_of(moves);
             self.gate.goes_on(&root, settled);
         }
         if let Some(square) = self.open.take() {

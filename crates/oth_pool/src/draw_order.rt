@@ -4,8 +4,8 @@
 //! the second ones.
 use arrayvec::ArrayVec;
 use oth_pieces::{MOST_ITEMS, awake};
-use oth_rules::{Board, Square};
-use oth_search::order;
+use oth_rules::Board;
+use oth_search::{RootMove, order};
 use oth_walk::Search;
 
 // More moves than a board has.
@@ -21,12 +21,12 @@ pub(crate) fn ranks(search: &Search) -> ArrayVec<u32, MOST_ITEMS> {
     for number in 0..search.frontier.len() {
         let mut rank = u32::MAX;
         if let Some(item) = search.frontier.entry(number) {
-            if to != Some(item.square) {
-                replies = replies_to(search, item.square);
-                to = Some(item.square);
+            let of_move = search.moves.place_of(item.square);
+            if to != Some(of_move) {
+                replies = replies_to(search.moves.get(of_move));
+                to = Some(of_move);
             }
-            let of_move = place_of(search.squares, &item.square);
-            rank = rank_of(of_move, place_of(replies.as_slice(), &item.board));
+            rank = rank_of(of_move as u32, place_of(replies.as_slice(), &item.board));
         }
         let _ = ranks.try_push(rank);
     }
@@ -45,10 +45,10 @@ fn rank_of(of_move: u32, of_reply: u32) -> u32 {
 
 // Returns the boards after the replies to the root's move, in the order in which they are searched. A forced pass
 // before or after a reply is played too.
-fn replies_to(search: &Search, square: Square) -> ArrayVec<Board, 64> {
+fn replies_to(root_move: Option<RootMove>) -> ArrayVec<Board, 64> {
     let mut replies = ArrayVec::new();
-    if let Some(child) = search.root.play(square) {
-        let (child, _) = awake(child);
+    if let Some(root_move) = root_move {
+        let (child, _) = awake(root_move.child.board);
         let squares = order(&child);
         for reply in squares.as_slice() {
             if let Some(board) = child.play(*reply) {
@@ -60,11 +60,11 @@ fn replies_to(search: &Search, square: Square) -> ArrayVec<Board, 64> {
     replies
 }
 
-// Returns the place of `value` in `list`, or `BEYOND` where it isn't among the first 64.
-fn place_of<T: PartialEq>(list: &[T], value: &T) -> u32 {
+// Returns the place of the board in the list, or `BEYOND` where it isn't among the first 64.
+fn place_of(list: &[Board], board: &Board) -> u32 {
     let mut place = 0;
     for other in list {
-        if *other == *value || place == BEYOND {
+        if *other == *board || place == BEYOND {
             return place;
         }
         place = place.saturating_add(1);

@@ -13,7 +13,7 @@ use crate::draw_order::ranks;
 use crate::work::{Job, Work};
 use crate::workers::work_all;
 use oth_pieces::{Drawn, Floor, FloorSeat, Frontier, Hand, Reply, Tasks};
-use oth_search::{Cells, Solved, order};
+use oth_search::{Cells, RootMove, RootMoves, Solved};
 use oth_table::TableCells;
 use oth_walk::{
     Gate, HintSeat, Hints, RootBound, Search, Sharing, Worker, WorkerCells, orders_for,
@@ -65,10 +65,10 @@ pub fn run_workers<'t, R: Threads + Sync, G: Gate>(
     ensures gathered { AreGathered frontier.now floor.now.root.scoring result }
     ensures lists { HasLists workers result.drawn }
 {
-    let root = floor.board();
-    let squares = order(&root);
+    let root = Solved::unknown(floor.board(), floor.scoring());
+    let moves = RootMoves::of(&root, &[]);
     let sharing = Sharing::of_several(table.is_some());
-    let search = Search::of(root, floor.scoring(), squares.as_slice(), frontier, sharing);
+    let search = Search::of(&moves, frontier, sharing);
     let means = Means {
         rt,
         alloc,
@@ -84,7 +84,7 @@ pub fn run_workers<'t, R: Threads + Sync, G: Gate>(
 }
 
 /// As `run_workers`, for a prepared search by workers that share `links`. Returns also what they found of the root's
-/// children.
+/// moves.
 #[inline(never)]
 pub(crate) fn run<'w, 't, R: Threads + Sync, G: Gate>(
     means: &Means<R, G>,
@@ -92,7 +92,7 @@ pub(crate) fn run<'w, 't, R: Threads + Sync, G: Gate>(
     links: Links<'w>,
     seat: &mut FloorSeat,
     table: &mut Option<TableCells<'t>>,
-) -> (Gathered, Vec<Solved>)
+) -> (Gathered, Vec<RootMove>)
     requires crew { IsCrew means.now.workers }
     requires seat { IsSeatOf links.floor.now seat.old }
     ensures seat { LendsFloor seat.old seat.new }
@@ -131,12 +131,12 @@ pub(crate) fn hints_for<R, G>(means: &Means<R, G>, search: &Search) -> Option<Hi
     if means.workers == 1 {
         return None;
     }
-    Hints::new(means.alloc, orders_for(search.root.empties()))
+    Hints::new(means.alloc, orders_for(search.moves.root().board.empties()))
 }
 
 // What is gathered where nobody drew anything: all items are left.
 #[inline(never)]
-fn nothing(alloc: Global, search: &Search) -> (Gathered, Vec<Solved>)
+fn nothing(alloc: Global, search: &Search) -> (Gathered, Vec<RootMove>)
     ensures gathered { AreGathered search.now.frontier.now search.now.scoring result.0 }
     ensures lists { lists_of result.0.drawn ≡ [] }
 {
@@ -165,13 +165,14 @@ fn workers_of<'w, 't, R, G>(
     let Ok(mut workers) = Vec::with_capacity(alloc, means.workers as usize) else {
         return None;
     };
+    let empties = search.moves.root().board.empties();
     for _ in 0..means.workers {
         let Ok(own) = links.floor.seat(alloc, seat) else {
             return None;
         };
         let root_bound = RootBound::of(links.floor, own);
         let hints = HintSeat::of(links.hints);
-        let cells = worker_cells(alloc, search.root.empties(), search.shape.sharing, table);
+        let cells = worker_cells(alloc, empties, search.shape.sharing, table);
         workers.push_reserved(Worker::of(search, alloc, cells, root_bound, hints));
     }
     Some(workers)
@@ -244,11 +245,11 @@ fn replies_of<'w, C>(jobs: &[Job<'w, C>], room: Vec<Reply>) -> Vec<Reply>
     replies
 }
 
-// Returns what the workers found of the root's children, as far as there is memory.
-fn found_by_workers<'w, C>(alloc: Global, jobs: &[Job<'w, C>]) -> Vec<Solved> {
+// Returns what the workers found of the root's moves, as far as there is memory.
+fn found_by_workers<'w, C>(alloc: Global, jobs: &[Job<'w, C>]) -> Vec<RootMove> {
     let mut found = Vec::new(alloc);
     for job in jobs {
-        let _ = found.extend_from_slice(job.worker.replies.as_slice());
+        let _ = found.extend_from_slice(job.worker.moves.as_slice());
     }
     found
 }

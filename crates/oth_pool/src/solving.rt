@@ -16,7 +16,7 @@ use oth_book::Book;
 use oth_pieces::{Floor, FloorSeat, Frontier, is_crew};
 use oth_rules::{Board, Scoring};
 use oth_search::{
-    Answer, Cells, MOST_EMPTIES, Solved, Unobserved, before_pass, ended, known_below, order,
+    Answer, Cells, MOST_EMPTIES, RootMoves, Solved, Unobserved, before_pass, ended, known_below,
     solve_moves,
 };
 use oth_table::{SharedTable, TableCells, is_size};
@@ -178,8 +178,9 @@ fn answer_alone<'t, R: Threads + Sync, G: Gate>(
 {
     let empties = by_book.board.empties();
     let mut cells = worker_cells(means.alloc, empties, Sharing::Alone, access);
-    let mut announcer = Announcer::of(&by_book.board, by_book.scoring, means.gate);
-    let answer = solve_moves(*by_book, &[], &mut cells, &mut announcer);
+    let mut announcer = Announcer::of(&by_book.board, means.gate);
+    let moves = RootMoves::of(by_book, &[]);
+    let answer = solve_moves(moves, &mut cells, &mut announcer);
     announcer.finish();
     answer
 }
@@ -199,11 +200,10 @@ fn answer_together<'t, R: Threads + Sync, G: Gate>(
     ensures scoring { IfSome result (λ a. a.scoring ≡ by_book.now.scoring) }
 {
     let alloc = means.alloc;
-    let Solved { board, scoring, .. } = *by_book;
-    let frontier = frontier_of(alloc, &board)?;
-    let squares = order(&board);
+    let frontier = frontier_of(alloc, &by_book.board)?;
+    let mut moves = RootMoves::of(by_book, &[]);
     let sharing = Sharing::of_several(access.is_some());
-    let search = Search::of(board, scoring, squares.as_slice(), &frontier, sharing);
+    let search = Search::of(&moves, &frontier, sharing);
     let (floor, mut seat) = raised_floor(alloc, by_book)?;
     let hints = hints_for(means, &search);
     let links = Links {
@@ -211,17 +211,18 @@ fn answer_together<'t, R: Threads + Sync, G: Gate>(
         hints: &hints,
     };
     let (gathered, found) = run(means, &search, links, &mut seat, access);
-    let cells = worker_cells(alloc, board.empties(), sharing, access);
+    let cells = worker_cells(alloc, by_book.board.empties(), sharing, access);
     let bound = RootBound::of(&floor, seat);
     let mut worker = Worker::of(&search, alloc, cells, bound, HintSeat::none());
-    for child in found.as_slice() {
-        worker.update(child);
+    for root_move in found.as_slice() {
+        worker.update(root_move.square, &root_move.child);
     }
     let replies = replies_of(means, &search, &gathered, &mut worker);
     take_in_items(&search, replies.as_slice(), &mut worker);
-    let root = by_book.joined(&worker.root());
+    moves.narrow_root(&worker.root());
     let (mut cells, known) = worker.into_parts();
-    Some(solve_moves(root, known.as_slice(), &mut cells, &mut Unobserved))
+    moves.take_in(known.as_slice());
+    Some(solve_moves(moves, &mut cells, &mut Unobserved))
 }
 
 // Makes the frontier of the board on the heap, which leaves the stack to the search. None where there is no memory.
@@ -263,13 +264,13 @@ fn replies_of<R, G: Gate, C: Cells>(
     replies
 }
 
-// Backs up what was found of the items to each child that isn't settled, and gives it to the caller's worker.
+// Backs up what was found of the items to the board after each move that isn't settled, and gives it to the caller's
+// worker.
 fn take_in_items<C: Cells>(search: &Search, items: &[Solved], worker: &mut Worker<C>) {
-    for square in search.squares {
-        if !worker.is_settled(*square) {
-            if let Some(child) = search.root.play(*square) {
-                worker.update(&known_below(child, 1, items, search.scoring));
-            }
+    for root_move in search.moves.as_slice() {
+        if !worker.is_settled(root_move.square) {
+            let found = known_below(root_move.child.board, 1, items, search.scoring);
+            worker.update(root_move.square, &found);
         }
     }
 }

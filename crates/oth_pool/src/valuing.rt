@@ -128,7 +128,7 @@ fn value_alone<R, G: Gate, C: Cells>(
     if is_exact(by_book) {
         return *by_book;
     }
-    let mut announcer = Announcer::of(&by_book.board, by_book.scoring, means.gate);
+    let mut announcer = Announcer::of(&by_book.board, means.gate);
     let valued = value_of(by_book, sibling, cells, &mut announcer);
     announcer.finish();
     valued

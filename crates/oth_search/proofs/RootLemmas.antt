@@ -1,3 +1,4 @@
+pub mod MoveLists
 pub mod RootSearch
 pub mod Roots
 pub mod Scored

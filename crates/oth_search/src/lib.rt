@@ -22,8 +22,8 @@ pub use local::{LocalTable, LocalTables, WithLocal};
 pub use ordering::order;
 pub use pvs::search;
 pub use root::{
-    MOST_EMPTIES, Observer, Pace, Quest, ScoredMove, Scores, TooManyEmpties, Unobserved, answer_by,
-    before_pass, ended, first_threshold, lead, replies_to, scores_with, seeming_value, settle_at,
-    settle_moves, solve_alone, solve_moves, solve_with, value_of,
+    MOST_EMPTIES, Observer, Pace, Quest, RootMove, RootMoves, ScoredMove, Scores, TooManyEmpties,
+    Unobserved, answer_by, before_pass, ended, first_threshold, lead, scores_with, seeming_value,
+    settle_at, settle_moves, solve_alone, solve_moves, solve_with, value_of,
 };
 pub use shared::{Company, Limited, Stopped, put, solve_until};

@@ -15,24 +15,29 @@
 //! (`is_left`, `seen`), and how a question is searched (`decide`). For one worker each of these does nothing, and the
 //! compiler leaves nothing of them.
 //!
-//! `bracket`: between which scores a guess seems to lie. `step`: how far a null window lies below what is known.
-//! `value`: the value of a board whose best moves nobody asks for; the other moves are only asked whether they are
-//! better. `scores`: a board's moves with their scores, from the values of the boards after them.
+//! `moves`: the root's moves, each legal one once with the board after it, true by the type, in move order; all of the
+//! above narrow what is known of these boards. `bracket`: between which scores a guess seems to lie. `step`: how far a
+//! null window lies below what is known. `value`: the value of a board whose best moves nobody asks for; the other
+//! moves are only asked whether they are better. `scores`: a board's moves with their scores, from the values of the
+//! boards after them.
 mod best_moves;
 mod bracket;
 mod guess;
+mod moves;
 mod observer;
 mod scores;
 mod settle;
 mod step;
 mod value;
 
+pub(crate) use best_moves::best_moves;
 pub use best_moves::{
     MOST_EMPTIES, TooManyEmpties, before_pass, ended, solve_alone, solve_moves, solve_with,
 };
 pub use guess::seeming_value;
+pub use moves::{RootMove, RootMoves};
 pub use observer::{Observer, Unobserved};
 pub use scores::{ScoredMove, Scores, answer_by, scores_with};
-pub use settle::{Quest, first_threshold, lead, replies_to, settle_at, settle_moves};
+pub use settle::{Quest, first_threshold, lead, settle_at, settle_moves};
 pub use step::Pace;
 pub use value::value_of;

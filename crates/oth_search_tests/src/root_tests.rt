@@ -4,7 +4,7 @@ ghost use Rattle.std.specs.Prelude.{◌≡◌};
 use crate::tests::board_of;
 use oth_rules::{Board, Scoring};
 use oth_search::{
-    Cells, Entry, NoCells, Solved, Unobserved, settle_moves, solve_alone, solve_moves,
+    Cells, Entry, NoCells, RootMoves, Solved, Unobserved, settle_moves, solve_alone, solve_moves,
 };
 use std::test::Fail;
 
@@ -30,19 +30,19 @@ impl Cells for Counted {
 #[test]
 fn searches_no_reply_that_is_settled(rt: HostRuntime) -> Result<(), Fail> {
     let board = board_of(&rt, [0xd470_0405_47e5_dd00, 0x0205_7a18_b81a_22fc]);
-    let root = Solved::unknown(board, Scoring::Winner);
-    let replies = settle_moves(&root, &[], &mut NoCells, &mut Unobserved);
-    assert!(rt; replies.as_slice().len() == board.moves().count_ones() as usize);
+    let mut moves = RootMoves::of(&Solved::unknown(board, Scoring::Winner), &[]);
+    settle_moves(&mut moves, &mut NoCells, &mut Unobserved);
+    assert!(rt; moves.len() == board.moves().count_ones() as usize);
     let mut cells = Counted { looks: 0 };
-    let again = settle_moves(&root, replies.as_slice(), &mut cells, &mut Unobserved);
+    settle_moves(&mut moves, &mut cells, &mut Unobserved);
     assert!(rt; cells.looks == 0);
     let mut least = 64;
-    for reply in again.as_slice() {
-        least = least.min(reply.interval.upper);
+    for root_move in moves.as_slice() {
+        least = least.min(root_move.child.interval.upper);
     }
     assert!(rt; least == 4);
-    for reply in again.as_slice() {
-        let bounds = reply.interval;
+    for root_move in moves.as_slice() {
+        let bounds = root_move.child.interval;
         assert!(rt; bounds.lower == bounds.upper || bounds.lower > least);
     }
     Ok(())
@@ -52,12 +52,20 @@ fn searches_no_reply_that_is_settled(rt: HostRuntime) -> Result<(), Fail> {
 fn answers_by_replies_that_are_settled(rt: HostRuntime) -> Result<(), Fail> {
     let board = board_of(&rt, [0xd470_0405_47e5_dd00, 0x0205_7a18_b81a_22fc]);
     let root = Solved::unknown(board, Scoring::Winner);
-    let replies = settle_moves(&root, &[], &mut NoCells, &mut Unobserved);
+    let mut settled = RootMoves::of(&root, &[]);
+    settle_moves(&mut settled, &mut NoCells, &mut Unobserved);
+    let mut known = [Solved::default(); 64];
+    for place in 0..settled.len() {
+        if let Some(root_move) = settled.get(place) {
+            known[place] = root_move.child;
+        }
+    }
     let mut cells = Counted { looks: 0 };
-    if !root.board.can_move() {
+    if !board.can_move() {
         panic!(rt; "no move")
     }
-    let answer = solve_moves(root, replies.as_slice(), &mut cells, &mut Unobserved);
+    let moves = RootMoves::of(&root, known.as_slice());
+    let answer = solve_moves(moves, &mut cells, &mut Unobserved);
     assert!(rt; cells.looks == 0);
     assert!(rt; answer.score == -4);
     Ok(())

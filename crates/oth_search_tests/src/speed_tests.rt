@@ -5,8 +5,8 @@ use crate::keeping_tests::Counted;
 use crate::tests::board_of;
 use oth_rules::{Board, Scoring, Square};
 use oth_search::{
-    Cells, Entry, LocalTable, NoCells, Solved, Unobserved, first_threshold, order, replies_to,
-    search, solve_with,
+    Cells, Entry, LocalTable, NoCells, RootMoves, Solved, Unobserved, first_threshold, search,
+    solve_with,
 };
 use std::test::Fail;
 
@@ -55,9 +55,8 @@ fn a_guess_is_of_the_movers_side(rt: HostRuntime) -> Result<(), Fail> {
 // The score that the board seems to have.
 fn guessed_score(board: Board) -> i8 {
     let root = Solved::unknown(board, Scoring::Winner);
-    let squares = order(&board);
-    let mut replies = replies_to(&board, squares.as_slice(), &[], Scoring::Winner);
-    -first_threshold(&root, replies.as_mut_slice(), &mut NoCells, &mut Unobserved)
+    let mut moves = RootMoves::of(&root, &[]);
+    -first_threshold(&mut moves, &mut NoCells, &mut Unobserved)
 }
 
 /// Keeps nothing but the board that is looked up first after the root.

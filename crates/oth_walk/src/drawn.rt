@@ -11,13 +11,13 @@
 ghost use Rattle.std.specs.Prelude.{◌≡◌};
 
 use crate::gate::Gate;
-use crate::root_move::RootMove;
+use crate::reply::search_reply;
 use crate::shared::Search;
 use crate::tuning::{FINAL_ROUNDS, LAST_FINAL_ROUND, MOVES_BEFORE, MOVES_TOGETHER};
 use crate::worker::Worker;
 use oth_pieces::Item;
-use oth_rules::Board;
-use oth_search::{Cells, Solved};
+use oth_rules::Square;
+use oth_search::{Cells, RootMove, Solved};
 
 /// Searches the item of this number, of which the gate hears, and what it leaves open of its root move. Returns what is
 /// known of the item's board then.
@@ -32,10 +32,8 @@ pub fn search_item<G: Gate, C: Cells>(
     ensures scoring { result.scoring ≡ search.now.scoring }
 {
     gate.before(number);
-    let found = match RootMove::of(&*search, item.square) {
-        Some(root_move) => search_below(&root_move, item, gate, worker),
-        None => worker.look_up(&item.board, search.scoring),
-    };
+    let unknown = Solved::unknown(item.board, search.scoring);
+    let found = search_below(item, &unknown, gate, worker);
     tell(gate, worker);
     gate.after(number);
     found
@@ -49,81 +47,84 @@ fn tell<G: Gate, C: Cells>(gate: &G, worker: &mut Worker<C>) {
     }
 }
 
-// Searches an item that comes after this root move, and settles the move. Returns what is known of the item's board
-// then.
+// Searches the item, of whose board this is known, and settles its root move. Returns what is known of the board then.
 fn search_below<G: Gate, C: Cells>(
-    root_move: &RootMove,
     item: &Item,
+    known: &Solved,
     gate: &G,
     worker: &mut Worker<C>,
 ) -> Solved
-    ensures board { result.board ≡ item.now.board }
-    ensures scoring { result.scoring ≡ root_move.now.search.now.scoring }
+    ensures board { result.board ≡ known.now.board }
+    ensures scoring { result.scoring ≡ known.now.scoring }
 {
-    let scoring = root_move.search.scoring;
     worker.move_to_front();
+    let place = worker.moves.place_of(item.square);
+    let Some(root_move) = worker.moves.get(place) else {
+        return worker.look_up(known);
+    };
     if !worker.peers.shares() {
-        settle_alone(root_move, worker);
-        return worker.look_up(&item.board, scoring);
+        settle_alone(&root_move, worker);
+        return worker.look_up(known);
     }
     worker.lead();
     tell(gate, worker);
-    settle_before(root_move, worker);
+    settle_before(item.square, worker);
     tell(gate, worker);
     if worker.is_settled(item.square) {
-        return worker.look_up(&item.board, scoring);
+        return worker.look_up(known);
     }
-    if !is_reply(item, root_move) {
-        settle(root_move, worker);
-        return worker.look_up(&item.board, scoring);
+    if !is_reply(item, &root_move) {
+        settle(item.square, worker);
+        return worker.look_up(known);
     }
-    search_elder_brother(root_move, &item.board, worker);
-    let found = root_move.search_reply(item.board, worker);
-    settle(root_move, worker);
+    search_elder_brother(&root_move, known, worker);
+    let found = search_reply(&root_move, known, worker);
+    settle(item.square, worker);
     found
 }
 
-// Settles the root move.
-fn settle<C: Cells>(root_move: &RootMove, worker: &mut Worker<C>) {
-    let place = worker.place_of(&root_move.child);
+// Settles the root's move to this square.
+fn settle<C: Cells>(square: Square, worker: &mut Worker<C>) {
+    let place = worker.moves.place_of(square);
     worker.settle_at(place);
 }
 
 // Whether the item comes after a reply to the move, with no forced pass on the way.
 fn is_reply(item: &Item, root_move: &RootMove) -> bool {
-    item.same_mover && item.board.can_move() && root_move.child.can_move()
+    item.same_mover && item.board.can_move() && root_move.child.board.can_move()
 }
 
 // Where workers share no table: takes the whole move, unless another worker has it, from whom nothing could be learnt
 // on the way. Before there is a floor it asks once at the guess, and goes on only if the move may reach it.
 fn settle_alone<C: Cells>(root_move: &RootMove, worker: &mut Worker<C>) {
-    if worker.peers.hints.is_searched(&root_move.child) {
+    if worker.peers.hints.is_searched(&root_move.child.board) {
         return;
     }
-    if worker.floor() > -64 || worker.ask(&root_move.child) {
-        settle(root_move, worker);
+    if worker.floor() > -64 || worker.ask(root_move) {
+        settle(root_move.square, worker);
     }
 }
 
-// Helps to settle the first `MOVES_BEFORE` root moves, as far as they come before this one.
-fn settle_before<C: Cells>(root_move: &RootMove, worker: &mut Worker<C>) {
-    let places = worker.place_of(&root_move.child).min(MOVES_BEFORE);
+// Helps to settle the first `MOVES_BEFORE` root moves, as far as they come before the one to this square.
+fn settle_before<C: Cells>(square: Square, worker: &mut Worker<C>) {
+    let places = worker.moves.place_of(square).min(MOVES_BEFORE);
     for place in 0..places {
         worker.settle_at(place);
     }
 }
 
 // Helps with the first reply to the move, unless this board is the one after it.
-fn search_elder_brother<C: Cells>(root_move: &RootMove, board: &Board, worker: &mut Worker<C>) {
-    let squares = worker.peers.order_of(&root_move.child);
+fn search_elder_brother<C: Cells>(root_move: &RootMove, known: &Solved, worker: &mut Worker<C>) {
+    let child = root_move.child.board;
+    let squares = worker.peers.order_of(&child);
     let Some(square) = squares.first() else {
         return;
     };
-    let Some(elder) = root_move.child.play(*square) else {
+    let Some(elder) = child.play(*square) else {
         return;
     };
-    if elder != *board && elder.can_move() {
-        root_move.search_reply(elder, worker);
+    if elder != known.board && elder.can_move() {
+        search_reply(root_move, &Solved::unknown(elder, known.scoring), worker);
     }
 }
 
@@ -136,7 +137,7 @@ pub fn settle_all<G: Gate, C: Cells>(gate: &G, worker: &mut Worker<C>) {
     };
     worker.move_to_front();
     for round in 0..rounds {
-        for place in 0..worker.replies.len() {
+        for place in 0..worker.moves.len() {
             settle_in_round(place, round, worker);
             tell(gate, worker);
         }
@@ -145,11 +146,14 @@ pub fn settle_all<G: Gate, C: Cells>(gate: &G, worker: &mut Worker<C>) {
 
 // Settles the move at this place, unless it is deferred in this round.
 fn settle_in_round<C: Cells>(place: usize, round: u32, worker: &mut Worker<C>) {
-    let Some(known) = worker.replies.get(place).copied() else {
+    let Some(known) = worker.moves.get(place) else {
         return;
     };
     let together = worker.peers.shares() && worker.settled() < MOVES_TOGETHER;
-    if together || round == LAST_FINAL_ROUND || !worker.peers.hints.is_searched(&known.board) {
+    if together
+        || round == LAST_FINAL_ROUND
+        || !worker.peers.hints.is_searched(&known.child.board)
+    {
         worker.settle_at(place);
     }
 }

@@ -20,7 +20,6 @@ ghost use Rattle.std.specs.Prelude.{◌≡◌};
 use crate::hints::HintSeat;
 use crate::move_order::MoveOrder;
 use crate::root_bound::RootBound;
-use crate::root_move::move_to;
 use crate::shared::Shape;
 use crate::tuning::{
     CHILDREN_TOGETHER, FEW_TOGETHER, FEWEST_EMPTIES_GUESSED_TOGETHER, KEPT_ORDER_MIN_EMPTIES,
@@ -29,7 +28,9 @@ use crate::tuning::{
 use crate::window::shared_threshold;
 use arrayvec::ArrayVec;
 use oth_rules::{Board, Scoring, Square};
-use oth_search::{Cells, Company, Interval, NullWindow, Observer, Pace, Solved, order, put};
+use oth_search::{
+    Cells, Company, Interval, NullWindow, Observer, Pace, RootMove, RootMoves, Solved, order, put,
+};
 use std::alloc::Global;
 
 // A search under way: the canonical image of its board, and the null window that it is to decide.
@@ -92,25 +93,21 @@ impl<'w> Peers<'w> {
         self.floor_before = self.root_bound.floor();
     }
 
-    /// Raises the floor by the bound of the root that the board after one of its moves alone gives.
-    pub fn raise_by(&mut self, child: &Solved) {
+    /// Raises the floor by the bound of the root that the board after this move of it alone gives.
+    pub fn raise_by(&mut self, known: &RootMove) {
         let root = self.root_bound.board();
-        if let Some(square) = move_to(&root, &child.board) {
-            if let Ok(bound) = Solved::lift(&root, square, child) {
-                self.root_bound.raise(&bound);
-            }
+        if let Ok(bound) = Solved::lift(&root, known.square, &known.child) {
+            self.root_bound.raise(&bound);
         }
     }
 
     /// Tells the others that a root's move needs no further search, if the bounds of the board after it settle it at
     /// the floor.
-    pub fn note_if_settled(&mut self, child: &Solved) {
+    pub fn note_if_settled(&mut self, known: &RootMove) {
         let floor = self.root_bound.floor();
-        if child.is_settled(-floor) {
-            if let Some(square) = move_to(&self.root_bound.board(), &child.board) {
-                self.settled |= square.word();
-                self.hints.settle(square);
-            }
+        if known.child.is_settled(-floor) {
+            self.settled |= known.square.word();
+            self.hints.settle(known.square);
         }
     }
 
@@ -176,12 +173,12 @@ fn is_decided<C: Cells>(goal: &Goal, cells: &mut C, scoring: Scoring) -> bool
 }
 
 impl<'w, C: Cells> Observer<C> for Peers<'w> {
-    fn before(&mut self, child: &Board) {
-        self.hints.begin(child);
+    fn before(&mut self, root_move: &RootMove) {
+        self.hints.begin(&root_move.child.board);
     }
 
-    fn after(&mut self, child: &Board, _replies: &[Solved]) {
-        self.hints.end(child);
+    fn after(&mut self, root_move: &RootMove, _moves: &RootMoves) {
+        self.hints.end(&root_move.child.board);
     }
 
     fn hear(&mut self, known: &Solved, cells: &mut C) -> Solved {
@@ -192,11 +189,8 @@ impl<'w, C: Cells> Observer<C> for Peers<'w> {
         own.min(-self.root_bound.floor())
     }
 
-    fn is_done(&mut self, child: &Board) -> bool {
-        match move_to(&self.root_bound.board(), child) {
-            Some(square) => self.is_settled(square),
-            None => false,
-        }
+    fn is_done(&mut self, square: Square) -> bool {
+        self.is_settled(square)
     }
 
     fn next(&mut self, bounds: Interval, start: i8, pace: Pace) -> i8 {
@@ -207,17 +201,18 @@ impl<'w, C: Cells> Observer<C> for Peers<'w> {
         }
     }
 
-    fn decide(&mut self, known: &Solved, alpha: i8, cells: &mut C) -> Solved {
-        if known.interval.decides(alpha, alpha + 1) {
-            return *known;
+    fn decide(&mut self, known: &RootMove, alpha: i8, cells: &mut C) -> Solved {
+        let RootMove { square, child } = *known;
+        if child.interval.decides(alpha, alpha + 1) {
+            return child;
         }
-        let Some(square) = move_to(&self.root_bound.board(), &known.board) else {
-            return *known;
-        };
         self.begin_below(square);
-        let found = known.narrowed_in(NullWindow::at(alpha + 1), cells, self);
+        let found = child.narrowed_in(NullWindow::at(alpha + 1), cells, self);
         put(&found, cells);
-        self.raise_by(&found);
+        self.raise_by(&RootMove {
+            square,
+            child: found,
+        });
         found
     }
 

@@ -3,40 +3,33 @@ ghost use Rattle.std.specs.Prelude.{◌≡◌};
 
 use crate::tuning::shared_empties;
 use oth_pieces::Frontier;
-use oth_rules::{Board, Scoring, Square};
+use oth_rules::Scoring;
+use oth_search::RootMoves;
 
 /// The search of one board: its scoring, its moves in the order in which they are searched, its frontier, and how
 /// workers share it.
 #[derive(Clone, Copy)]
 pub struct Search<'s> {
-    pub root: Board,
     pub scoring: Scoring,
-    pub squares: &'s [Square],
+    pub moves: &'s RootMoves,
     pub frontier: &'s Frontier,
     pub shape: Shape,
 }
 
 impl<'s> Search<'s> {
-    /// The search of the board with these moves and this frontier, by workers that share it so.
-    pub fn of(
-        root: Board,
-        scoring: Scoring,
-        squares: &'s [Square],
-        frontier: &'s Frontier,
-        sharing: Sharing,
-    ) -> Search<'s>
-        ensures root { result.root ≡ root }
-        ensures scoring { result.scoring ≡ scoring }
-        ensures moves { result.squares.now ≡ squares.now }
+    /// The search of the root of these moves, which has this frontier, by workers that share it so.
+    pub fn of(moves: &'s RootMoves, frontier: &'s Frontier, sharing: Sharing) -> Search<'s>
+        ensures scoring { result.scoring ≡ moves.now.scoring }
+        ensures moves { result.moves.now ≡ moves.now }
         ensures frontier { result.frontier.now ≡ frontier.now }
         ensures sharing { result.shape.sharing ≡ sharing }
     {
+        let root = moves.root();
         Search {
-            root,
-            scoring,
-            squares,
+            scoring: root.scoring,
+            moves,
             frontier,
-            shape: Shape::of(root.empties(), sharing),
+            shape: Shape::of(root.board.empties(), sharing),
         }
     }
 }

@@ -6,12 +6,10 @@ use crate::guess::Guess;
 use crate::hints::HintSeat;
 use crate::peers::Peers;
 use crate::root_bound::RootBound;
-use crate::root_move::move_to;
 use crate::shared::Search;
-use arrayvec::ArrayVec;
-use oth_rules::{Board, Scoring, Square};
+use oth_rules::Square;
 use oth_search::{
-    Cells, Observer, Quest, Solved, first_threshold, known_below, lead, replies_to, settle_at,
+    Cells, Observer, Quest, RootMove, RootMoves, Solved, first_threshold, lead, settle_at,
 };
 use std::alloc::Global;
 
@@ -22,8 +20,8 @@ pub struct Worker<'w, C> {
     pub(crate) peers: Peers<'w>,
     // The score that the root seems to have, and the move by which it seems to, once it was guessed.
     guess: Option<Guess>,
-    /// The boards after the root's moves, with the bounds that it knows, in the order in which they are searched.
-    pub replies: ArrayVec<Solved, 64>,
+    /// The root's moves, with the bounds that it knows, in the order in which they are searched.
+    pub moves: RootMoves,
 }
 
 impl<'w, C: Cells> Worker<'w, C> {
@@ -39,7 +37,7 @@ impl<'w, C: Cells> Worker<'w, C> {
             cells,
             peers: Peers::of(alloc, search.shape, root_bound, hints),
             guess: None,
-            replies: replies_to(&search.root, search.squares, &[], search.scoring),
+            moves: search.moves.another(),
         }
     }
 
@@ -66,39 +64,28 @@ impl<'w, C: Cells> Worker<'w, C> {
         self.peers.settled()
     }
 
-    /// The cells, and the bounds of the boards after the root's moves, when nothing more is to be searched.
-    pub fn into_parts(self) -> (C, ArrayVec<Solved, 64>) {
-        (self.cells, self.replies)
+    /// The cells, and the root's moves, when nothing more is to be searched.
+    pub fn into_parts(self) -> (C, RootMoves) {
+        (self.cells, self.moves)
     }
 
-    /// Takes in bounds of the board after a root move: raises the floor by them, and tells the others if the move needs
-    /// no further search.
-    pub fn update(&mut self, child: &Solved) {
-        let place = self.place_of(&child.board);
-        if place < self.replies.len() {
-            let known = self.replies[place].joined(child);
-            self.replies[place] = known;
+    /// Takes in bounds of the board after the root's move to this square: raises the floor by them, and tells the
+    /// others if the move needs no further search.
+    pub fn update(&mut self, square: Square, found: &Solved) {
+        let place = self.moves.place_of(square);
+        self.moves.narrow(place, found);
+        if let Some(known) = self.moves.get(place) {
             self.peers.raise_by(&known);
             self.peers.note_if_settled(&known);
         }
     }
 
-    /// The place of this board among the replies, or their number if it isn't there.
-    pub(crate) fn place_of(&self, child: &Board) -> usize {
-        for (place, reply) in self.replies.as_slice().iter().enumerate() {
-            if reply.board == *child {
-                return place;
-            }
-        }
-        self.replies.len()
-    }
-
-    /// The bounds that the table has of the board.
-    pub(crate) fn look_up(&mut self, board: &Board, scoring: Scoring) -> Solved
-        ensures board { result.board ≡ board.now }
-        ensures scoring { result.scoring ≡ scoring }
+    /// What is known of the board, and what the table has of it.
+    pub(crate) fn look_up(&mut self, known: &Solved) -> Solved
+        ensures board { result.board ≡ known.now.board }
+        ensures scoring { result.scoring ≡ known.now.scoring }
     {
-        Solved::looked_up(board, &mut self.cells, scoring)
+        self.peers.hear(known, &mut self.cells)
     }
 
     /// Asks the root's moves at the guessed score until there is a floor, the move that seems best first. Where no move
@@ -108,49 +95,49 @@ impl<'w, C: Cells> Worker<'w, C> {
             return;
         }
         let guess = self.guess();
-        let replies = self.replies.as_mut_slice();
-        let quest = quest_from(guess.score);
-        let asked = lead(replies, quest, &mut self.cells, &mut self.peers);
+        let first = first_asked(guess.score);
+        let asked = lead(&mut self.moves, first, &mut self.cells, &mut self.peers);
         self.guess = Some(Guess::of(-asked, guess.square));
     }
 
-    /// Searches the board at this place until its value is exact, or is known to give the root less than the floor.
+    /// Searches the move at this place until its value is exact, or is known to give the root less than the floor.
     pub(crate) fn settle_at(&mut self, place: usize) {
         let quest = self.quest();
-        let replies = self.replies.as_mut_slice();
-        settle_at(replies, place, quest, &mut self.cells, &mut self.peers);
-        if let Some(known) = self.replies.get(place).copied() {
+        let moves = &mut self.moves;
+        settle_at(moves, place, quest, &mut self.cells, &mut self.peers);
+        if let Some(known) = self.moves.get(place) {
             self.peers.note_if_settled(&known);
         }
     }
 
-    /// Searches the root's move to this board at the guessed score, unless it is known to fall short. Returns whether
-    /// it may reach the guess.
-    pub(crate) fn ask(&mut self, child: &Board) -> bool {
-        let most = quest_from(self.guess().score).start;
-        let place = self.place_of(child);
-        let Some(known) = self.replies.get(place).copied() else {
-            return false;
-        };
+    /// Searches this move of the root at the guessed score, unless it is known to fall short. Returns whether it may
+    /// reach the guess.
+    pub(crate) fn ask(&mut self, known: &RootMove) -> bool {
+        let most = first_asked(self.guess().score);
+        let RootMove { square, child } = *known;
         let hints = &mut self.peers.hints;
-        if known.interval.lower > most || hints.seen(&known.board, most + 1) == Some(true) {
+        if child.interval.lower > most || hints.seen(&child.board, most + 1) == Some(true) {
             return false;
         }
-        self.peers.hints.begin(&known.board);
-        let found = self.peers.decide(&known, most, &mut self.cells);
-        self.peers.hints.end(&known.board);
-        self.update(&found);
+        self.peers.hints.begin(&child.board);
+        let found = self.peers.decide(known, most, &mut self.cells);
+        self.peers.hints.end(&child.board);
+        self.update(square, &found);
         if found.interval.lower > most {
-            self.peers.hints.tell_seen(&known.board, most + 1, true);
+            self.peers.hints.tell_seen(&child.board, most + 1, true);
         }
         found.interval.lower <= most
     }
 
     // The quest for the root's moves: it starts at the guessed score, or without a guess at the floor.
     fn quest(&mut self) -> Quest {
-        match self.known_guess() {
-            Some(guess) => quest_from(guess.score),
-            None => quest_from(self.tested_score()),
+        let score = match self.known_guess() {
+            Some(guess) => guess.score,
+            None => self.tested_score(),
+        };
+        Quest {
+            start: first_asked(score),
+            tells_ties: true,
         }
     }
 
@@ -190,9 +177,13 @@ impl<'w, C: Cells> Worker<'w, C> {
         let asked = if self.peers.shares() && !is_shared {
             0
         } else {
-            self.first_asked()
+            first_threshold(&mut self.moves, &mut self.cells, &mut self.peers)
         };
-        let guess = Guess::of(-asked, self.first_move());
+        let first = match self.moves.get(0) {
+            Some(root_move) => root_move.square,
+            None => Square::numbered(0),
+        };
+        let guess = Guess::of(-asked, first);
         self.guess = Some(guess);
         if is_shared {
             self.peers.hints.tell_guess(&guess);
@@ -200,60 +191,32 @@ impl<'w, C: Cells> Worker<'w, C> {
         guess
     }
 
-    // The first threshold of the replies, by a guess that the workers make together where they share it.
-    fn first_asked(&mut self) -> i8
-        ensures { IsThreshold result }
-    {
-        let bound = &self.peers.root_bound;
-        let root = Solved::unknown(bound.board(), bound.scoring());
-        let replies = self.replies.as_mut_slice();
-        first_threshold(&root, replies, &mut self.cells, &mut self.peers)
-    }
-
-    // The root's move that is searched first.
-    fn first_move(&self) -> Square {
-        let root = self.peers.root_bound.board();
-        for reply in self.replies.as_slice() {
-            if let Some(square) = move_to(&root, &reply.board) {
-                return square;
-            }
-        }
-        Square::numbered(0)
-    }
-
-    /// Moves the board after the guessed move to the front of the replies, if there is a guess.
+    /// Moves the guessed move to the front of the moves, if there is a guess.
     pub(crate) fn move_to_front(&mut self) {
         if let Some(guess) = self.known_guess() {
-            if let Some(child) = self.peers.root_bound.board().play(guess.square) {
-                let place = self.place_of(&child);
-                if place < self.replies.len() {
-                    self.replies.as_mut_slice().swap(0, place);
-                }
-            }
+            let place = self.moves.place_of(guess.square);
+            self.moves.move_to_front(place);
         }
     }
 
     /// Bounds of the root: by the floor, and by what the table and this worker's own searches tell of the boards after
     /// its moves.
     pub(crate) fn known_of_root(&mut self) -> Solved {
-        let root = self.root();
-        let mut children = ArrayVec::<Solved, 64>::new();
-        for reply in self.replies.as_slice() {
-            let told = Solved::looked_up(&reply.board, &mut self.cells, reply.scoring);
-            let _ = children.try_push(reply.joined(&told));
+        for place in 0..self.moves.len() {
+            if let Some(root_move) = self.moves.get(place) {
+                let told = self.look_up(&root_move.child);
+                self.moves.narrow(place, &told);
+            }
         }
-        root.joined(&known_below(root.board, 1, children.as_slice(), root.scoring))
+        self.root().joined(&self.moves.backed_up())
     }
 }
 
-// Asks at this score first, -63 to 64, and for ties too.
-fn quest_from(score: i8) -> Quest
+// The threshold at which a root is asked first that seems to reach this score.
+fn first_asked(score: i8) -> i8
     requires low { negsuc 63 ≤ℤ score }
     requires high { score ≤ℤ pos 64 }
+    ensures { IsThreshold result }
 {
-    Quest {
-        start: -score.max(-63),
-        limit: 64,
-        tells_ties: true,
-    }
+    -score.max(-63)
 }

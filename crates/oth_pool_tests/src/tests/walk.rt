@@ -4,7 +4,7 @@ use super::crews::BOARDS;
 use super::fixtures::{answer_of, board_of, floor_of};
 use oth_pieces::Frontier;
 use oth_rules::{Scoring, Square};
-use oth_search::{NoCells, order};
+use oth_search::{NoCells, RootMoves, Solved, order};
 use oth_walk::{
     HintSeat, Hints, MoveOrder, Open, RootBound, Search, Shape, Sharing, Worker, search_item,
     settle_all,
@@ -35,20 +35,14 @@ fn check_settled<R: AllocGlobal + Abort>(rt: &R, words: [u64; 2], sharing: Shari
     let answer = answer_of(rt, &root, Scoring::Winner);
     let (floor, seat) = floor_of(rt, &root);
     let frontier = Frontier::of(&root, 1);
-    let squares = order(&root);
+    let moves = RootMoves::of(&Solved::unknown(root, Scoring::Winner), &[]);
     let shared = Search {
         shape: Shape {
             fewest: 12,
             dealt: 64,
             sharing,
         },
-        ..Search::of(
-            root,
-            Scoring::Winner,
-            squares.as_slice(),
-            &frontier,
-            sharing,
-        )
+        ..Search::of(&moves, &frontier, sharing)
     };
     let mut worker = Worker::of(
         &shared,
@@ -64,7 +58,7 @@ fn check_settled<R: AllocGlobal + Abort>(rt: &R, words: [u64; 2], sharing: Shari
         search_item(&shared, 0, &item, &Open, &mut worker);
     }
     settle_all(&Open, &mut worker);
-    assert!(rt; worker.settled() == squares.len() as u64);
+    assert!(rt; worker.settled() == moves.len() as u64);
     assert!(rt; worker.floor() == answer.score);
     assert!(rt; worker.root().interval.lower == answer.score);
 }

@@ -8,11 +8,11 @@ ghost use Rattle.oth_rules.specs.Laws.{IsScore};
 ghost use Rattle.oth_search.specs.Bounds.Interval.{Encloses, Decides};
 ghost use Rattle.oth_search.specs.Bounds.Full.{IsFullMinimax};
 
+use super::moves::{RootMove, RootMoves};
 use super::observer::{Observer, Unobserved};
 use super::settle::settle_moves;
-use crate::bounds::{Answer, Cells, Interval, Kind, NoCells, Solved, known_of, with};
+use crate::bounds::{Answer, Cells, Interval, Kind, NoCells, Solved, with};
 use crate::local::{StackCells, is_remembered};
-use crate::ordering::order;
 use oth_rules::{Board, Scoring};
 use thiserror::Error;
 
@@ -86,7 +86,7 @@ fn solve_unobserved<C: Cells>(board: Board, cells: &mut C, scoring: Scoring) -> 
     ensures fixed { C.fixed cells.new ≡ C.fixed cells.old }
 {
     let root = Solved::unknown(board, scoring);
-    solve_moves(root, &[], cells, &mut Unobserved)
+    solve_moves(RootMoves::of(&root, &[]), cells, &mut Unobserved)
 }
 
 /// The answer of a board that is over.
@@ -121,65 +121,45 @@ pub fn before_pass(board: Board, passed: Answer) -> Answer
     }
 }
 
-/// The answer of a root whose mover has a move. A board after a move is searched only where `known` leaves open whether
-/// the move is exact or worse than the score. The observer hears of these searches; where it ends them early, the rest
-/// is searched without it.
+/// The answer of a root whose mover has a move. A board after a move is searched only where what is known leaves open
+/// whether the move is exact or worse than the score. The observer hears of these searches; where it ends them early,
+/// the rest is searched without it.
 pub fn solve_moves<C: Cells, O: Observer<C>>(
-    root: Solved,
-    known: &[Solved],
+    mut moves: RootMoves,
     cells: &mut C,
     observer: &mut O,
 ) -> Answer
-    requires { can_move root.board ≡ true }
-    ensures board { result.board ≡ root.board }
-    ensures scoring { result.scoring ≡ root.scoring }
+    requires { can_move moves.board ≡ true }
+    ensures board { result.board ≡ moves.board }
+    ensures scoring { result.scoring ≡ moves.scoring }
     ensures fixed { C.fixed cells.new ≡ C.fixed cells.old }
 {
-    let replies = settle_moves(&root, known, cells, observer);
-    let closer = raised(root, replies.as_slice());
-    best_moves(closer, replies.as_slice(), cells)
+    settle_moves(&mut moves, cells, observer);
+    best_moves(&moves, cells)
 }
 
-// The root with the greatest lower bound that a reply gives it.
-fn raised(root: Solved, replies: &[Solved]) -> Solved
-    ensures board { result.board ≡ root.board }
-    ensures scoring { result.scoring ≡ root.scoring }
-{
-    let mut closer = root;
-    let squares = order(&root.board);
-    for square in squares.as_slice() {
-        if let Some(child) = root.board.play(*square) {
-            let reply = known_of(child, replies, root.scoring);
-            if let Ok(bound) = Solved::lift(&root.board, *square, &reply) {
-                closer = closer.joined(&bound);
-            }
-        }
-    }
-    closer
-}
-
-// The score of a root and the moves that reach it. The score starts at the root's lower bound, and a move is searched
-// only where too little is known of it.
-fn best_moves<C: Cells>(root: Solved, replies: &[Solved], cells: &mut C) -> Answer
-    requires { can_move root.board ≡ true }
-    ensures board { result.board ≡ root.board }
-    ensures scoring { result.scoring ≡ root.scoring }
+/// The score of a root and the moves that reach it. The score starts at what is known to be reached, and a board after
+/// a move is searched only where too little is known of it.
+pub(crate) fn best_moves<C: Cells>(moves: &RootMoves, cells: &mut C) -> Answer
+    requires { can_move moves.now.board ≡ true }
+    ensures board { result.board ≡ moves.now.board }
+    ensures scoring { result.scoring ≡ moves.now.scoring }
     ensures fixed { C.fixed cells.new ≡ C.fixed cells.old }
 {
+    let root = moves.backed_up();
     let mut score = root.interval.lower;
     let mut best = 0;
-    let squares = order(&root.board);
-    for square in squares.as_slice() {
-        let child = root.board.play_legal(*square);
-        let reply = reply_below(&child, -score, replies, cells, root.scoring);
+    for root_move in moves.as_slice() {
+        let RootMove { square, child } = *root_move;
+        let reply = reply_below(&child, -score, cells);
         if reply.lower > -score {
             continue;
         }
         if -reply.lower > score {
             score = -reply.lower;
-            best = with(0, *square);
+            best = with(0, square);
         } else {
-            best = with(best, *square);
+            best = with(best, square);
         }
     }
     Answer {
@@ -191,22 +171,16 @@ fn best_moves<C: Cells>(root: Solved, replies: &[Solved], cells: &mut C) -> Answ
     }
 }
 
-// Bounds of a board, exact if its value is at most `limit`, else above `limit`: those in `known`, or else by a search.
-fn reply_below<C: Cells>(
-    board: &Board,
-    limit: i8,
-    known: &[Solved],
-    cells: &mut C,
-    scoring: Scoring,
-) -> Interval
+// Bounds of a board, exact if its value is at most `limit`, else above `limit`: those that are known, or else by a
+// search.
+fn reply_below<C: Cells>(known: &Solved, limit: i8, cells: &mut C) -> Interval
     requires { IsScore limit }
-    ensures encloses { Encloses result.lower result.upper (value (score_of scoring) board.now) }
+    ensures encloses { Encloses result.lower result.upper (value (score_of known.now.scoring) known.now.board) }
     ensures decides { Decides result.lower result.upper (negsuc 64) (limit +ℤ pos 1) }
     ensures fixed { C.fixed cells.new ≡ C.fixed cells.old }
 {
-    let told = known_of(*board, known, scoring);
-    if told.interval.decides(-65, limit + 1) {
-        return told.interval;
+    if known.interval.decides(-65, limit + 1) {
+        return known.interval;
     }
-    Solved::at_most(board, limit, cells, scoring).interval
+    Solved::at_most(&known.board, limit, cells, known.scoring).interval
 }

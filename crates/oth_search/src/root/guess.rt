@@ -1,10 +1,11 @@
 //! The first guess of a root's score, by a selective search: few moves at each node. One worker makes it alone; several
 //! make it together, where each takes boards that no other one is at, and hears what the others saw of a board.
-ghost use Rattle.std.specs.Prelude.{◌≡◌, ◌<◌, ◌≤◌, ◌≤ℤ◌, pos, length};
+ghost use Rattle.std.specs.Prelude.{◌≡◌, ◌<◌, ◌≤◌, ◌≤ℤ◌, pos};
 ghost use Rattle.oth_rules.specs.Laws.{IsScore};
 ghost use Rattle.oth_search.specs.Bounds.Interval.{IsThreshold};
 
 use super::bracket::Bracket;
+use super::moves::RootMoves;
 use super::observer::Observer;
 use crate::bounds::{Cells, Interval, Solved, greater, lesser, without};
 use crate::nws::{Node, nws_node};
@@ -16,38 +17,27 @@ use crate::tuning::{
 use arrayvec::ArrayVec;
 use oth_rules::{Board, Scoring};
 
-// The lower bounds that the replies to a root seem to have, in the order of the list of replies.
-#[derive(Clone, Copy)]
-struct Seen {
-    root: Board,
-    bounds: [Interval; 64],
-}
-
-/// Returns the least value that a reply seems to have, by null windows from `likely` on. Moves the reply that seems to
-/// have it to the front.
+/// Returns the least value that a board after a move of the root seems to have, by null windows from `likely` on. Moves
+/// the move that seems to lead to it to the front.
 pub fn guess<C: Cells, O: Observer<C>>(
-    root: &Board,
-    replies: &mut [Solved],
+    moves: &mut RootMoves,
     likely: i8,
     cells: &mut C,
     observer: &mut O,
 ) -> i8
-    requires few { length replies.old ≤ 64 }
-    requires likely { IsThreshold likely }
+    requires { IsThreshold likely }
     ensures score { IsScore result }
-    ensures length { length replies.new ≡ length replies.old }
+    ensures root { moves.new ≡ moves.old }
     ensures fixed { C.fixed cells.new ≡ C.fixed cells.old }
 {
+    let root = moves.root().board;
     let mut bracket = Bracket::from(likely);
-    let mut seen = Seen {
-        root: *root,
-        bounds: [Interval::all(); 64],
-    };
+    let mut seen = [Interval::all(); 64];
     for _ in 0..GUESS_ROUNDS {
         let at = bracket.at;
-        let found = least_seen(replies, &mut seen, at, cells, observer);
+        let found = least_seen(moves, &mut seen, at, cells, observer);
         let is_reached = found <= at;
-        observer.tell_seen(root, -at - 1, is_reached);
+        observer.tell_seen(&root, -at - 1, is_reached);
         bracket = if is_reached {
             bracket.at_most(found)
         } else {
@@ -60,45 +50,48 @@ pub fn guess<C: Cells, O: Observer<C>>(
     bracket.most()
 }
 
-// Returns a value of at most `at` that a reply seems to have, and moves that reply to the front; or else the least
-// value that one seems to have, or what another worker told. In the first round defers replies that another worker is
-// at, but for the one in front.
+// Returns a value of at most `at` that a board after a move seems to have, and moves that move to the front; or else
+// the least value that one seems to have, or what another worker told. `seen` has what each seemed to have before, in
+// the order of the moves. In the first round defers boards that another worker is at, but for the one in front.
 fn least_seen<C: Cells, O: Observer<C>>(
-    replies: &mut [Solved],
-    seen: &mut Seen,
+    moves: &mut RootMoves,
+    seen: &mut [Interval; 64],
     at: i8,
     cells: &mut C,
     observer: &mut O,
 ) -> i8
-    requires few { length replies.old ≤ 64 }
     requires threshold { IsThreshold at }
     ensures score { IsScore result }
-    ensures length { length replies.new ≡ length replies.old }
+    ensures root { moves.new ≡ moves.old }
     ensures fixed { C.fixed cells.new ≡ C.fixed cells.old }
 {
+    let root = moves.root().board;
     let mut asked = [false; 64];
     let mut least = 64;
     for turn in 0..TURNS {
-        for place in 0..replies.len() {
-            let reply = replies[place];
-            let is_left = turn == 0 && place > 0 && observer.is_left(&reply.board);
+        for place in 0..moves.len() {
+            let Some(root_move) = moves.get(place) else {
+                continue;
+            };
+            let child = root_move.child;
+            let is_left = turn == 0 && place > 0 && observer.is_left(&child.board);
             if asked[place] || is_left {
                 continue;
             }
             asked[place] = true;
-            let found = least_of(&reply, seen.bounds[place], at, cells, observer);
+            let found = least_of(&child, seen[place], at, cells, observer);
             if found <= at {
-                replies.swap(0, place);
-                seen.bounds.swap(0, place);
+                moves.move_to_front(place);
+                seen.swap(0, place);
                 return found;
             }
-            seen.bounds[place] = Interval {
+            seen[place] = Interval {
                 lower: found,
                 upper: 64,
             };
             least = lesser(least, found);
-            if let Some(is_reached) = observer.seen(&seen.root, -at - 1) {
-                return told(replies, at, is_reached, observer);
+            if let Some(is_reached) = observer.seen(&root, -at - 1) {
+                return told(moves, at, is_reached, observer);
             }
         }
     }
@@ -124,26 +117,27 @@ fn least_of<C: Cells, O: Observer<C>>(
     glance_after_move(reply, at, cells, observer)
 }
 
-// Takes over what another worker told of the root: whether a reply seems to have at most `at`. Moves that reply to the
-// front. Returns `at`, or `at + 1` if there is none.
+// Takes over what another worker told of the root: whether a board after a move seems to have at most `at`. Moves that
+// move to the front. Returns `at`, or `at + 1` if there is none.
 fn told<C: Cells, O: Observer<C>>(
-    replies: &mut [Solved],
+    moves: &mut RootMoves,
     at: i8,
     is_reached: bool,
     observer: &mut O,
 ) -> i8
     requires { IsThreshold at }
     ensures score { IsScore result }
-    ensures length { length replies.new ≡ length replies.old }
+    ensures root { moves.new ≡ moves.old }
 {
     if !is_reached {
         return at + 1;
     }
-    for place in 0..replies.len() {
-        let board = replies[place].board;
-        if observer.seen(&board, at) == Some(false) {
-            replies.swap(0, place);
-            return at;
+    for place in 0..moves.len() {
+        if let Some(root_move) = moves.get(place) {
+            if observer.seen(&root_move.child.board, at) == Some(false) {
+                moves.move_to_front(place);
+                return at;
+            }
         }
     }
     at

@@ -3,19 +3,20 @@ ghost use Rattle.std.specs.Prelude.{◌≡◌, negsuc, pos, ◌≤ℤ◌};
 ghost use Rattle.oth_rules.specs.Laws.{IsScore};
 ghost use Rattle.oth_search.specs.Bounds.Interval.{IsThreshold};
 
+use super::moves::{RootMove, RootMoves};
 use super::step::Pace;
 use crate::bounds::{Cells, Interval, Solved};
-use oth_rules::Board;
+use oth_rules::{Board, Square};
 
 /// Hooks of the root driver, called in the thread that searches: they hear of the searches of the boards after a root's
 /// moves, tell what other workers found, and choose how such a board is searched. By default one worker searches alone,
 /// each null window to its end. No answer depends on them.
 pub trait Observer<C: Cells> {
-    /// A search of the board after a move is about to begin.
-    fn before(&mut self, _child: &Board) {}
+    /// A search of the board after this move is about to begin.
+    fn before(&mut self, _root_move: &RootMove) {}
 
-    /// That search has ended; `replies` has the bounds of the boards after all moves by now.
-    fn after(&mut self, _child: &Board, _replies: &[Solved]) {}
+    /// That search has ended; `moves` has the bounds of the boards after all moves by now.
+    fn after(&mut self, _root_move: &RootMove, _moves: &RootMoves) {}
 
     /// Returns what is known of the board after a move by now, whoever found it.
     fn hear(&mut self, known: &Solved, _cells: &mut C) -> Solved
@@ -34,8 +35,8 @@ pub trait Observer<C: Cells> {
         own
     }
 
-    /// Whether others know enough of the board after a move, so that it needs no further search.
-    fn is_done(&mut self, _child: &Board) -> bool {
+    /// Whether others know enough of the board after the move to this square, so that it needs no further search.
+    fn is_done(&mut self, _square: Square) -> bool {
         false
     }
 
@@ -49,18 +50,18 @@ pub trait Observer<C: Cells> {
         pace.onward(bounds, start)
     }
 
-    /// Returns closer bounds of the board after a move. They decide whether its value is above `alpha`, unless the
+    /// Returns closer bounds of the board after this move. They decide whether its value is above `alpha`, unless the
     /// search ends early.
-    fn decide(&mut self, known: &Solved, alpha: i8, cells: &mut C) -> Solved
+    fn decide(&mut self, known: &RootMove, alpha: i8, cells: &mut C) -> Solved
         requires low { negsuc 64 ≤ℤ alpha }
         requires high { alpha ≤ℤ pos 64 }
-        ensures board { result.board ≡ known.now.board }
-        ensures scoring { result.scoring ≡ known.now.scoring }
-        ensures lower { known.now.interval.lower ≤ℤ result.interval.lower }
-        ensures upper { result.interval.upper ≤ℤ known.now.interval.upper }
+        ensures board { result.board ≡ known.now.child.board }
+        ensures scoring { result.scoring ≡ known.now.child.scoring }
+        ensures lower { known.now.child.interval.lower ≤ℤ result.interval.lower }
+        ensures upper { result.interval.upper ≤ℤ known.now.child.interval.upper }
         ensures fixed { C.fixed cells.new ≡ C.fixed cells.old }
     {
-        known.decided_at(alpha, cells)
+        known.child.decided_at(alpha, cells)
     }
 
     /// During a first guess: whether the board seems to have more than `alpha`, if another worker told it.

@@ -7,10 +7,10 @@ ghost use Rattle.oth_search.specs.Bounds.Full.{IsFullMinimax};
 ghost use Rattle.oth_search.specs.Root.Scores.{AreScores};
 
 use super::best_moves::{solve_moves, solve_with};
+use super::moves::RootMoves;
 use super::observer::Unobserved;
 use super::value::value_of;
 use crate::bounds::{Answer, Cells, Kind, Solved, first, known_of, without};
-use crate::ordering::order;
 use arrayvec::ArrayVec;
 use oth_rules::{Board, Scoring, Square};
 
@@ -126,7 +126,7 @@ pub fn answer_by<C: Cells>(
     ensures fixed { C.fixed cells.new ≡ C.fixed cells.old }
 {
     let root = Solved::unknown(board, scoring);
-    solve_moves(root, known, cells, &mut Unobserved)
+    solve_moves(RootMoves::of(&root, known), cells, &mut Unobserved)
 }
 
 // The boards after the moves of a board, each with its exact value, in move order. The search of each starts from the
@@ -135,13 +135,11 @@ fn exact_replies<C: Cells>(board: &Board, cells: &mut C, scoring: Scoring) -> Ar
     ensures fixed { C.fixed cells.new ≡ C.fixed cells.old }
 {
     let mut replies = ArrayVec::new();
-    let squares = order(board);
-    for square in squares.as_slice() {
-        if let Some(child) = board.play(*square) {
-            let known = Solved::unknown(child, scoring);
-            let valued = value_of(&known, replies.as_slice().last(), cells, &mut Unobserved);
-            replies.push(valued);
-        }
+    let moves = RootMoves::of(&Solved::unknown(*board, scoring), &[]);
+    for root_move in moves.as_slice() {
+        let sibling = replies.as_slice().last();
+        let valued = value_of(&root_move.child, sibling, cells, &mut Unobserved);
+        replies.push(valued);
     }
     replies
 }

@@ -5,8 +5,8 @@ ghost use Rattle.oth_rules.specs.Move.{can_move};
 ghost use Rattle.oth_search.specs.Bounds.Full.{IsFullMinimax};
 
 use super::company::Company;
-use crate::bounds::{Answer, Cells, Entry, NullWindow, Solved, known_below};
-use crate::root::{Observer, Unobserved, before_pass, ended, settle_moves, solve_moves};
+use crate::bounds::{Answer, Cells, Entry, NullWindow, Solved};
+use crate::root::{Observer, RootMove, RootMoves, before_pass, best_moves, ended, settle_moves};
 use crate::tuning::FEWEST_EMPTIES_ENDED;
 use oth_rules::{Board, Scoring};
 use std::alloc::Global;
@@ -87,11 +87,12 @@ impl<C: Cells> Company<Limited<C>> for UntilSpent {
 }
 
 impl<C: Cells> Observer<Limited<C>> for UntilSpent {
-    fn decide(&mut self, known: &Solved, alpha: i8, cells: &mut Limited<C>) -> Solved {
-        if known.interval.decides(alpha, alpha + 1) {
-            return *known;
+    fn decide(&mut self, known: &RootMove, alpha: i8, cells: &mut Limited<C>) -> Solved {
+        let child = known.child;
+        if child.interval.decides(alpha, alpha + 1) {
+            return child;
         }
-        known.narrowed_in(NullWindow::at(alpha + 1), cells, self)
+        child.narrowed_in(NullWindow::at(alpha + 1), cells, self)
     }
 
     fn is_over(&self, cells: &Limited<C>) -> bool {
@@ -164,11 +165,12 @@ fn solve_moves_until<C: Cells>(
     ensures spent { IfErr result (λ s. cells.new.left ≡ 0) }
     ensures fixed { C.fixed cells.new.cells ≡ C.fixed cells.old.cells }
 {
-    let root = Solved::unknown(board, scoring);
-    let replies = settle_moves(&root, &[], cells, &mut UntilSpent { alloc });
+    let mut moves = RootMoves::of(&Solved::unknown(board, scoring), &[]);
+    settle_moves(&mut moves, cells, &mut UntilSpent { alloc });
     if cells.left == 0 {
-        let known = known_below(board, 1, replies.as_slice(), scoring);
-        return Err(Stopped { known });
+        return Err(Stopped {
+            known: moves.backed_up(),
+        });
     }
-    Ok(solve_moves(root, replies.as_slice(), cells, &mut Unobserved))
+    Ok(best_moves(&moves, cells))
 }

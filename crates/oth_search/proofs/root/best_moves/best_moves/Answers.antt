@@ -1,53 +1,63 @@
-use Rattle.std.proofs.Common.{ℕ, refl, ◌∙◌, arith, rules}
+use Rattle.std.proofs.Common.{ℕ, map, refl, ◌∙◌, arith, rules}
 use Rattle.std.proofs.lemmas.Int.{ints}
-use Rattle.oth_search.proofs.BoundsLemmas.SquareSets.{Takes-next, FromPlace-end, FromPlace}
+use Rattle.std.proofs.lemmas.List.{length-map}
+use Rattle.oth_search.specs.Root.Moves.{square_of}
+use Rattle.oth_search.proofs.BoundsLemmas.Enclosing.{same_scoring}
+use Rattle.oth_search.proofs.BoundsLemmas.SquareSets.{FromPlace-end, FromPlace}
 use Rattle.oth_search.proofs.BoundsLemmas.Replies.{FromPlace-legal, legal-FromPlace}
+use Rattle.oth_search.proofs.RootLemmas.MoveLists.{Takes-move, root_move-at, of_root}
 use Rattle.oth_search.proofs.RootLemmas.Roots.{RootLoop-start, RootLoop-worse, RootLoop-equal, RootLoop-better, RootLoop-score, RootLoop-best, gives_less, gives_exactly, kind-move}
 use Rattle.oth_search.proofs.root.best_moves.best_moves.Goals as goal
 use Rattle.oth_search.proofs.root.best_moves.best_moves.Goals.{then-reply-score-2, else-reply-score-2}
 
-pub loop-square-init : goal.loop-square-init
-loop-square-init g c = (
-  omega arith,
-  RootLoop-start c.args.root.scoring c.args.root.board _ _ _ _ _ c.args.root.interval.is_interval c.args.root.encloses (omega (arith, ints)) refl
-      (FromPlace-legal c.args.root.board _ _ c.as_slice-square-items.ensures.value c.order-squares.ensures)
-      (legal-FromPlace c.args.root.board _ _ c.as_slice-square-items.ensures.value c.order-squares.ensures),
-  refl,
-)
-
-pub play_legal-child-requires : goal.play_legal-child-requires
-play_legal-child-requires g c =
-    c.loop-square.invariant.1.untried _ (c.loop-square.square-index, omega arith, omega (arith, c.loop-square-test.true), search rules)
-
-pub loop-square-preserved-then-reply-score : goal.loop-square-preserved-then-reply-score
-loop-square-preserved-then-reply-score g c =
-    let xs = c.as_slice-square-items.result.now in
-    let i = c.loop-square.square-index in
-    let s : ℕ = c.square-item.result in
-    let r = c.reply_below-reply.result in (
-      c.loop-square.invariant.0,
-      RootLoop-worse c.args.root.scoring c.args.root.board _ s _ _ _ c.loop-square.invariant.1
-          (Takes-next xs i s (omega (arith, c.loop-square-test.true)) (search rules))
-          (gives_less c.args.root.scoring c.args.root.board c.play_legal-child.result s _ r.lower r.upper c.play_legal-child.ensures c.reply_below-reply.ensures.encloses
-          (omega (arith, ints, c.if-reply-score.true))),
-      c.reply_below-reply.ensures.fixed ∙ c.loop-square.invariant.2,
+pub loop-root_move-init : goal.loop-root_move-init
+loop-root_move-init g c =
+    let root = c.backed_up-root.result in
+    let moves = of_root _ root.board root.scoring _ c.backed_up-root.ensures.board c.backed_up-root.ensures.scoring c.as_slice-root_move-items.ensures.moves in (
+      omega arith,
+      RootLoop-start root.scoring root.board _ _ _ _ _ root.interval.is_interval root.encloses (omega (arith, ints)) refl
+          (FromPlace-legal root.board _ _ refl moves.squares)
+          (legal-FromPlace root.board _ _ refl moves.squares),
+      refl,
     )
 
-pub loop-square-preserved : goal.loop-square-preserved
-loop-square-preserved g c =
-    let xs = c.as_slice-square-items.result.now in
-    let i = c.loop-square.square-index in
-    let s : ℕ = c.square-item.result in
+pub loop-root_move-preserved-then-reply-score : goal.loop-root_move-preserved-then-reply-score
+loop-root_move-preserved-then-reply-score g c =
+    let root = c.backed_up-root.result in
+    let moves = of_root _ root.board root.scoring _ c.backed_up-root.ensures.board c.backed_up-root.ensures.scoring c.as_slice-root_move-items.ensures.moves in
+    let ms = c.as_slice-root_move-items.result.now in
+    let i = c.loop-root_move.root_move-index in
+    let m = c.root_move-item.result in
     let r = c.reply_below-reply.result in
-    let takes = Takes-next xs i s (omega (arith, c.loop-square-test.true)) (search rules) in
-    let exactly = gives_exactly c.args.root.scoring c.args.root.board c.play_legal-child.result s c.loop-square.score r.lower r.upper _ _ c.play_legal-child.ensures
-    c.reply_below-reply.ensures.encloses r.is_interval c.reply_below-reply.ensures.decides
-    (omega (arith, ints)) (omega (arith, ints, c.loop-square.score-is)) (omega (arith, ints, c.loop-square.score-is, c.if-reply-score.false)) in
-    let same = c.reply_below-reply.ensures.fixed ∙ c.loop-square.invariant.2 in
+    let one = root_move-at _ ms i m (omega (arith, c.loop-root_move-test.true)) (search rules) moves in (
+      c.loop-root_move.invariant.0,
+      RootLoop-worse root.scoring root.board _ m.square _ _ _ c.loop-root_move.invariant.1
+          (Takes-move ms i m (omega (arith, c.loop-root_move-test.true)) (search rules))
+          (gives_less root.scoring root.board m.child.board m.square _ r.lower r.upper one.board
+          (same_scoring root.scoring m.child.scoring m.child.board _ _ one.scoring c.reply_below-reply.ensures.encloses)
+          (omega (arith, ints, c.if-reply-score.true))),
+      c.reply_below-reply.ensures.fixed ∙ c.loop-root_move.invariant.2,
+    )
+
+pub loop-root_move-preserved : goal.loop-root_move-preserved
+loop-root_move-preserved g c =
+    let root = c.backed_up-root.result in
+    let moves = of_root _ root.board root.scoring _ c.backed_up-root.ensures.board c.backed_up-root.ensures.scoring c.as_slice-root_move-items.ensures.moves in
+    let ms = c.as_slice-root_move-items.result.now in
+    let i = c.loop-root_move.root_move-index in
+    let m = c.root_move-item.result in
+    let r = c.reply_below-reply.result in
+    let one = root_move-at _ ms i m (omega (arith, c.loop-root_move-test.true)) (search rules) moves in
+    let takes = Takes-move ms i m (omega (arith, c.loop-root_move-test.true)) (search rules) in
+    let exactly = gives_exactly root.scoring root.board m.child.board m.square c.loop-root_move.score r.lower r.upper _ _ one.board
+    (same_scoring root.scoring m.child.scoring m.child.board _ _ one.scoring c.reply_below-reply.ensures.encloses)
+    r.is_interval c.reply_below-reply.ensures.decides
+    (omega (arith, ints)) (omega (arith, ints, c.loop-root_move.score-is)) (omega (arith, ints, c.loop-root_move.score-is, c.if-reply-score.false)) in
+    let same = c.reply_below-reply.ensures.fixed ∙ c.loop-root_move.invariant.2 in
     elim c.if-reply-score-2.branch [
       | then-reply-score-2 w ↦ rw (w.score-is, w.best-is) (
         w.with-best.type_inv,
-        RootLoop-better c.args.root.scoring c.args.root.board _ s _ _ _ _ _ c.loop-square.invariant.1 takes
+        RootLoop-better root.scoring root.board _ m.square _ _ _ _ _ c.loop-root_move.invariant.1 takes
             (omega (arith, ints, exactly))
             (omega (arith, ints, w.if-reply-score-2.true))
             w.with-best.ensures,
@@ -55,7 +65,7 @@ loop-square-preserved g c =
       )
       | else-reply-score-2 w ↦ rw (w.score-is, w.best-is) (
         w.with-best-else-reply-score-2.type_inv,
-        RootLoop-equal c.args.root.scoring c.args.root.board _ s _ _ _ _ c.loop-square.invariant.1 takes
+        RootLoop-equal root.scoring root.board _ m.square _ _ _ _ c.loop-root_move.invariant.1 takes
             (omega (arith, ints, exactly, w.if-reply-score-2.false, c.if-reply-score.false))
             w.with-best-else-reply-score-2.ensures,
         same,
@@ -64,11 +74,15 @@ loop-square-preserved g c =
 
 pub invariant_of-result : goal.invariant_of-result
 invariant_of-result g c =
-    let l = c.loop-square.invariant in
-    let none = λ (s : ℕ) (h : FromPlace c.as_slice-square-items.result.now c.loop-square.square-index s). FromPlace-end _ _ s (omega (arith, c.loop-square-test.false)) h in
-    let score = RootLoop-score c.args.root.scoring c.args.root.board _ _ _ l.1 none c.requires in
+    let root = c.backed_up-root.result in
+    let ms = c.as_slice-root_move-items.result.now in
+    let i = c.loop-root_move.root_move-index in
+    let l = c.loop-root_move.invariant in
+    let none = λ (s : ℕ) (h : FromPlace (map square_of ms) i s). FromPlace-end (map square_of ms) i s (omega (arith, c.loop-root_move-test.false, length-map ms square_of)) h in
+    let some = rw (← c.backed_up-root.ensures.board) at c.requires in
+    let score = RootLoop-score root.scoring root.board _ _ _ l.1 none some in
     record {
       is_value = score;
-      are_best = RootLoop-best c.args.root.scoring c.args.root.board _ _ _ l.0 l.1 none score;
-      fits = kind-move c.args.root.board c.requires;
+      are_best = RootLoop-best root.scoring root.board _ _ _ l.0 l.1 none score;
+      fits = kind-move root.board some;
     }

@@ -1,5 +1,0 @@
-use Rattle.oth_rules.specs.Laws.{IsScore}
-use Rattle.oth_search.proofs.root.settle.least_upper.Given as goal
-
-abbrev pub invariant-loop-reply : goal.invariant-loop-reply
-invariant-loop-reply l = IsScore l.least

@@ -1,0 +1,181 @@
+//! The moves of a root, each with its square, the board after it, and what is known of that.
+ghost use Rattle.std.specs.Prelude.{◌≡◌, ◌≤◌, IfSome, length};
+ghost use Rattle.oth_rules.specs.Laws.{IsScore};
+ghost use Rattle.oth_search.specs.Root.Moves.{IsRootMove, AreRootMoves};
+
+use crate::bounds::{Interval, Solved, greater, known_of};
+use crate::ordering::order;
+use arrayvec::ArrayVec;
+use oth_rules::Square;
+use std::marker::Model;
+
+/// A move of a root, and the board after it with bounds of its value.
+#[derive(Clone, Copy, PartialEq, Eq, Debug, Default)]
+pub struct RootMove {
+    pub square: Square,
+    pub child: Solved,
+}
+
+/// A root with bounds of its value, and each of its legal moves once with the board after it. Which move comes first,
+/// and how close the bounds are, affects speed only.
+#[derive(Drop)]
+pub struct RootMoves {
+    root: Solved,
+    list: ArrayVec<RootMove, 64>,
+}
+
+impl Model for RootMoves {
+    ghost use Rattle.oth_search.specs.Root.Moves.{Root, AreRootMoves};
+
+    ghost Value = { Root };
+
+    ghost view = { λ m. record { board = m.root.board; scoring = m.root.scoring } };
+
+    ghost invariant = { λ m. AreRootMoves (record { board = m.root.board; scoring = m.root.scoring }) m.list.items };
+}
+
+impl RootMoves {
+    /// The moves of the root in move order, with what is `known` of the boards after them.
+    pub fn of(root: &Solved, known: &[Solved]) -> RootMoves
+        ensures board { result.board ≡ root.now.board }
+        ensures scoring { result.scoring ≡ root.now.scoring }
+    {
+        let squares = order(&root.board);
+        let mut list = ArrayVec::new();
+        for square in squares.as_slice() {
+            let board = root.board.play_legal(*square);
+            list.push(RootMove {
+                square: *square,
+                child: known_of(board, known, root.scoring),
+            });
+        }
+        RootMoves { root: *root, list }
+    }
+
+    /// A copy of these moves and their bounds.
+    pub fn another(&self) -> RootMoves
+        ensures { result ≡ self.now }
+    {
+        let mut list = ArrayVec::new();
+        for root_move in self.list.as_slice() {
+            list.push(*root_move);
+        }
+        RootMoves {
+            root: self.root,
+            list,
+        }
+    }
+
+    /// The root with its bounds.
+    pub fn root(&self) -> Solved
+        ensures board { result.board ≡ self.now.board }
+        ensures scoring { result.scoring ≡ self.now.scoring }
+    {
+        self.root
+    }
+
+    /// The number of moves, 0 to 64.
+    pub fn len(&self) -> usize
+        ensures { result ≤ 64 }
+    {
+        self.list.len()
+    }
+
+    /// Each legal move once.
+    pub fn as_slice(&self) -> &[RootMove]
+        ensures moves { AreRootMoves self.now result.now }
+        ensures fits { length result.now ≤ 64 }
+    {
+        self.list.as_slice()
+    }
+
+    /// The move at this place, from 0 on, if there is one.
+    pub fn get(&self, place: usize) -> Option<RootMove>
+        ensures { IfSome result (IsRootMove self.now) }
+    {
+        self.list.get(place).copied()
+    }
+
+    /// The place of the move to this square, or the number of moves if it isn't legal: 0 to 64.
+    pub fn place_of(&self, square: Square) -> usize
+        ensures { result ≤ 64 }
+    {
+        for (place, root_move) in self.list.as_slice().iter().enumerate() {
+            if root_move.square == square {
+                return place;
+            }
+        }
+        self.list.len()
+    }
+
+    /// Moves the move at this place to the front, if there is one.
+    pub fn move_to_front(&mut self, place: usize)
+        ensures { self.new ≡ self.old }
+    {
+        if place < self.list.len() {
+            self.list.as_mut_slice().swap(0, place);
+        }
+    }
+
+    /// Narrows the bounds of the board after the move at this place to what `found` tells of it. Bounds of another
+    /// board, or under the other scoring, change nothing.
+    pub fn narrow(&mut self, place: usize, found: &Solved)
+        ensures { self.new ≡ self.old }
+    {
+        if place < self.list.len() {
+            let known = self.list[place];
+            self.list[place] = RootMove {
+                square: known.square,
+                child: known.child.joined(found),
+            };
+        }
+    }
+
+    /// Narrows the bounds of the boards after these moves to what the others tell of them.
+    pub fn take_in(&mut self, others: &[RootMove])
+        ensures { self.new ≡ self.old }
+    {
+        for other in others {
+            let place = self.place_of(other.square);
+            self.narrow(place, &other.child);
+        }
+    }
+
+    /// Narrows the bounds of the root to what `found` tells of it. Bounds of another board, or under the other scoring,
+    /// change nothing.
+    pub fn narrow_root(&mut self, found: &Solved)
+        ensures { self.new ≡ self.old }
+    {
+        self.root = self.root.joined(found);
+    }
+
+    /// The root with the bounds that its own and those of the boards after its moves tell together.
+    pub fn backed_up(&self) -> Solved
+        ensures board { result.board ≡ self.now.board }
+        ensures scoring { result.scoring ≡ self.now.scoring }
+    {
+        if self.list.is_empty() {
+            return self.root;
+        }
+        let mut lower = -64;
+        let mut upper = -64;
+        for root_move in self.list.as_slice() {
+            let reply = root_move.child.interval;
+            lower = greater(lower, -reply.upper);
+            upper = greater(upper, -reply.lower);
+        }
+        let Solved { board, scoring, .. } = self.root;
+        self.root.joined(&Solved {
+            board,
+            scoring,
+            interval: Interval { lower, upper },
+        })
+    }
+
+    /// The greatest score that the root is known to reach, -64 to 64.
+    pub fn best(&self) -> i8
+        ensures { IsScore result }
+    {
+        self.backed_up().interval.lower
+    }
+}
