@@ -6,7 +6,7 @@ use crate::book_lookup::bounds_in;
 use arrayvec::ArrayVec;
 use oth_book::Book;
 use oth_rules::{Board, Scoring};
-use oth_search::{MOST_EMPTIES, Solved, order};
+use oth_search::{MOST_EMPTIES, RootMoves, Solved};
 use std::sync::atomic::{AtomicU64, Ordering};
 
 /// Boards with their bounds, and the place of the next one to take.
@@ -54,11 +54,9 @@ impl Queue {
 // Returns the children of `board` in the order in which they are searched, with the book's bounds of each.
 fn replies_by_book(board: &Board, book: Option<&Book>, scoring: Scoring) -> ArrayVec<Solved, 64> {
     let mut replies = ArrayVec::new();
-    let squares = order(board);
-    for square in squares.as_slice() {
-        if let Some(child) = board.play(*square) {
-            replies.push(bounds_in(book, &child, scoring));
-        }
+    let moves = RootMoves::of(&Solved::unknown(*board, scoring), &[]);
+    for root_move in moves.as_slice() {
+        replies.push(bounds_in(book, &root_move.child.board, scoring));
     }
     replies
 }
