@@ -1,31 +1,28 @@
 #!/usr/bin/env python3
 """Prints the microseconds that a board of few empty squares takes, by one worker and by several, beside a reference.
 
-    bench/small.py PROGRAM [REFERENCE] [RUNS]
+    bench/small.py PROGRAM BOARDS [REFERENCE] [RUNS]
 
-PROGRAM is a built `othsolve`, REFERENCE a command that reads board lines and writes report lines. The boards are those of `few-game.txt`,
-200 of each number of empty squares, 50 times over. Each is run RUNS times (5 if not given), all in turn, of which the least seconds count.
-The exit status is 1 where answers differ.
+PROGRAM is a built `othsolve`, BOARDS a file of board lines, thousands of each number of empty squares, so that the start of a process
+counts for little, and each board once, since a reference may remember it. REFERENCE is a command that reads board lines and writes report
+lines. Each is run RUNS times (5 if not given), all in turn, of which the least seconds count. The exit status is 1 where answers differ.
 """
 import argparse
 import functools
-import os
 import shlex
 import sys
 
 import timing
 
-BOARDS = os.path.join(os.path.dirname(os.path.abspath(__file__)), "few-game.txt")
-TIMES = 50
 WORKERS = (1, 2, 4, 16)
 REFERENCE = "reference"
 MICROSECONDS = 1e6
 
 
-def boards_by_empties():
-    """Returns the lines of boards by their numbers of empty squares."""
+def boards_by_empties(name):
+    """Returns the lines of the file by the numbers of empty squares of their boards."""
     lines = {}
-    with open(BOARDS, "rb") as boards:
+    with open(name, "rb") as boards:
         for line in boards:
             lines.setdefault(line.split()[0].count(b"-"), []).append(line)
     return dict(sorted(lines.items()))
@@ -50,6 +47,7 @@ def words():
     """Reads the command line."""
     parser = argparse.ArgumentParser(description=__doc__, formatter_class=argparse.RawDescriptionHelpFormatter)
     parser.add_argument("program", metavar="PROGRAM", help="the built program")
+    parser.add_argument("boards", metavar="BOARDS", help="the file of board lines")
     parser.add_argument("reference", metavar="REFERENCE", nargs="?", type=shlex.split, help="the command of another solver")
     parser.add_argument("runs", metavar="RUNS", nargs="?", type=timing.rounds, default=5, help="how often each is run (5)")
     return parser.parse_args()
@@ -62,12 +60,12 @@ def main():
         commands[REFERENCE] = given.reference
     print("| empty squares |", " | ".join(commands), "|")
     print("|---|" + "---|" * len(commands))
-    for empties, lines in boards_by_empties().items():
-        least = measured(commands, b"".join(lines) * TIMES, given.runs)
+    for empties, lines in boards_by_empties(given.boards).items():
+        least = measured(commands, b"".join(lines), given.runs)
         if least is None:
             print(f"answers to boards of {empties} empty squares differ", file=sys.stderr)
             return 1
-        each = [seconds / (TIMES * len(lines)) * MICROSECONDS for seconds in least.values()]
+        each = [seconds / len(lines) * MICROSECONDS for seconds in least.values()]
         print(f"| {empties} |", " | ".join(f"{microseconds:.1f}" for microseconds in each), "|", flush=True)
     return 0
 
