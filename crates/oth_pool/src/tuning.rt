@@ -9,7 +9,8 @@ pub(crate) const FEWEST_EMPTIES_CREWED: u8 = 12;
 /// than a small search gains.
 pub(crate) fn cells_for(cells: u32, empties: u8) -> u32 {
     match empties {
-        0..=9 => cells.min(1 << 6),
+        0..=6 => cells.min(1),
+        7..=9 => cells.min(1 << 6),
         10..=12 => cells.min(1 << 10),
         13..=14 => cells.min(1 << 12),
         15..=16 => cells.min(1 << 14),

@@ -8,7 +8,7 @@ ghost use Rattle.oth_run.specs.Reply.{reply};
 ghost use Rattle.oth_run.specs.Report.{last_report, with_end};
 ghost use Rattle.oth_run.specs.Run.{FailsBy};
 
-use crate::ahead::{asked_by, jobs_of};
+use crate::ahead::jobs_of;
 use crate::buffer::{long_buffer, longer};
 use crate::fault::RunFault;
 use crate::line::Line;
@@ -65,8 +65,8 @@ impl Engine {
         Ok(())
     }
 
-    // Takes the last part of a line and answers the line. The answer of a command that searches is written at once,
-    // since it may have taken time.
+    // Takes the last part of a line and answers the line. What is gathered is written before an answer that may take
+    // time, and that answer at once.
     fn take_line<T: Wait + Threads + Sync, W: Sink, G: Gate>(
         &mut self,
         solver: &Solver<'_, T, G>,
@@ -83,9 +83,10 @@ impl Engine {
         ensures fails { OnErr result (W.failed writer.new ≡ true) }
     {
         self.line.push(part);
+        let takes_time = self.line.takes_time(jobs.are_shared());
+        self.waiting.write_if(takes_time, writer)?;
         self.end_line(solver, jobs, writer)?;
-        self.waiting
-            .write_if(asked_by(solver.settings.get().command).is_some(), writer)?;
+        self.waiting.write_if(takes_time, writer)?;
         Ok(())
     }
 

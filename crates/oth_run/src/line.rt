@@ -11,6 +11,7 @@ ghost use Rattle.oth_text.specs.Ranking.{scores_line_of};
 ghost use Rattle.oth_text.specs.Report.{moves_line_of, report_line_of};
 
 use crate::solver::Solver;
+use crate::tuning::{MOST_EMPTIES_AT_ONCE, MOST_EMPTIES_SCORED_AT_ONCE};
 use arrayvec::ArrayVec;
 use oth_batch::Jobs;
 use oth_pool::Gate;
@@ -90,6 +91,17 @@ impl Line {
         }
     }
 
+    /// Whether its answer may take time: that of a board of many empty squares, and where workers share the boards
+    /// (`is_shared`) that of any board, since this one may solve another board while it waits.
+    pub fn takes_time(&self, is_shared: bool) -> bool {
+        match self {
+            Line::Solve(reader) => is_shared || has_more_empties(reader, MOST_EMPTIES_AT_ONCE),
+            Line::Scores(reader) => is_shared
+                || has_more_empties(reader, MOST_EMPTIES_SCORED_AT_ONCE),
+            Line::Moves(_) | Line::Transcript(_) | Line::Play(_) => false,
+        }
+    }
+
     /// What is written of the line, without byte 10. What is found of a board that is one of the jobs is awaited.
     pub fn reply<T: Wait + Threads + Sync, G: Gate>(
         &self,
@@ -106,6 +118,14 @@ impl Line {
             Line::Transcript(reader) => transcript_reply(reader),
             Line::Play(reader) => play_reply(reader),
         }
+    }
+}
+
+// Whether the line is a board of more than `most` empty squares.
+fn has_more_empties(reader: &BoardReader, most: u8) -> bool {
+    match reader.read() {
+        Ok(position) => position.board.empties() > most,
+        Err(_) => false,
     }
 }
 
