@@ -11,6 +11,7 @@ use oth_walk::Gate;
 #[derive(Drop)]
 pub(crate) struct Announcer<'g, G> {
     gate: &'g G,
+    // The items below each move of the root.
     below: ArrayVec<Below, 64>,
     // The moves whose items were announced.
     announced: u64,
@@ -18,7 +19,7 @@ pub(crate) struct Announcer<'g, G> {
     open: Option<Square>,
 }
 
-// The items below a move of the root: those of the numbers from `first` up to, and without, `end`.
+// The items below a move of the root: their numbers begin at `first` and end before `end`.
 #[derive(Clone, Copy, Default)]
 struct Below {
     square: Square,
