@@ -29,7 +29,7 @@ It tests, in each document and, where it says so, in the code:
   underscore an edit, a function or a part of a crate;
 - of each edit of must-fail/ and mutants/: that each of its old texts stands just once in the file that it names, that it changes
   something, and that no other edit of the crate has its name;
-- that the headline is word for word the same wherever it stands, and that the README has at most 110 lines;
+- that the headline is word for word the same wherever it stands, that the README has at most 110 lines, and docs/ 36,000 words;
 - of each file of code: that its first line is a head (`//!`), and that no line is longer than 120 characters; of `specs/`, that none is
   longer than 140, and of `proofs/`, than 200;
 - that the tables and the plot of the measured figures are those of bench/figures.txt (`bench/plot.py --check`), and that a plain Rust

@@ -17,6 +17,7 @@ OLD = {
     r"some hours before|within the hour|in an earlier run|was learned": "a line of bench/log.csv",
 }
 MOST_LINES_OF_README = 110
+MOST_WORDS_OF_DOCS = 36_000
 TREES_THAT_COUNT = ("crates/*/specs/**/*.antt", "crates/*/proofs/**/*.antt", "hostile/*.[cp]*", "bench/*.py")
 
 
@@ -53,8 +54,10 @@ def glossary_faults():
 
 
 def headline_faults():
-    """Tests that the headline is the same wherever it stands, and that the README is short."""
+    """Tests that the headline is the same wherever it stands, and that README and docs/ are short."""
     said = {line for document in documents() for line in lines_of(document) if line.startswith("**For every board")}
     yield unless(len(said) == 1, f"the headline is said in {len(said)} ways")
     length = len(lines_of(ROOT / "README.md")) - 1
     yield unless(length <= MOST_LINES_OF_README, f"README.md has {length} lines")
+    said = sum(len(text_of(page).split()) for page in ROOT.glob("docs/*.md"))
+    yield unless(said <= MOST_WORDS_OF_DOCS, f"docs/ has {said} words")

@@ -61,7 +61,7 @@ fn run_with<R: Wait + Threads + Sync + AllocGlobal, G: Gate>(
         ..settings(Command::Solve, Scoring::Winner)
     };
     let mut reader = BrokenSource::new(input, NO_FAILURE);
-    let mut writer = ByteSink::<256>::new(NO_FAILURE);
+    let mut writer = ByteSink::<512>::new(NO_FAILURE);
     let result = run(
         rt,
         rt.alloc(),
@@ -129,6 +129,16 @@ fn a_gate_hears_each_item_of_a_batch_once(rt: HostRuntime) -> Result<(), Fail> {
             .all(|board| board.empties() == 10 && board.can_move())
     );
     let input = lines(rt.alloc(), boards.as_slice())?;
+    check_heard(&rt, input.as_slice(), None, items_of(boards.as_slice()));
+    Ok(())
+}
+
+#[test]
+fn a_board_whose_line_stands_twice_is_searched_once(rt: HostRuntime) -> Result<(), Fail> {
+    let boards = boards(rt.alloc())?;
+    let mut input = lines(rt.alloc(), boards.as_slice())?;
+    let again = lines(rt.alloc(), boards.as_slice())?;
+    input.extend_from_slice(again.as_slice())?;
     check_heard(&rt, input.as_slice(), None, items_of(boards.as_slice()));
     Ok(())
 }

@@ -1,4 +1,4 @@
-use Rattle.std.proofs.Common.{◌≡◌, All, Contains, sym}
+use Rattle.std.proofs.Common.{◌≡◌, Contains, sym}
 use Rattle.std.proofs.lemmas.List.Elements.{All-push}
 use Rattle.oth_batch.proofs.batch.Batch.found.Goals as goal
 
