@@ -55,7 +55,7 @@ def words():
 
 def main():
     given = words()
-    commands = {f"{workers} workers": [given.program, "solve", "--workers", str(workers)] for workers in WORKERS}
+    commands = {f"{workers} worker{'s' * (workers > 1)}": [given.program, "solve", "--workers", str(workers)] for workers in WORKERS}
     if given.reference:
         commands[REFERENCE] = given.reference
     print("| empty squares |", " | ".join(commands), "|")
