@@ -85,6 +85,7 @@ fn a_source_alone_gives_its_bytes(rt: HostRuntime) {
 #[test]
 fn a_run_reads_all_sources(rt: HostRuntime) {
     let mut sources = joined(rt.alloc(), [START, b"f5", START], NO_FAILURE).expect(&rt, "sources");
+    assert!(rt; !sources.failed());
     let mut writer = ByteSink::<64>::new(NO_FAILURE);
     let asked = settings(Command::Moves, Scoring::Winner);
     let done = run(
@@ -106,6 +107,7 @@ fn a_source_that_fails_ends_the_run(rt: HostRuntime) {
     for until_failure in 0..66 {
         let texts = [START, b"".as_slice(), START];
         let mut sources = joined(rt.alloc(), texts, until_failure).expect(&rt, "sources");
+        assert!(rt; !sources.failed());
         let mut writer = ByteSink::<64>::new(NO_FAILURE);
         let asked = settings(Command::Moves, Scoring::Winner);
         let done = run(
