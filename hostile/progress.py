@@ -23,7 +23,7 @@ LONG_EMPTIES = LONG.count("-")
 BOARDS = f"{QUICK}\n{LONG}\n{QUICK}\n".encode()
 SHOWN = re.compile(rf"line 2: {LONG_EMPTIES} empty squares(?:, (\d+) of (\d+) moves settled, ([+-]\d+) to ([+-]\d+))?, (\d+) s")
 # A board whose moves take some seconds together, and the line that tells how far the search of one of them is.
-SCORED = "-O-XX--O--XXXXOX-XOOXOXX---OOXXO--OOOXOO-OXOXOXOO-XXOO-O--XX---O X"
+SCORED = "XXX------XOX--O--OOO-OOXOOOXOOX--OOXOXO--XOXXOOX-XXXXXO--XXX-XO- X"
 SCORED_BOARDS = f"{QUICK}\n{SCORED}\n{QUICK}\n".encode()
 MOVE = r", ([a-h][1-8]): (\d+) of (\d+) replies settled(?:, ([+-]\d+) to ([+-]\d+))?"
 SHOWN_MOVE = re.compile(rf"line 2: {SCORED.count('-')} empty squares(?:{MOVE})?, \d+ s")
