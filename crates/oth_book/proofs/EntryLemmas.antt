@@ -13,7 +13,7 @@ use Rattle.oth_book.specs.declared.version.Version.{Version}
 use Rattle.oth_book.specs.declared.version.Version.TheVariants.{One, Two}
 use Rattle.oth_book.specs.Order.{cells}
 use Rattle.oth_book.specs.Numeral.{numeral, digit_byte}
-use Rattle.oth_book.specs.declared.shape.Shape.TheVariants.{Entry}
+use Rattle.oth_book.specs.declared.text.shape.Shape.TheVariants.{Entry}
 use Rattle.oth_book.specs.Shape.{bounds_len, IsBoundBytes, IsWhole}
 use Rattle.oth_book.specs.Text.{entry_line, sign_byte, signed, bounds_text, IsClaim, AreBounds, Says}
 use Rattle.oth_book.specs.Fault.{IsEntryAt}

@@ -5,8 +5,8 @@ use Rattle.oth_book.specs.declared.version.Version.{Version}
 use Rattle.oth_book.specs.declared.claim.Claim.{Claim}
 use Rattle.oth_book.specs.declared.fault.BookFault.{BookFault}
 use Rattle.oth_book.specs.declared.fault.BookFault.TheVariants.{Header, Line, Order, Count, CutShort, Trailing, Memory}
-use Rattle.oth_book.specs.declared.shape.Shape.TheVariants as shapes
-use Rattle.oth_book.specs.declared.shape.Fit.TheVariants.{Whole}
+use Rattle.oth_book.specs.declared.text.shape.Shape.TheVariants as shapes
+use Rattle.oth_book.specs.declared.text.shape.Fit.TheVariants.{Whole}
 use Rattle.oth_book.specs.Shape.{is_cell, fit_of}
 use Rattle.oth_book.specs.Text.{end_line}
 use Rattle.oth_book.specs.Fault.{last_of, Stand, CutLine, BadByte, EntryLine, EndLine, OneTooMany, fitted, begins, stand, IsNext, IsEntryAt, IsLineFault}

@@ -11,9 +11,9 @@ use Rattle.oth_rules.specs.declared.scoring.Scoring.TheVariants.{Winner, Discs}
 use Rattle.oth_book.specs.declared.version.Version.{Version}
 use Rattle.oth_book.specs.declared.version.Version.TheVariants.{One, Two}
 use Rattle.oth_book.specs.declared.claim.Claim.{Claim}
-use Rattle.oth_book.specs.declared.shape.Shape.{Shape}
-use Rattle.oth_book.specs.declared.shape.Shape.TheVariants.{Header, Entry, End}
-use Rattle.oth_book.specs.declared.shape.Fit.TheVariants.{Whole, Cut, Misplaced}
+use Rattle.oth_book.specs.declared.text.shape.Shape.{Shape}
+use Rattle.oth_book.specs.declared.text.shape.Shape.TheVariants.{Header, Entry, End}
+use Rattle.oth_book.specs.declared.text.shape.Fit.TheVariants.{Whole, Cut, Misplaced}
 use Rattle.oth_book.specs.Shape.{fit, fit_of, header, allows, allows_in_entry, allows_in_bounds, bounds_len, is_cell, is_digit, is_hex_digit, is_sign}
 use Rattle.oth_book.specs.Order.{cells}
 use Rattle.oth_book.specs.Numeral.{numeral, digit_byte}

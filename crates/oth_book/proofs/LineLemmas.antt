@@ -3,7 +3,7 @@ use Rattle.std.proofs.Common.{◌≡◌, ℕ, suc, ◌+◌, ◌-◌, ◌<◌, �
 use Rattle.std.proofs.Common.{ap, ◌∙◌, refl, append_assoc, drop-cons, length-drop, add-one, lit<, eqb-true}
 use Rattle.std.proofs.lemmas.List.{take-append-drop, length-take-le, drop-drop, get_or-take, get_or-drop}
 use Rattle.std.proofs.lemmas.Bool.Decides.{nat_tests}
-use Rattle.oth_book.specs.declared.shape.Shape.TheVariants.{Entry, End}
+use Rattle.oth_book.specs.declared.text.shape.Shape.TheVariants.{Entry, End}
 use Rattle.oth_book.specs.declared.version.Version.{Version}
 use Rattle.oth_book.specs.Shape.{allows, allows_in_entry, allows_in_bounds, bounds_len, is_cell, is_digit, is_hex_digit, IsWhole, AreBoundsBytes}
 use Rattle.oth_book.specs.Order.{cells}

@@ -8,8 +8,8 @@ use Rattle.oth_book.specs.declared.version.Version.{Version}
 use Rattle.oth_book.specs.declared.claim.Claim.{Claim}
 use Rattle.oth_book.specs.declared.fault.BookFault.{BookFault}
 use Rattle.oth_book.specs.declared.fault.BookFault.TheVariants.{Header, Line, Order, Count, CutShort, Trailing, Memory}
-use Rattle.oth_book.specs.declared.shape.Shape.TheVariants as shapes
-use Rattle.oth_book.specs.declared.shape.Fit.TheVariants.{Whole, Cut, Misplaced}
+use Rattle.oth_book.specs.declared.text.shape.Shape.TheVariants as shapes
+use Rattle.oth_book.specs.declared.text.shape.Fit.TheVariants.{Whole, Cut, Misplaced}
 use Rattle.oth_book.specs.Shape.{header, fit_of}
 use Rattle.oth_book.specs.Text.{entry_line, end_line, lines, IsClaim, AreClaims, IsBookText}
 use Rattle.oth_book.specs.Fault.{last_of, IsNext, IsLineFault, IsHeaderFault, IsBookFault, Begins}

@@ -14,8 +14,8 @@ use Rattle.oth_rules.specs.declared.scoring.Scoring.{Scoring}
 use Rattle.oth_rules.specs.declared.scoring.Scoring.TheVariants.{Winner, Discs}
 use Rattle.oth_book.specs.declared.version.Version.{Version}
 use Rattle.oth_book.specs.declared.version.Version.TheVariants.{One, Two}
-use Rattle.oth_book.specs.declared.shape.Shape.TheVariants.{Header}
-use Rattle.oth_book.specs.declared.shape.Fit.TheVariants.{Whole}
+use Rattle.oth_book.specs.declared.text.shape.Shape.TheVariants.{Header}
+use Rattle.oth_book.specs.declared.text.shape.Fit.TheVariants.{Whole}
 use Rattle.oth_book.specs.Order.{cells, mark, board_cmp, IsBelow}
 use Rattle.oth_book.specs.Numeral.{numeral}
 use Rattle.oth_book.specs.Shape.{header, header_len, bounds_len, is_cell, fit_of, IsWhole}

@@ -2,9 +2,9 @@
 use Rattle.std.proofs.Common.{◌≡◌, ℕ, zero, suc, ◌+◌, ◌-◌, ◌<◌, ◌≤◌, Bool, true, false, cond, List, [], ◌∷◌, length, drop, get_or}
 use Rattle.std.proofs.Common.{arith, sym, ap, ◌∙◌, refl, add-one, add-zero, zero-add, drop-cons, ◌⊎◌, inl, inr}
 use Rattle.std.proofs.lemmas.List.{drop_all}
-use Rattle.oth_book.specs.declared.shape.Shape.{Shape}
-use Rattle.oth_book.specs.declared.shape.Fit.{Fit}
-use Rattle.oth_book.specs.declared.shape.Fit.TheVariants.{Whole, Cut, Misplaced}
+use Rattle.oth_book.specs.declared.text.shape.Shape.{Shape}
+use Rattle.oth_book.specs.declared.text.shape.Fit.{Fit}
+use Rattle.oth_book.specs.declared.text.shape.Fit.TheVariants.{Whole, Cut, Misplaced}
 use Rattle.oth_book.specs.Shape.{fit, fit_of, allows, shape_len, IsWhole}
 
 cut_whole : Cut ≡ Whole → ⊥

@@ -10,9 +10,9 @@ use Rattle.oth_book.specs.declared.version.Version.{Version}
 use Rattle.oth_book.specs.declared.claim.Claim.{Claim}
 use Rattle.oth_book.specs.declared.fault.BookFault.{BookFault}
 use Rattle.oth_book.specs.declared.fault.BookFault.TheVariants.{Header, Line, Order, Count, CutShort, Trailing, Memory}
-use Rattle.oth_book.specs.declared.shape.Shape.TheVariants as shapes
-use Rattle.oth_book.specs.declared.shape.Fit.{Fit}
-use Rattle.oth_book.specs.declared.shape.Fit.TheVariants.{Whole, Cut, Misplaced}
+use Rattle.oth_book.specs.declared.text.shape.Shape.TheVariants as shapes
+use Rattle.oth_book.specs.declared.text.shape.Fit.{Fit}
+use Rattle.oth_book.specs.declared.text.shape.Fit.TheVariants.{Whole, Cut, Misplaced}
 use Rattle.oth_book.specs.Order.{IsBelow}
 use Rattle.oth_book.specs.Shape.{header, is_cell, fit_of}
 use Rattle.oth_book.specs.Text.{entry_line, end_line, lines, IsClaim, AreClaims}

@@ -8,10 +8,10 @@ use Rattle.std.specs.Prelude.{if◌then◌else◌, nat_lt, nat_le, List, [], ◌
 use Rattle.oth_rules.specs.declared.scoring.Scoring.TheVariants.{Winner, Discs}
 use Rattle.oth_book.specs.declared.version.Version.{Version}
 use Rattle.oth_book.specs.declared.version.Version.TheVariants.{One, Two}
-use Rattle.oth_book.specs.declared.shape.Shape.{Shape}
-use Rattle.oth_book.specs.declared.shape.Shape.TheVariants.{Header, Entry, End}
-use Rattle.oth_book.specs.declared.shape.Fit.{Fit}
-use Rattle.oth_book.specs.declared.shape.Fit.TheVariants.{Whole, Cut, Misplaced}
+use Rattle.oth_book.specs.declared.text.shape.Shape.{Shape}
+use Rattle.oth_book.specs.declared.text.shape.Shape.TheVariants.{Header, Entry, End}
+use Rattle.oth_book.specs.declared.text.shape.Fit.{Fit}
+use Rattle.oth_book.specs.declared.text.shape.Fit.TheVariants.{Whole, Cut, Misplaced}
 
 unfoldable pub header : Version → List ℕ
 header One = codes "OBOOK1" ++ 10 ∷ []

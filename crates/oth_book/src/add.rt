@@ -7,7 +7,7 @@ ghost use Rattle.oth_book.specs.Add.{HasNoRoom};
 ghost use Rattle.oth_book.specs.Numbers.{refusal_number};
 
 use crate::claim::Claim;
-use crate::read::MAX_ENTRIES;
+use crate::text::MAX_ENTRIES;
 use thiserror::Error;
 
 /// What an addition did.

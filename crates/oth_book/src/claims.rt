@@ -7,7 +7,7 @@ ghost use Rattle.oth_book.specs.declared.fault.BookFault.TheVariants as faults;
 
 use crate::claim::Claim;
 use crate::fault::BookFault;
-use crate::read::{check_entries, read_entries, read_header};
+use crate::text::{check_entries, read_entries, read_header};
 use crate::version::Version;
 use oth_rules::Scoring;
 use std::alloc::Global;

@@ -1,9 +1,8 @@
 //! Books of solved positions.
 //!
-//! From below: `order` (boards by their cells), `numeral` (numbers of fixed width), `shape` (which byte is allowed
-//! where), `cells`, `line` (one line), `read` (the lines in turn), `claims`, `verifying` (a claim is tested by an
-//! `Answer` of its board where one is known, and else by a search), `book`, `add`, `writing`, `laws`; and the plain
-//! types `claim`, `version`, `fault` (why a text is no book's) and `wrong` (why an entry isn't true).
+//! From below: `order` (boards by their cells), `text` (read and written), `claims`, `verifying` (a claim is tested by
+//! an `Answer` of its board where one is known, and else by a search), `book`, `add`, `laws`; and the plain types
+//! `claim`, `version`, `fault` (why a text is no book's) and `wrong` (why an entry isn't true).
 //!
 //! The text is defined once, over a `Version` (`One`, or `Two` with the scoring): `header`, `bounds_text` and
 //! `entry_line` take it; the end line, the order and the count don't. Faults are defined from the left by what the
@@ -14,19 +13,14 @@
 
 mod add;
 mod book;
-mod cells;
 mod claim;
 mod claims;
 mod fault;
 pub mod laws;
-mod line;
-mod numeral;
 mod order;
-mod read;
-mod shape;
+mod text;
 mod verifying;
 mod version;
-mod writing;
 mod wrong;
 
 pub use add::{AddError, Added};
@@ -34,7 +28,7 @@ pub use book::Book;
 pub use claim::Claim;
 pub use claims::{Claims, check_text, read_claims};
 pub use fault::BookFault;
+pub use text::{WriteFault, write};
 pub use verifying::{verify, verify_knowing};
 pub use version::Version;
-pub use writing::{WriteFault, write};
 pub use wrong::{Cause, Wrong};

@@ -11,7 +11,7 @@ use Rattle.oth_rules.specs.Line.{outflanks, is_next, is_on_line, Rises, rising, 
 use Rattle.oth_rules.specs.Symmetry.{image, map_word, map_square, unmap_square, turned_if}
 use Rattle.oth_rules.specs.HalfTurn.{half_turned, twin}
 use Rattle.oth_rules.specs.declared.masks.TheConstants.{INNER}
-use Rattle.oth_rules.specs.declared.twin_rays.TheConstants.{TWIN_RAYS, TWIN_SQUARES}
+use Rattle.oth_rules.specs.declared.tables.twin_rays.TheConstants.{TWIN_RAYS, TWIN_SQUARES}
 use Rattle.oth_rules.proofs.Bits.{has-and, has-or, has-word_of, is_word_of, word_of-same, word_of-lt}
 use Rattle.oth_rules.proofs.Canonical.{image-words}
 use Rattle.oth_rules.proofs.Carried.{along-moved, outflanks-moved, empty-moved}

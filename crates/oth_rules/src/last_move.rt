@@ -6,10 +6,10 @@ ghost use Rattle.std.specs.Prelude.{◌≡◌, ◌<◌, ◌≤◌, ◌↔◌, fa
 ghost use Rattle.oth_rules.specs.Square.{squares};
 ghost use Rattle.oth_rules.specs.Move.{is_flipped, is_legal};
 ghost use Rattle.oth_rules.specs.LastMove.{IsLast, gathered};
-ghost use Rattle.oth_rules.specs.declared.line_tables.TheConstants.{LINE_COUNTS};
+ghost use Rattle.oth_rules.specs.declared.tables.line_tables.TheConstants.{LINE_COUNTS};
 
 use crate::board::Board;
-use crate::line_tables::LINE_COUNTS;
+use crate::tables::LINE_COUNTS;
 use crate::square::Square;
 
 impl Board {

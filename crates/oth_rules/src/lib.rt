@@ -11,15 +11,14 @@ mod direction;
 mod lanes;
 mod last_move;
 pub mod laws;
-mod line_tables;
 mod masks;
 pub mod samples;
 mod scoring;
 mod square;
 mod stable;
 mod sym;
+mod tables;
 mod twin;
-mod twin_rays;
 
 pub use board::{Board, Overlap};
 pub use direction::NOT_H;

@@ -2,7 +2,7 @@
 ghost use Rattle.std.specs.Prelude.{◌≡◌, ◌≢◌, ◌<◌, ◌↔◌, ◌^◌, ℕ, true, false, IsSome, IfSome, slice_index_or, []};
 ghost use Rattle.oth_rules.specs.Square.{has};
 
-use crate::line_tables::{LINE_FACTORS, LINE_MASKS};
+use crate::tables::{LINE_FACTORS, LINE_MASKS};
 use crate::masks::{FALLING, RISING};
 use std::marker::Model;
 

@@ -25,7 +25,7 @@ ghost use Rattle.oth_rules.specs.HalfTurn.{half_turned, twin};
 use crate::board::Board;
 use crate::masks::INNER;
 use crate::square::Square;
-use crate::twin_rays::{TWIN_RAYS, TWIN_SQUARES};
+use crate::tables::{TWIN_RAYS, TWIN_SQUARES};
 use std::marker::Model;
 use std::simd::prelude::*;
 
