@@ -1,13 +1,15 @@
 """Runs the built program on boards of which one takes seconds, and looks at the line of progress.
 
 On a terminal that line has to come, show how far the search is, be renewed in place, and be gone when the answer is written; where
-standard error is no terminal not a byte of it may come.
+standard error is no terminal not a byte of it may come. A terminal that takes nothing holds no answer up that goes into a file.
 """
+import contextlib
 import os
 import pty
 import re
 import select
 import subprocess
+import tempfile
 import time
 
 from running import ran
@@ -128,6 +130,43 @@ def scoring(program):
     yield "the line of progress comes by scores, and tells of its moves", wrong or left
 
 
+def full_terminal():
+    """Makes a terminal that takes no further byte until it is read: both of its ends."""
+    terminal, end = pty.openpty()
+    os.set_blocking(end, False)
+    with contextlib.suppress(BlockingIOError):
+        while True:
+            os.write(end, b"-" * MOST)
+    os.set_blocking(end, True)
+    return terminal, end
+
+
+def written_in_time(answers, started, wanted):
+    """Tells what the run wrote into the file once that is all that is wanted, or the time is over."""
+    end = time.monotonic() + PATIENCE
+    wrote = b""
+    while wrote != wanted and started.poll() is None and time.monotonic() < end:
+        time.sleep(0.1)
+        wrote = os.pread(answers.fileno(), MOST, 0)
+    return wrote
+
+
+def standing_still(program, wanted):
+    """Yields a step: the answers go into a file while the terminal of the line takes nothing."""
+    terminal, end = full_terminal()
+    with tempfile.TemporaryFile() as answers:
+        words = [program, "solve", "--cells", "262144"]
+        with subprocess.Popen(words, stdin=subprocess.PIPE, stdout=answers, stderr=end) as started:
+            started.stdin.write(BOARDS)
+            started.stdin.close()
+            os.close(end)
+            wrote = written_in_time(answers, started, wanted)
+            read_all(terminal, started)
+    os.close(terminal)
+    wrong = None if (started.returncode, wrote) == (0, wanted) else f"status {started.returncode}, wrote {wrote!r}"
+    yield "a terminal that takes nothing: the answers are in their file before it is read", wrong
+
+
 def steps(program):
     """Yields a step for each way to run it: its name, and what is wrong with it, if anything."""
     words = [program, "solve", "--workers", "4", "--cells", "262144"]
@@ -146,3 +185,4 @@ def steps(program):
     wrong = None if (status, said.left()) == (0, [*answers, ""]) else f"status {status}, left {said.left()!r}"
     yield "the line of progress comes by one worker, and leaves only the answers on their terminal", wrong or wrong_line(said, score)
     yield from scoring(program)
+    yield from standing_still(program, plain.wrote)

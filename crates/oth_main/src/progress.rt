@@ -283,8 +283,8 @@ fn write_move<W: fmt::Write>(
         ", {column}{row}: {} of {replies} replies settled",
         search.settled
     )?;
-    match search.known_after(board, square) {
-        Some(known) => write_bounds(f, known.interval.turned()),
+    match search.known_for_mover(board, square) {
+        Some(known) => write_bounds(f, known),
         None => Ok(()),
     }
 }

@@ -6,7 +6,7 @@ ghost use denote.Param.Send.{IsSend, IsSync};
 use crate::progress::{Progress, Shown, Since};
 use oth_text::{Failed, Sink, write_all};
 use std::alloc::Global;
-use std::sync::{Mutex, Wait};
+use std::sync::{Mutex, MutexGuard, Wait};
 use std::thread::{Threads, join_mut};
 use std::time::Clock;
 
@@ -144,22 +144,29 @@ impl<E: Sink + Send> Watch<E> {
     }
 }
 
-/// The output of a run that is watched: before each write the line is taken away.
+/// The output of a run that is watched. Where it goes to a terminal, the line is taken away before each write; else no
+/// write waits for the terminal that shows the line.
 #[derive(Drop)]
 pub struct Report<'w, R, W, E> {
     rt: &'w R,
     watch: &'w Watch<E>,
     writer: W,
+    is_terminal: bool,
 }
 
 impl<'w, R: Wait, W: Sink, E: Sink> Report<'w, R, W, E> {
-    /// A sink that hands all on to the writer.
-    pub fn of(rt: &'w R, watch: &'w Watch<E>, writer: W) -> Self
+    /// A sink that hands all on to the writer, which is a terminal or not.
+    pub fn of(rt: &'w R, watch: &'w Watch<E>, writer: W, is_terminal: bool) -> Self
         ensures contents { ⟦<Report<'w, R, W, E> as Sink>⟧.contents result ≡ W.contents writer }
         ensures failed { ⟦<Report<'w, R, W, E> as Sink>⟧.failed result ≡ W.failed writer }
         ensures flushed { ⟦<Report<'w, R, W, E> as Sink>⟧.flushed result ≡ W.flushed writer }
     {
-        Report { rt, watch, writer }
+        Report {
+            rt,
+            watch,
+            writer,
+            is_terminal,
+        }
     }
 
     /// The runtime.
@@ -175,6 +182,18 @@ impl<'w, R: Wait, W: Sink, E: Sink> Report<'w, R, W, E> {
     }
 }
 
+impl<'w, R: Wait, W: Sink, E: Sink> Report<'w, R, W, E> {
+    // Takes the line away where the writer writes to a terminal, and keeps the screen.
+    fn cleared(&self) -> Option<MutexGuard<'w, Screen<E>>> {
+        if !self.is_terminal {
+            return None;
+        }
+        let mut screen = self.watch.screen.lock(self.rt);
+        screen.clear();
+        Some(screen)
+    }
+}
+
 impl<'w, R: Wait, W: Sink, E: Sink> Sink for Report<'w, R, W, E> {
     ghost contents = { λ s. W.contents s.writer };
 
@@ -186,8 +205,7 @@ impl<'w, R: Wait, W: Sink, E: Sink> Sink for Report<'w, R, W, E> {
         if !self.watch.progress.is_shown() {
             return self.writer.write(buffer);
         }
-        let mut screen = self.watch.screen.lock(self.rt);
-        screen.clear();
+        let _screen = self.cleared();
         let written = self.writer.write(buffer);
         if let Ok(count) = written {
             let lines = lines_in(buffer, count);

@@ -1,10 +1,13 @@
 //! How far the search of a root is.
 
-ghost use Rattle.std.specs.Prelude.{◌≡◌, IfSome, IsTrue};
+ghost use Rattle.std.specs.Prelude.{◌≡◌, IfSome, IsTrue, neg_ℤ};
 ghost use Rattle.oth_rules.specs.Move.{after, is_legal};
+ghost use Rattle.oth_rules.specs.Score.{score_of};
+ghost use Rattle.oth_rules.specs.Value.{value};
+ghost use Rattle.oth_search.specs.Bounds.Interval.{Encloses};
 
 use oth_rules::{Board, Square};
-use oth_search::Solved;
+use oth_search::{Interval, Solved};
 
 /// What is known of a root under search, and how many of its moves need no further search.
 #[derive(Clone, Copy)]
@@ -36,6 +39,16 @@ impl UnderSearch {
     {
         let child = board.play(square)?;
         self.known_of(&child)
+    }
+
+    /// What the mover's score of a move lies between, where the root is the board after the move, or comes after a
+    /// forced pass there.
+    pub fn known_for_mover(&self, board: &Board, square: Square) -> Option<Interval>
+        ensures encloses { IfSome result (λ known. Encloses known.lower known.upper
+            (neg_ℤ (value (score_of self.now.root.scoring) (after board.now square)))) }
+    {
+        let known = self.known_after(board, square)?;
+        Some(known.interval.turned())
     }
 
     /// The move of the board after which the root comes, or comes after a forced pass.

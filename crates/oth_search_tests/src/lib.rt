@@ -3,16 +3,4 @@
 #![tactic(auto)]
 
 #[cfg(test)]
-mod combining_tests;
-#[cfg(test)]
-mod keeping_tests;
-#[cfg(test)]
-mod limited_tests;
-#[cfg(test)]
-mod root_tests;
-#[cfg(test)]
-mod scores_tests;
-#[cfg(test)]
-mod speed_tests;
-#[cfg(test)]
 mod tests;

@@ -1,6 +1,13 @@
 //! The worked boards, and what no clause says of bounds, words and memories.
 ghost use Rattle.std.specs.Prelude.{◌≡◌, IfSome};
 
+mod combining;
+mod keeping;
+mod limited;
+mod root;
+mod scores;
+mod speed;
+
 use oth_rules::samples::after_least_moves;
 use oth_rules::{Board, Scoring};
 use oth_search::{

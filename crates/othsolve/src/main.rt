@@ -63,7 +63,8 @@ fn main(rt: HostRuntime) -> ExitCode {
         }
     };
     let watch = Watch::on(ToWrite::new(rt.stderr()), errors.is_terminal);
-    let mut report = Report::of(&rt, &watch, ToWrite::new(rt.stdout()));
+    let shares_terminal = rt.stdout().is_terminal();
+    let mut report = Report::of(&rt, &watch, ToWrite::new(rt.stdout()), shares_terminal);
     let sitter = Sitter {
         watch: &watch,
         types: rt.stdin().is_terminal(),

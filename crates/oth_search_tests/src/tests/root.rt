@@ -1,7 +1,7 @@
 //! What no clause says of a root: what is asked, and what is not.
 ghost use Rattle.std.specs.Prelude.{◌≡◌};
 
-use crate::tests::board_of;
+use super::board_of;
 use oth_rules::{Board, Scoring};
 use oth_search::{
     Cells, Entry, NoCells, RootMoves, Solved, Unobserved, settle_moves, solve_alone, solve_moves,

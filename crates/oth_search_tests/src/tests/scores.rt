@@ -1,7 +1,7 @@
 //! The scores of all moves of worked boards.
 ghost use Rattle.std.specs.Prelude.{◌<◌};
 
-use crate::tests::board_of;
+use super::board_of;
 use oth_rules::samples::after_least_moves;
 use oth_rules::{Board, Scoring, Square};
 use oth_search::{Kind, NoCells, ScoredMove, scores_with, solve_with};

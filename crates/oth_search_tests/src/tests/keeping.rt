@@ -1,7 +1,7 @@
 //! What no clause says of look-ups and stores, and how many boards a search visits.
 ghost use Rattle.std.specs.Prelude.{◌≡◌, IfSome};
 
-use crate::tests::{board_of, check_bounds};
+use super::{board_of, check_bounds};
 use oth_rules::samples::{after_least_moves, board as sample};
 use oth_rules::{Board, Scoring};
 use oth_search::{Cells, Entry, LocalTable, NoCells, Solved, search, solve_with};

@@ -1,6 +1,6 @@
 //! Searches that are ended before they are done.
 
-use crate::tests::board_of;
+use super::board_of;
 use oth_rules::{Board, Scoring};
 use oth_search::{
     Cells, Interval, Limited, NoCells, Solved, Stopped, WithLocal, solve_alone, solve_until,

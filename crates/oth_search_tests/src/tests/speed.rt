@@ -1,8 +1,8 @@
 //! Parts of the search that affect speed only, and of which no contract speaks. The boards are of random games. Each of
 //! 13 empty squares is the one of 24 on which the part in question makes the greatest difference.
 
-use crate::keeping_tests::Counted;
-use crate::tests::board_of;
+use super::board_of;
+use super::keeping::Counted;
 use oth_rules::{Board, Scoring, Square};
 use oth_search::{
     Cells, Entry, LocalTable, NoCells, RootMoves, Solved, Unobserved, first_threshold, search,
