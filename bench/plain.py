@@ -14,6 +14,7 @@ TREE may be an earlier commit, as `git worktree add /tmp/before COMMIT` lays it 
 it has. Where it has no oth_walk, as commit d59b2f3, the copy counts no boards. `bench/beside.py` compares such copies.
 
     OUT/plain WORKERS CELLS FILE [RUNS]    as `OUT/plain 1,2,4 65536 bench/game-16.txt 5`; see bench/plain/counting.rs
+    OUT/plain played SEED COUNT EMPTIES    makes boards of good play; see bench/plain/played.rs
 """
 import argparse
 import os
@@ -24,8 +25,16 @@ import sys
 
 ROOT = pathlib.Path(__file__).resolve().parent.parent
 CRATES = ["oth_history", "oth_rules", "oth_search", "oth_table", "oth_pieces", "oth_walk", "oth_pool"]
-LIBRARIES = ["shim", "arrayvec", "atomic_table", "crossbeam_deque", "oth_book", "counting"]
+LIBRARIES = ["shim", "arrayvec", "atomic_table", "crossbeam_deque", "oth_book", "counting", "played"]
 FROM_SHIM = r"std::(?:(?:alloc|thread)::|(?=thread;))"
+
+MAIN = """fn main() {
+    match std::env::args().nth(1).as_deref() {
+        Some("played") => played::main(),
+        _ => counting::main(),
+    }
+}
+"""
 
 # Where the copy counts: a file, a line (or a part of one) that stands in it once, and what takes its place.
 COUNTS = [
@@ -77,6 +86,8 @@ def plain(text, crate, crates):
     text = re.sub(r"^use (?:std::marker::Model|thiserror::Error);\n", "", text, flags=re.M)
     # What the kit's prelude of vectors has, and Rust's has not.
     text = text.replace("use std::simd::prelude::*;\n", "use std::simd::{Select, ToBytes};\nuse std::simd::prelude::*;\n")
+    # What makes boards looks into the rooms of the search.
+    text = re.sub(r"^mod ", "pub mod ", text, flags=re.M)
     text = re.sub(r"\bcrate::", f"crate::{crate}::", text)
     text = re.sub(rf"^use {FROM_SHIM}", "use crate::shim::", text, flags=re.M)
     names = "|".join(crates + LIBRARIES)
@@ -109,7 +120,7 @@ def copy_of(tree):
         files[f"{library}.rs"] = (ROOT / "bench" / "plain" / f"{library}.rs").read_text(encoding="utf-8")
     modules = "".join(f"mod {name};\n" for name in LIBRARIES + crates)
     files["main.rs"] = ("#![feature(portable_simd)]\n#![allow(dead_code, unused)]\n"
-                        + modules + "\nfn main() {\n    counting::main();\n}\n")
+                        + modules + "\n" + MAIN)
     return files
 
 

@@ -153,8 +153,14 @@ pub(crate) fn large_last_below(empties: u8) -> usize
 /// Empty squares of the root: from here on a selective search gives the first guess. Below it the search starts at 0.
 pub(crate) const FEWEST_EMPTIES_GUESSED: u8 = 12;
 
-/// Empty squares: up to here the selective search goes through all moves.
-pub(crate) const MOST_EMPTIES_IN_FULL: u8 = 6;
+/// Empty squares, by those of the board after a reply: up to here the selective search goes through all moves. Roots of
+/// 22 and more are searched for so long that a nearer guess saves more than it takes.
+pub(crate) fn most_empties_in_full(empties: u8) -> u8 {
+    match empties {
+        0..=19 => 6,
+        _ => 10,
+    }
+}
 
 /// Moves that it tries of the board after a reply, if at least `MANY_PLIES` plies follow.
 pub(crate) const WIDTH_AT_FIRST: usize = 3;

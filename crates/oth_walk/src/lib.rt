@@ -19,7 +19,6 @@ mod reply;
 mod root_bound;
 mod shared;
 mod tuning;
-mod window;
 mod worker;
 
 pub use access::{WorkerCells, worker_cells};

@@ -25,7 +25,6 @@ use crate::tuning::{
     CHILDREN_TOGETHER, FEW_TOGETHER, FEWEST_EMPTIES_GUESSED_TOGETHER, KEPT_ORDER_MIN_EMPTIES,
     SMALL_NODE_MARGIN,
 };
-use crate::window::shared_threshold;
 use arrayvec::ArrayVec;
 use oth_rules::{Board, Scoring, Square};
 use oth_search::{
@@ -194,11 +193,12 @@ impl<'w, C: Cells> Observer<C> for Peers<'w> {
     }
 
     fn next(&mut self, bounds: Interval, start: i8, pace: Pace) -> i8 {
-        if self.guesses() {
-            shared_threshold(bounds, start)
+        let pace = if self.guesses() {
+            Pace::by_bounds(bounds, start)
         } else {
-            pace.onward(bounds, start)
-        }
+            pace
+        };
+        pace.onward(bounds, start)
     }
 
     fn decide(&mut self, known: &RootMove, alpha: i8, cells: &mut C) -> Solved {

@@ -67,6 +67,3 @@ pub(crate) const LAST_FINAL_ROUND: u32 = FINAL_ROUNDS - 1;
 
 /// Root moves that all workers search together then, before any is left to another one.
 pub(crate) const MOVES_TOGETHER: u64 = 3;
-
-/// Discs: a first guess that is further off than this lets the next null window step further.
-pub(crate) const GUESS_SLACK: i8 = 4;

@@ -11,8 +11,8 @@ use crate::bounds::{Cells, Interval, Solved, greater, lesser, without};
 use crate::nws::{Node, nws_node};
 use crate::ordering::{Child, next_child, ranked, try_again};
 use crate::tuning::{
-    FEWEST_EMPTIES_GUESS_LOOKED, GUESS_ROUNDS, MANY_PLIES, MOST_EMPTIES_GUESS_LOOKED,
-    MOST_EMPTIES_IN_FULL, MOST_RANKED, TURNS, WIDTH, WIDTH_AT_FIRST,
+    FEWEST_EMPTIES_GUESS_LOOKED, GUESS_ROUNDS, MANY_PLIES, MOST_EMPTIES_GUESS_LOOKED, MOST_RANKED,
+    TURNS, WIDTH, WIDTH_AT_FIRST, most_empties_in_full,
 };
 use arrayvec::ArrayVec;
 use oth_rules::{Board, Scoring};
@@ -273,7 +273,8 @@ impl Sight {
     // The sight from a board after a reply: as many plies as lead to boards of few empty squares, which are searched in
     // full.
     fn after_reply(board: &Board) -> Sight {
-        let plies = board.empties().saturating_sub(MOST_EMPTIES_IN_FULL);
+        let empties = board.empties();
+        let plies = empties.saturating_sub(most_empties_in_full(empties));
         Sight {
             plies,
             width: if plies >= MANY_PLIES {

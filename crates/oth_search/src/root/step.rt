@@ -30,6 +30,26 @@ impl Pace {
         Pace { step: 2 * step + 1 }
     }
 
+    /// The pace of workers who share what they find, and ask at one threshold while they know one pair of bounds: 1
+    /// once both bounds are known, and until then 1 more than the value has turned out to be off `start`.
+    pub fn by_bounds(bounds: Interval, start: i8) -> Pace {
+        let Interval { lower, upper } = bounds;
+        if upper == 64 {
+            return Pace::beyond(lower.saturating_sub(start));
+        }
+        if lower == -64 {
+            return Pace::beyond(start.saturating_sub(upper));
+        }
+        Pace::new()
+    }
+
+    // A step of 1 more than `off`, from 1 up to the widest.
+    fn beyond(off: i8) -> Pace {
+        Pace {
+            step: lesser(WIDEST_STEP - 1, greater(0, off)) + 1,
+        }
+    }
+
     /// The threshold that is a step below the upper bound, or the lower bound where that is nearer.
     pub fn below(self, bounds: Interval) -> i8
         ensures low { bounds.lower ≤ℤ result }
