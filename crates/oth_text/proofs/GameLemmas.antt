@@ -4,14 +4,13 @@ use Rattle.std.proofs.lemmas.Bool.{cases_lt, eq-eqb, ne_eqb}
 use Rattle.std.proofs.lemmas.List.{drop_all, drop_at, get_or-drop, get_or_append_left, get_or_at, length-append, length-take-le, take-append-drop, take_at}
 use Rattle.oth_text.specs.BoardLine.{reading}
 use Rattle.oth_text.specs.Transcript.{is_nil, played, transcript_reading_from, with_forced_pass}
-use Rattle.oth_text.specs.Game.{IsGame, IsGameFault, board_part, game_reading, has_moves, moves_part, of_moves, played_on}
+use Rattle.oth_text.specs.Game.{IsGame, board_part, game_reading, has_moves, moves_part, of_moves, played_on}
 use Rattle.oth_text.specs.declared.position.Position.{Position}
 use Rattle.oth_text.specs.declared.fault.LineFault.{LineFault}
 use Rattle.oth_text.specs.declared.fault.TranscriptFault.{TranscriptFault}
-use Rattle.oth_text.specs.declared.fault.GameFault.{GameFault}
-use Rattle.oth_text.specs.declared.fault.GameFault.TheVariants.{Board, Moves}
-use Rattle.oth_text.proofs.ReadingLemmas.{reading_fault, reading_line}
-use Rattle.oth_text.proofs.TranscriptLemmas.{reading_transcript, reading_transcript_fault}
+use Rattle.oth_text.specs.declared.fault.GameFault.TheVariants.{Board}
+use Rattle.oth_text.proofs.ReadingLemmas.{reading_line}
+use Rattle.oth_text.proofs.TranscriptLemmas.{reading_transcript}
 
 -- ---- the parts
 

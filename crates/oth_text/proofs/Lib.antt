@@ -1,3 +1,4 @@
+pub mod AnalysisLemmas
 pub mod DeviceLemmas
 pub mod DiscLemmas
 pub mod FaultLemmas

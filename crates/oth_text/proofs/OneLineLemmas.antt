@@ -1,6 +1,6 @@
 -- The lines that are printed carry no byte 10.
 use Rattle.std.proofs.Common.{◌≡◌, ◌≢◌, ◌+◌, ◌%◌, ◌/◌, ◌^◌, ◌<◌, ◌==◌, ℕ, suc, ℤ, pos, negsuc, List, [], ◌∷◌, ◌++◌, Bool, true, false, not, refl, sym, ◌∙◌, arith, subst, decimal, if◌then◌else◌}
-use Rattle.std.specs.Prelude.{map}
+use Rattle.std.specs.Prelude.{map, codes, Option, Some, None}
 use Rattle.std.specs.List.{AllByRecursion, list_all}
 use Rattle.std.proofs.lemmas.Bool.{eq-eqb}
 use Rattle.std.proofs.lemmas.List.Elements.{All-append, All-cons, All-map}
@@ -23,6 +23,9 @@ use Rattle.oth_text.specs.declared.position.Position.{Position}
 use Rattle.oth_text.specs.BoardLine.{board_line, cell_byte, side_byte}
 use Rattle.oth_search.specs.declared.root.scores.ScoredMove.{ScoredMove}
 use Rattle.oth_text.proofs.RankingLemmas.{each_ranked}
+use Rattle.oth_text.specs.Analysis.{disc_number, lost_text, name_played, score_of_turn, turn_line}
+use Rattle.oth_text.specs.declared.analysis.Turn.{Turn}
+use Rattle.oth_text.proofs.AnalysisLemmas.{turn_score-range}
 use Rattle.oth_text.specs.OneLine.{IsOneLine}
 use Rattle.oth_text.specs.Ranking.{best_first, scored_move, scored_moves, scored_name, scored_names, scores_line_of}
 use Rattle.oth_text.specs.Report.{best_squares, moves_line_of, moves_or_word, names, report_line_of, score_text, square_name}
@@ -130,3 +133,34 @@ scores_line-one line g b is = subst IsOneLine (sym is) (go (can_move b))
     go : (can : Bool) → IsOneLine (if can then scored_names (best_first (scored_moves g b)) else report_line_of g b)
     go true = scored_names-one (best_first (scored_moves g b)) (each_ranked (λ m. IsScore m.score) [] (scored_moves g b) tt (each_scored g b (legal_squares b)))
     go false = report_line-one (report_line_of g b) g b refl
+
+-- ---- turns
+
+played-one : (played : Option ℕ) → IsOneLine (name_played played)
+played-one (Some s) = name s
+played-one None = by_test (name_played None) refl
+
+pub turn_line-one : (line : List ℕ) (n : ℕ) (g : Scoring) (t : Turn) → n < 2 ^ 64 → line ≡ turn_line n g t → IsOneLine line
+unfolding turn_line
+turn_line-one line n g t fits is =
+    let disc : List ℕ = decimal n ++ 32 ∷ decimal (disc_number t) in
+    let side : List ℕ = 32 ∷ side_byte t.before.mover ∷ 32 ∷ name_played t.played in
+    let score : List ℕ = 32 ∷ score_text (score_of_turn g t) in
+    let best : List ℕ = 32 ∷ report_line_of g t.before.board in
+    let is_disc : IsOneLine disc =
+    IsOneLine-append (decimal n) (32 ∷ decimal (disc_number t)) (IsOneLine-decimal n fits) (cons 32 (decimal (disc_number t)) (omega arith) (IsOneLine-decimal (disc_number t) (omega arith))) in
+    let is_side : IsOneLine side = cons 32 (side_byte t.before.mover ∷ 32 ∷ name_played t.played) (omega arith)
+    (cons (side_byte t.before.mover) (32 ∷ name_played t.played) (side_is t.before.mover) (cons 32 (name_played t.played) (omega arith) (played-one t.played))) in
+    let is_score : IsOneLine score = cons 32 (score_text (score_of_turn g t)) (omega arith) (score-one (score_of_turn g t) (turn_score-range g t)) in
+    let is_best : IsOneLine best = cons 32 (report_line_of g t.before.board) (omega arith) (report_line-one (report_line_of g t.before.board) g t.before.board refl) in
+    subst IsOneLine (sym is) (IsOneLine-append (disc ++ side ++ score) best (IsOneLine-append (disc ++ side) score (IsOneLine-append disc side is_disc is_side) is_score) is_best)
+
+pub lost_text-one : (line : List ℕ) (n black white : ℕ) → n < 2 ^ 64 → black < 2 ^ 64 → white < 2 ^ 64 → line ≡ lost_text n black white → IsOneLine line
+lost_text-one line n black white fits few fewer is =
+    let first : IsOneLine (decimal n ++ codes " lost X ") = IsOneLine-append (decimal n) (codes " lost X ") (IsOneLine-decimal n fits) (by_test (codes " lost X ") refl) in
+    let second = IsOneLine-append (decimal n ++ codes " lost X ") (decimal black) first (IsOneLine-decimal black few) in
+    let third = IsOneLine-append (decimal n ++ codes " lost X " ++ decimal black) (codes " O ") second (by_test (codes " O ") refl) in
+    subst IsOneLine (sym is) (IsOneLine-append (decimal n ++ codes " lost X " ++ decimal black ++ codes " O ") (decimal white) third (IsOneLine-decimal white fewer))
+
+pub game_line-one : (line : List ℕ) (n : ℕ) (text : List ℕ) → n < 2 ^ 64 → IsOneLine text → line ≡ decimal n ++ 32 ∷ text → IsOneLine line
+game_line-one line n text fits one is = subst IsOneLine (sym is) (IsOneLine-append (decimal n) (32 ∷ text) (IsOneLine-decimal n fits) (cons 32 text (omega arith) one))

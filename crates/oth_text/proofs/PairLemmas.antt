@@ -122,16 +122,19 @@ passes_on p b m w v is none passes is_other some turned =
     let other : can_move (pass p.board) ≡ true = ap can_move (sym passes) ∙ does_move b v is_other some in
     rw (cannot_move p.board w is none, other, passes, turned) refl
 
-pub legal_pair : (k : ℕ) (p q : Position) (b : Discs) (m : Side) (letter digit s : ℕ) → IsTrue (is_square_name letter digit) → s ≡ square_of letter digit → is_over p.board ≡ false
-    → IsTrue (is_legal p.board s)
-    → b ≡ after p.board s → m ≡ opponent p.mover → q ≡ with_forced_pass (record { board = b; mover = m }) → (pair_fault k p letter digit ≡ None) × (q ≡ after_move p (square_of letter digit))
-unfolding after_move
-legal_pair k p q b m letter digit s name is goes_on legal moved turned is_q =
+pub legal_pair : (k : ℕ) (p : Position) (b : Discs) (letter digit s : ℕ) → IsTrue (is_square_name letter digit) → s ≡ square_of letter digit → is_over p.board ≡ false
+    → IsTrue (is_legal p.board s) → b ≡ after p.board s
+    → (pair_fault k p letter digit ≡ None) × (s ≡ square_of letter digit) × (b ≡ after p.board (square_of letter digit))
+legal_pair k p b letter digit s name is goes_on legal moved =
     let here : is_legal p.board (square_of letter digit) ≡ true = rw is at legal in
-    (rw (name, goes_on, here) refl, is_q ∙ rw (moved, turned, is) refl)
+    (rw (name, goes_on, here) refl, is, moved ∙ ap (after p.board) is)
 
-pub fewer_empties : (p q b : Discs) (s : ℕ) → s < 64 → IsTrue (is_legal p s) → b ≡ after p s → empty_count q ≡ empty_count b → empty_count q + 1 ≡ empty_count p
-fewer_empties p q b s within legal is same =
+pub pair_moved : (p q : Position) (b : Discs) (m : Side) (s : ℕ) → b ≡ after p.board s → m ≡ opponent p.mover → q ≡ with_forced_pass (record { board = b; mover = m }) → q ≡ after_move p s
+unfolding after_move
+pair_moved p q b m s moved turned is_q = is_q ∙ rw (moved, turned) refl
+
+pub fewer_empties : (p b : Discs) (s : ℕ) → s < 64 → IsTrue (is_legal p s) → b ≡ after p s → empty_count b + 1 ≡ empty_count p
+fewer_empties p b s within legal is =
     let less = empty_count-after p s (record { on_board = within; legal = legal }) in
     let e = ap empty_count is in
     omega arith

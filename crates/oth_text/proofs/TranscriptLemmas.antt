@@ -70,6 +70,10 @@ pair_fault_none k p letter digit h = go (is_square_name letter digit) (is_over p
     go true true legal is_n is_l h = absurd (let bad : Some (Over k) ≡ None = h in cc)
     go false over legal is_n is_l h = absurd (let bad : Some (BadPair k) ≡ None = h in cc)
 
+-- a pair without a fault is a legal move
+pub pair_is_legal : (k : ℕ) (p : Position) (letter digit : ℕ) → pair_fault k p letter digit ≡ None → IsLegal p.board (square_of letter digit)
+pair_is_legal k p letter digit none = (pair_fault_none k p letter digit none).1
+
 pair_fault_some : (k : ℕ) (p : Position) (letter digit : ℕ) (f : TranscriptFault) → pair_fault k p letter digit ≡ Some f → IsPairFault k p letter digit f
 pair_fault_some k p letter digit f h = go (is_square_name letter digit) (is_over p.board) (is_legal p.board (square_of letter digit)) refl refl refl h
   where

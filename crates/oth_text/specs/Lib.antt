@@ -8,3 +8,4 @@ pub mod Ranking
 pub mod FaultLine
 pub mod Transcript
 pub mod Game
+pub mod Analysis

@@ -107,8 +107,8 @@ pub fn write_board(position: &Position) -> ArrayVec<u8, BOARD_LINE_LEN>
     line
 }
 
-// The byte of the side to move.
-fn side_byte(side: Side) -> u8
+/// The byte of the side to move.
+pub(crate) fn side_byte(side: Side) -> u8
     ensures { result ≡ side_byte side }
 {
     match side {

@@ -129,8 +129,8 @@ pub fn read_game(line: &[u8]) -> Result<Position, GameFault>
     }
 }
 
-// What should be the board line, and the moves.
-fn parts(line: &[u8]) -> (&[u8], &[u8])
+/// What should be the board line, and the moves.
+pub(crate) fn parts(line: &[u8]) -> (&[u8], &[u8])
     ensures board { result.0.now ≡ board_part line.now }
     ensures moves { result.1.now ≡ moves_part line.now }
 {

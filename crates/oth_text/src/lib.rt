@@ -8,6 +8,8 @@
 //! line from `Scores`.
 #![tactic(auto)]
 
+mod analysis;
+mod analysis_reader;
 mod board_line;
 mod board_reader;
 mod device;
@@ -20,6 +22,10 @@ mod ranking;
 mod report;
 mod transcript;
 
+pub use analysis::{
+    JudgedTurn, LOST_LINE_LEN, Losses, TURN_LINE_LEN, Turn, game_line, lost_line, turn_line,
+};
+pub use analysis_reader::{AnalysisReader, Turns};
 pub use board_line::{BOARD_LINE_LEN, read_board, read_solvable, write_board};
 pub use board_reader::BoardReader;
 pub use device::{Failed, FromRead, Sink, Source, ToWrite, write_all};

@@ -7,6 +7,7 @@
 
 ghost use Rattle.std.specs.Prelude.{◌≡◌, ◌+◌, ◌≤◌, ◌<◌, ◌↔◌, ℕ, List, [], ◌∷◌, ◌++◌, Option, None, Some, Ok, Err, IfOk};
 ghost use Rattle.std.specs.Prelude.{IfErr, SomeIff, IsTrue};
+ghost use Rattle.oth_rules.specs.Move.{after};
 ghost use Rattle.oth_rules.specs.Position.{empty_count};
 ghost use Rattle.oth_text.specs.declared.position.Position.{Position as PositionReached};
 ghost use Rattle.oth_text.specs.declared.fault.TranscriptFault.{TranscriptFault as Fault};
@@ -17,7 +18,7 @@ ghost use Rattle.oth_text.specs.Transcript.{transcript_reading, transcript_readi
 
 use crate::fault::TranscriptFault;
 use crate::position::Position;
-use oth_rules::Square;
+use oth_rules::{Board, Square};
 use std::marker::Model;
 
 /// A transcript that is read in parts, of any length and in a fixed space. It keeps the position that the pairs so far
@@ -165,6 +166,27 @@ fn after_pair(
     ensures fewer { IfOk result (λ p. empty_count p.board + 1 ≡ empty_count position.now.board) }
     ensures err { IfErr result (λ f. pair_fault k position.now letter digit ≡ Some f) }
 {
+    match move_of_pair(position, k, letter, digit) {
+        Ok((_, board)) => Ok(with_forced_pass(Position {
+            board,
+            mover: position.mover.opponent(),
+        })),
+        Err(fault) => Err(fault),
+    }
+}
+
+/// The square of pair `k` and the board after the move to it, or the pair's fault.
+pub(crate) fn move_of_pair(
+    position: &Position,
+    k: u8,
+    letter: u8,
+    digit: u8,
+) -> Result<(Square, Board), TranscriptFault>
+    ensures ok { IfOk result (λ m. (pair_fault k position.now letter digit ≡ None)
+        × (m.0 ≡ square_of letter digit) × (m.1 ≡ after position.now.board (square_of letter digit))) }
+    ensures fewer { IfOk result (λ m. empty_count m.1 + 1 ≡ empty_count position.now.board) }
+    ensures err { IfErr result (λ f. pair_fault k position.now letter digit ≡ Some f) }
+{
     let Some(square) = square_named(letter, digit) else {
         return Err(TranscriptFault::BadPair(k));
     };
@@ -172,10 +194,7 @@ fn after_pair(
         return Err(TranscriptFault::Over(k));
     }
     match position.board.play(square) {
-        Some(board) => Ok(with_forced_pass(Position {
-            board,
-            mover: position.mover.opponent(),
-        })),
+        Some(board) => Ok((square, board)),
         None => Err(TranscriptFault::Illegal(k)),
     }
 }

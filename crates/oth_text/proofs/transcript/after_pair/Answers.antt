@@ -1,18 +1,11 @@
-use Rattle.std.proofs.Common.{sym, rules}
-use Rattle.oth_text.proofs.PairLemmas.{fewer_empties, legal_pair}
+use Rattle.std.proofs.Common.{◌+◌, ◌∙◌, ap}
+use Rattle.oth_text.proofs.PairLemmas.{pair_moved}
 use Rattle.oth_text.proofs.transcript.after_pair.Goals as goal
 
-pub returns-in-Some-play-clause-ok : goal.returns-in-Some-play-clause-ok
-returns-in-Some-play-clause-ok c =
-    let named = c.in-Some.ensures in
-    let moved = c.in-Some-play.ensures.moved in
-    legal_pair c.args.k c.args.position.now _ _ _ c.args.letter c.args.digit c.in-Some.square named.0 named.1 (sym c.if-is_over.ensures) moved.0 moved.1 c.opponent.ensures
-    c.with_forced_pass.ensures.passed
+pub returns-in-Ok-clause-ok : goal.returns-in-Ok-clause-ok
+returns-in-Ok-clause-ok c =
+    let played = c.in-Ok.ensures.ok in
+    (played.0, pair_moved c.args.position.now _ _ _ _ played.2 c.opponent.ensures c.with_forced_pass.ensures.passed)
 
-pub returns-in-Some-play-clause-fewer : goal.returns-in-Some-play-clause-fewer
-returns-in-Some-play-clause-fewer c =
-    let moved = c.in-Some-play.ensures.moved in
-    fewer_empties c.args.position.now.board _ _ c.in-Some.square c.in-Some-play.ensures.valid moved.0 moved.1 c.with_forced_pass.ensures.empties
-
-pub returns-then-is_over-clause-err : goal.returns-then-is_over-clause-err
-returns-then-is_over-clause-err c = search rules
+pub returns-in-Ok-clause-fewer : goal.returns-in-Ok-clause-fewer
+returns-in-Ok-clause-fewer c = ap (λ n. n + 1) c.with_forced_pass.ensures.empties ∙ c.in-Ok.ensures.fewer
