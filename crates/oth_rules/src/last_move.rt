@@ -9,8 +9,8 @@ ghost use Rattle.oth_rules.specs.LastMove.{IsLast, gathered};
 ghost use Rattle.oth_rules.specs.declared.tables.line_tables.TheConstants.{LINE_COUNTS};
 
 use crate::board::Board;
-use crate::tables::LINE_COUNTS;
 use crate::square::Square;
+use crate::tables::LINE_COUNTS;
 
 impl Board {
     /// How many discs a move to the only empty square flips: 0 where the move is illegal.

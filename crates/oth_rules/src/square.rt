@@ -2,8 +2,8 @@
 ghost use Rattle.std.specs.Prelude.{◌≡◌, ◌≢◌, ◌<◌, ◌↔◌, ◌^◌, ℕ, true, false, IsSome, IfSome, slice_index_or, []};
 ghost use Rattle.oth_rules.specs.Square.{has};
 
-use crate::tables::{LINE_FACTORS, LINE_MASKS};
 use crate::masks::{FALLING, RISING};
+use crate::tables::{LINE_FACTORS, LINE_MASKS};
 use std::marker::Model;
 
 /// A square by its number 0 to 63, which is `8 * row + column`: a1 is 0, h1 is 7, a8 is 56, h8 is 63.

@@ -9,9 +9,9 @@ ghost use Rattle.oth_rules.specs.Symmetry.{canonical};
 ghost use Rattle.oth_book.specs.declared.claim.Claim.{Claim};
 
 use super::cells::read_cells;
-use crate::claim::Claim;
 use super::numeral::read_numeral;
 use super::shape::{Shape, bounds_len};
+use crate::claim::Claim;
 use crate::version::Version;
 use oth_rules::Board;
 use oth_search::Interval;

@@ -9,11 +9,11 @@ ghost use Rattle.oth_book.specs.declared.claim.Claim.{Claim as AnyClaim};
 ghost use Rattle.oth_book.specs.declared.fault.BookFault.TheVariants as faults;
 ghost use Rattle.oth_book.specs.Shape.{fit_of, is_cell, shape_len};
 
+use super::line::{read_end, read_entry};
+use super::shape::{Fit, Shape, fit_of, is_cell, line_len};
 use crate::claim::Claim;
 use crate::fault::BookFault;
-use super::line::{read_end, read_entry};
 use crate::order::compare;
-use super::shape::{Fit, Shape, fit_of, is_cell, line_len};
 use crate::version::Version;
 use oth_rules::Scoring;
 use std::alloc::Global;

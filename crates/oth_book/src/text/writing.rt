@@ -12,11 +12,11 @@ ghost use Rattle.oth_book.specs.Text.{book_text, entry_line, end_line, signed, I
 ghost use Rattle.oth_book.specs.Contents.{written, IsText};
 ghost use Rattle.oth_book.specs.Book.{IsTrueBook};
 
+use super::numeral::write_numeral;
+use super::shape::header;
 use crate::book::Book;
 use crate::claim::Claim;
-use super::numeral::write_numeral;
 use crate::order::cell;
-use super::shape::header;
 use crate::version::Version;
 use arrayvec::ArrayVec;
 use oth_rules::Board;
