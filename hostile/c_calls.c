@@ -15,6 +15,7 @@
 #include <stdio.h>
 #include <stdlib.h>
 #include <string.h>
+#include <unistd.h>
 
 enum { MOST_LINES = 4096, LINE = 256, MOST_THREADS = 16, STACK = 1 << 20 };
 
@@ -275,7 +276,7 @@ static void want(const char *name, int holds) {
     }
 }
 
-static const oth_board both = {1, 1}, open_board = {0x0000000810000000, 0x0000001008000000}, full = {~(uint64_t)0, 0};
+static const oth_board both = {1, 1}, few = {8, 0xffffffffffffff74}, open_board = {0x0000000810000000, 0x0000001008000000}, full = {~(uint64_t)0, 0};
 
 static void refusals_of_rules(void) {
     uint64_t word = 7;
@@ -388,6 +389,40 @@ static void refusals_of_seats(void) {
     want("free: the last", more.at == NULL);
 }
 
+/* A board of 30 empty squares. */
+static const oth_board deep = {0x8070383c1010001c, 0x080402002f6c3e02};
+
+static void *solve_deep(void *given) {
+    oth_answer answer;
+    oth_bounds bounds = {7, 7};
+    uint32_t code = oth_solve_within(given, deep, UINT64_MAX, &answer, &bounds);
+    return code == OTH_STOPPED && -64 <= bounds.lower && bounds.lower <= bounds.upper && bounds.upper <= 64 ? given : NULL;
+}
+
+/* A board that takes hours, ended from another thread; and what is called before the flag is cleared, and then. */
+static void ends_by_another_thread(void) {
+    oth_answer answer = {7, 7, 7};
+    oth_bounds bounds = {7, 7};
+    oth_seat first = {NULL}, more = {NULL};
+    pthread_t solving;
+    void *ended = NULL;
+    want("stop: no seat", oth_stop_set(&first) == OTH_NO_SEAT && oth_stop_clear(&first) == OTH_NO_SEAT && first.at == NULL);
+    refused = 0;
+    want("stop: a table", oth_table_new(4096, 0, &first) == OTH_DONE && oth_seat_new(&first, &more) == OTH_DONE);
+    if (pthread_create(&solving, NULL, solve_deep, &first) != 0) {
+        abort();
+    }
+    usleep(300000);
+    want("stop: set", oth_stop_set(&more) == OTH_DONE && more.at != NULL);
+    pthread_join(solving, &ended);
+    want("stop: ends a call", ended == &first);
+    want("stop: ends the next call", oth_solve_within(&more, deep, UINT64_MAX, &answer, &bounds) == OTH_STOPPED && bounds.lower <= bounds.upper && answer.score == 7);
+    want("stop: no other call", oth_solve_over(&more, full, &answer) == OTH_DONE && answer.score == 64);
+    want("stop: cleared", oth_stop_clear(&first) == OTH_DONE && oth_solve_within(&more, few, UINT64_MAX, &answer, &bounds) == OTH_DONE && answer.score == -50);
+    oth_seat_free(&first);
+    oth_seat_free(&more);
+}
+
 static void refusals_of_texts(void) {
     uint8_t buffer[OTH_MOVES_LINE], place = 7;
     size_t written = 7;
@@ -459,6 +494,7 @@ int main(int count, char **words) {
         refusals_of_solving();
         refusals_of_scores();
         refusals_of_seats();
+        ends_by_another_thread();
         refusals_of_texts();
         refusals_of_games();
         refusals_of_version();

@@ -201,6 +201,30 @@ try:
 except Refused as refused:
     print(len(answers), refused)
 """
+# Is interrupted in each call that searches, ends a search from another thread, and goes on.
+ENDED = """
+import os
+import signal
+import threading
+from othsolve import Board, Ended, Table, solve_all
+board, table = Board.of_transcript(input()), Table(4096)
+def heard(call):
+    threading.Timer(0.3, os.kill, (os.getpid(), signal.SIGINT)).start()
+    try:
+        call()
+    except KeyboardInterrupt:
+        return True
+calls = [board.solve, board.scores, lambda: table.solve(board), lambda: table.solve_within(board, 1 << 60), lambda: table.scores(board)]
+print(board.empties, [heard(call) for call in [*calls, lambda: list(solve_all([board] * 3, 2))]])
+threading.Timer(0.3, table.stop).start()
+try:
+    table.solve(board)
+except Ended as ended:
+    print(-64 <= ended.bounds.lower <= ended.bounds.upper <= 64)
+print(type(table.solve_within(board, 1 << 60)).__name__)
+table.go_on()
+print(table.solve(Board.of_line("X" * 64 + " O")))
+"""
 # What `install --program` runs.
 TOOLS = "bash chmod cp dirname find install mkdir mktemp realpath rm rmdir sed sort tac".split()
 # What is typed, and what completion offers.
@@ -434,6 +458,12 @@ def python(folder, prefix):
     yield from python_games(analyse, games.splitlines(True)[0], told)
     yield "tables are freed, also one that is closed while it is used", c_library.ran_wrong(
         [sys.executable, "-c", TABLES], games[:88] + "\n", "1 there is no seat\n", env=told)
+    wanted = f"30 {[True] * 6}\nTrue\nBounds\n-64 end\n"
+    yield "each search of Python is ended by Ctrl-C, and by another thread", c_library.ran_wrong(
+        [sys.executable, "-c", ENDED], games[:60] + "\n", wanted, env=told)
+    words = ["timeout", "--preserve-status", "--signal", "INT", "--kill-after", "60", "2", *analyse, "--empties", "28"]
+    found = ran(words, games.splitlines(True)[0].encode(), env=told)
+    yield "an analysis is ended by Ctrl-C", None if found.status == 130 else f"{found}"
     yield from python_package(folder, told)
     unfound = ran(analyse, b"", env={**told, "OTHSOLVE_LIBRARY": f"{prefix}/nowhere.so"})
     right = unfound.status == 1 and f"{prefix}/nowhere.so".encode() in unfound.said.splitlines()[-1]

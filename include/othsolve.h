@@ -183,10 +183,17 @@ uint32_t oth_scores_over(oth_seat *seat, oth_board board, oth_move_scores *score
  * beside it, the search is ended, and the call returns OTH_STOPPED, writes true bounds of the board's value, and no answer.
  * What it found stays in the table, and a further call from there goes on with it: so `most` may be small, and calls be made,
  * each with more, until there is no more time. It ends a little later than that: at the next board of 11 and more empty
- * squares, and not within the guess of the score with which each search begins. Where it returns OTH_DONE it has written the
- * answer, and no bounds.
+ * squares, or in the guess of the score with which a search begins some milliseconds later. oth_stop_set ends it too. Where it
+ * returns OTH_DONE it has written the answer, and no bounds.
  * Refusals, the first that holds: OTH_OVERLAP, OTH_EMPTIES, OTH_NO_SEAT. */
 uint32_t oth_solve_within(oth_seat *seat, oth_board board, uint64_t most, oth_answer *answer, oth_bounds *bounds);
+
+/* Sets the table's flag: each call of oth_solve_within over the table ends soon, as if it could look up no more, and so does
+ * each that is made before oth_stop_clear clears the flag. The other calls of a seat are not ended. A thread that ends the
+ * calls of others has a seat of its own (oth_seat_new), which no call has meanwhile.
+ * Refusal: OTH_NO_SEAT. */
+uint32_t oth_stop_set(oth_seat *seat);
+uint32_t oth_stop_clear(oth_seat *seat);
 
 /* Frees the seat, and with the last seat its table; it is {NULL} then. Nothing is done where it was. */
 void oth_seat_free(oth_seat *seat);

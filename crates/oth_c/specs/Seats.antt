@@ -1,5 +1,6 @@
 -- What the calls of seats promise. A seat is the use of a table, or None.
 --     is_held x                  there is a seat
+--     seat_code x                what a call answers that needs a seat and nothing else
 --     IsOpened cells g u         u is the first use of a table of `cells` cells under this scoring, and has seen nothing
 --     Opens g cells x y          where there was no seat there is the first one of a new table
 --     Joins x y more more'       where there was no seat there is a further one of the same table
@@ -7,7 +8,7 @@
 --     EnclosesIn, EnclosesFully x b      bounds enclose the board's value under the table's scoring, as C has them and as the search
 --     IsKept x y                 it is the same seat of the same table, whatever it has seen
 --     RefusesCells, RefusesTable, RefusesSeat, RefusesBoard      why a call refuses: the first cause that holds
-use Rattle.std.specs.Prelude.{◌≡◌, ℕ, ℤ, ◌<◌, ◌≤◌, [], Bool, true, false, Option, Some, None}
+use Rattle.std.specs.Prelude.{◌≡◌, ℕ, ℤ, ◌<◌, ◌≤◌, [], Bool, true, false, if◌then◌else◌, Option, Some, None}
 use Rattle.oth_rules.specs.Position.{empty_count}
 use Rattle.oth_rules.specs.declared.scoring.Scoring.{Scoring}
 use Rattle.oth_rules.specs.Score.{score_of}
@@ -25,10 +26,14 @@ use Rattle.oth_c.specs.declared.refusal.Refusal.{Refusal}
 use Rattle.oth_c.specs.declared.refusal.Refusal.TheVariants as refusal
 use Rattle.oth_c.specs.Answers.{IsAnswer, scoring_of}
 use Rattle.oth_c.specs.Boards.{overlaps, position}
+use Rattle.oth_c.specs.Codes.{code_of}
 
 abbrev pub is_held : Option Use → Bool
 is_held None = false
 is_held (Some u) = true
+
+abbrev pub seat_code : Option Use → ℕ
+seat_code x = if is_held x then 0 else code_of refusal.NoSeat
 
 abbrev pub IsOpened : ℕ → Scoring → Use → Type 0
 IsOpened cells g u = (u.table.cells ≡ cells) × (u.table.terms.scoring ≡ g) × (u.seat.name ≡ 0) × (u.seat.seen ≡ [])

@@ -1,4 +1,4 @@
-//! A seat with the table that it is at.
+//! A seat with the table that it is at, and the flag that ends searches over that table.
 
 ghost use Rattle.std.specs.Prelude.{◌≡◌, IfOk, IfErr};
 ghost use Rattle.oth_search.specs.Bounds.Full.{IsFullMinimax};
@@ -11,17 +11,20 @@ ghost use Rattle.oth_c.specs.declared.refusal.Refusal.TheVariants as refusal;
 use crate::refusal::Refusal;
 use crate::solving::cells_over;
 use oth_rules::{Board, Scoring};
-use oth_search::{Answer, Limited, Scores, Stopped, scores_with, solve_until, solve_with};
+use oth_search::{
+    Answer, Limited, Scores, StopFlag, Stopped, scores_with, solve_until, solve_with,
+};
 use oth_table::{SharedTable, TableError, TableSeat};
 use std::alloc::Global;
 use std::marker::Model;
 use std::sync::Arc;
 
-/// A seat of a table, and a part in the table: the last seat that goes frees it.
+/// A seat of a table, and a part in the table and in its flag: the last seat that goes frees both.
 #[derive(Drop)]
 pub struct Seated {
     table: Arc<SharedTable>,
     seat: TableSeat,
+    stop: Arc<StopFlag>,
 }
 
 impl Model for Seated {
@@ -52,7 +55,10 @@ impl Seated {
                 let Ok(table) = Arc::new(alloc, table) else {
                     return Err(Refusal::Memory);
                 };
-                Ok(Seated { table, seat })
+                let Ok(stop) = Arc::new(alloc, StopFlag::new()) else {
+                    return Err(Refusal::Memory);
+                };
+                Ok(Seated { table, seat, stop })
             }
             Err(TableError::Cells) => Err(Refusal::Cells),
             Err(_) => Err(Refusal::Memory),
@@ -66,12 +72,19 @@ impl Seated {
         ensures made { IfOk result (λ s. (s.table ≡ self.old.table) × Makes self.old.seat self.new.seat s.seat) }
         ensures err { IfErr result (λ r. (r ≡ refusal.Memory) × (self.new ≡ self.old)) }
     {
-        let Seated { table, seat } = self;
+        let Seated { table, seat, stop } = self;
         let Ok(part) = Arc::try_clone(table) else {
             return Err(Refusal::Memory);
         };
+        let Ok(stop) = Arc::try_clone(stop) else {
+            return Err(Refusal::Memory);
+        };
         match table.seat(alloc, seat) {
-            Ok(seat) => Ok(Seated { table: part, seat }),
+            Ok(seat) => Ok(Seated {
+                table: part,
+                seat,
+                stop,
+            }),
             Err(_) => Err(Refusal::Memory),
         }
     }
@@ -81,11 +94,11 @@ impl Seated {
         ensures kept { fixed_of result.0 ≡ fixed_of self }
         ensures full { IsFullMinimax board self.table.terms.scoring result.1 }
     {
-        let Seated { table, seat } = self;
+        let Seated { table, seat, stop } = self;
         let mut cells = cells_over(alloc, &board, &table, seat, false);
         let answer = solve_with(board, &mut cells, table.scoring());
         let seat = cells.into_cells().into_seat();
-        (Seated { table, seat }, answer)
+        (Seated { table, seat, stop }, answer)
     }
 
     /// The scores of a board's moves under the table's scoring, and the seat, as it then is.
@@ -94,15 +107,15 @@ impl Seated {
         ensures board { result.1.answer.board ≡ board }
         ensures scoring { result.1.answer.scoring ≡ self.table.terms.scoring }
     {
-        let Seated { table, seat } = self;
+        let Seated { table, seat, stop } = self;
         let mut cells = cells_over(alloc, &board, &table, seat, false);
         let scores = scores_with(board, &mut cells, table.scoring());
         let seat = cells.into_cells().into_seat();
-        (Seated { table, seat }, scores)
+        (Seated { table, seat, stop }, scores)
     }
 
     /// Returns the answer of a board under the table's scoring, or the bounds that are known when about `most` boards
-    /// were looked up; and the seat, as it then is.
+    /// were looked up, or once the table's flag is set; and the seat, as it then is.
     pub fn solve_within(
         self,
         alloc: Global,
@@ -114,11 +127,20 @@ impl Seated {
         ensures known { IfErr result.1 (λ s. (s.known.board ≡ board)
             × (s.known.scoring ≡ self.table.terms.scoring)) }
     {
-        let Seated { table, seat } = self;
+        let Seated { table, seat, stop } = self;
         let cells = cells_over(alloc, &board, &table, seat, false);
         let mut limited = Limited::of(cells, most);
-        let found = solve_until(alloc, &board, &mut limited, table.scoring());
+        let found = solve_until(&board, &mut limited, table.scoring(), &stop);
         let seat = limited.into_cells().into_cells().into_seat();
-        (Seated { table, seat }, found)
+        (Seated { table, seat, stop }, found)
+    }
+
+    /// Tells all seats of the table whether searches that may be ended are to end.
+    pub fn tell_all(&self, are_to_end: bool) {
+        if are_to_end {
+            self.stop.set();
+        } else {
+            self.stop.clear();
+        }
     }
 }

@@ -1,8 +1,10 @@
-//! The solver for a caller who can't wait: a search that may be ended before it is done.
+//! The solver for a caller who can't wait: a search that may be ended before it is done, by a limit or from another
+//! thread.
 
 ghost use Rattle.std.specs.Prelude.{◌≡◌, ◌≢◌, IfOk, IfErr};
 ghost use Rattle.oth_c.specs.Codes.{code_of};
-ghost use Rattle.oth_c.specs.Seats.{Solves, SolvesFully, EnclosesIn, EnclosesFully, IsKept, RefusesBoard};
+ghost use Rattle.oth_c.specs.Seats.{Solves, SolvesFully, EnclosesIn, EnclosesFully, IsKept};
+ghost use Rattle.oth_c.specs.Seats.{RefusesBoard, seat_code};
 ghost use Rattle.oth_c.specs.declared.refusal.Refusal.{Refusal as RefusedBy};
 
 use crate::answer::OthAnswer;
@@ -32,9 +34,9 @@ impl OthBounds {
     }
 }
 
-/// As `oth_solve_over`, by a search that looks up at most about `most` boards. Where that is too few for the answer it
-/// gives 41, and true bounds of the board's value in its place. Refusals 1, 5 and 31, tested in this order; they leave
-/// the seat as it was.
+/// As `oth_solve_over`, by a search that looks up at most about `most` boards, and ends too once `oth_stop_set` has set
+/// the table's flag. Where it has no answer by then it gives 41, and true bounds of the board's value in its place.
+/// Refusals 1, 5 and 31, tested in this order; they leave the seat as it was.
 #[unsafe(no_mangle)]
 pub extern "C" fn oth_solve_within(
     alloc: Global,
@@ -83,4 +85,42 @@ fn found_within(
     place.seated = Some(seated);
     seat.put(place);
     Ok(found)
+}
+
+/// Sets the flag of the seat's table: calls of `oth_solve_within` over that table end, those that are under way and
+/// those that begin before `oth_stop_clear`. Refusal 31.
+#[unsafe(no_mangle)]
+pub extern "C" fn oth_stop_set(alloc: Global, seat: &mut OthSeat) -> u32
+    ensures code { result ≡ seat_code seat.old.held }
+    ensures kept { seat.new.held ≡ seat.old.held }
+{
+    tell_all(alloc, seat, true)
+}
+
+/// Clears the flag of the seat's table. Refusal 31.
+#[unsafe(no_mangle)]
+pub extern "C" fn oth_stop_clear(alloc: Global, seat: &mut OthSeat) -> u32
+    ensures code { result ≡ seat_code seat.old.held }
+    ensures kept { seat.new.held ≡ seat.old.held }
+{
+    tell_all(alloc, seat, false)
+}
+
+// Tells all seats of the table whether their searches are to end.
+fn tell_all(alloc: Global, seat: &mut OthSeat, are_to_end: bool) -> u32
+    ensures code { result ≡ seat_code seat.old.held }
+    ensures kept { seat.new.held ≡ seat.old.held }
+{
+    let Some(place) = seat.take(alloc) else {
+        return Refusal::NoSeat.code();
+    };
+    let code = match &place.seated {
+        Some(seated) => {
+            seated.tell_all(are_to_end);
+            DONE
+        }
+        None => Refusal::NoSeat.code(),
+    };
+    seat.put(place);
+    code
 }

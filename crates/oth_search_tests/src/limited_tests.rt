@@ -3,7 +3,8 @@
 use crate::tests::board_of;
 use oth_rules::{Board, Scoring};
 use oth_search::{
-    Cells, Interval, Limited, NoCells, Solved, Stopped, WithLocal, solve_alone, solve_until,
+    Cells, Entry, Interval, Limited, NoCells, Solved, StopFlag, Stopped, WithLocal, solve_alone,
+    solve_until,
 };
 use std::process::Abort;
 use std::test::Fail;
@@ -21,7 +22,7 @@ fn bounds_within<R: AllocGlobal + Abort>(rt: &R, board: &Board, limit: u64) -> I
         panic!(rt; "not solved")
     };
     let mut cells = Limited::of(WithLocal::alone(rt.alloc(), board.empties()), limit);
-    let bounds = match solve_until(rt.alloc(), board, &mut cells, Scoring::Winner) {
+    let bounds = match solve_until(board, &mut cells, Scoring::Winner, &StopFlag::new()) {
         Ok(found) => {
             assert!(rt; found == answer);
             Solved::of_answer(&found).interval
@@ -46,7 +47,7 @@ fn a_search_that_may_look_up_nothing_ends_early(rt: HostRuntime) -> Result<(), F
     for words in &BOARDS {
         let board = board_of(&rt, *words);
         let mut cells = Limited::of(NoCells, 0);
-        match solve_until(rt.alloc(), &board, &mut cells, Scoring::Discs) {
+        match solve_until(&board, &mut cells, Scoring::Discs, &StopFlag::new()) {
             Ok(_) => panic!(rt; "whole"),
             Err(stopped) => assert!(rt; stopped.known.board == board),
         }
@@ -72,5 +73,66 @@ fn bounds_close_with_what_may_be_looked_up(rt: HostRuntime) -> Result<(), Fail> 
     }
     assert!(rt; stopped > 2 && stopped < 20);
     assert!(rt; closer > 0);
+    Ok(())
+}
+
+// Cells that keep nothing, count what they are asked for, and set the flag at the look of this number.
+#[derive(Drop)]
+struct Stopping<'s> {
+    asked: u64,
+    at: u64,
+    stop: &'s StopFlag,
+}
+
+impl<'s> Stopping<'s> {
+    fn count(&mut self) {
+        self.asked = self.asked.wrapping_add(1);
+        if self.asked == self.at {
+            self.stop.set();
+        }
+    }
+}
+
+impl<'s> Cells for Stopping<'s> {
+    ghost Fixed = { Unit {0} };
+
+    ghost fixed = { λ c. tt };
+
+    fn look(&mut self, _board: &Board, _scoring: Scoring) -> Option<Entry> {
+        self.count();
+        None
+    }
+
+    fn recall(&mut self, _board: &Board, _scoring: Scoring) -> Option<Solved> {
+        self.count();
+        None
+    }
+}
+
+// How many boards are asked for before a search of the board ends whose flag is set at the look of this number.
+fn asked_until<R: AllocGlobal + Abort>(rt: &R, board: &Board, at: u64) -> u64 {
+    let stop = StopFlag::new();
+    let counted = Stopping {
+        asked: 0,
+        at,
+        stop: &stop,
+    };
+    let mut cells = Limited::of(counted, u64::MAX);
+    match solve_until(board, &mut cells, Scoring::Winner, &stop) {
+        Ok(_) => panic!(rt; "whole"),
+        Err(stopped) => assert!(rt; stopped.known.board == *board && cells.left == 0),
+    }
+    cells.cells.asked
+}
+
+#[test]
+fn a_flag_that_is_set_ends_a_search(rt: HostRuntime) -> Result<(), Fail> {
+    for words in &BOARDS {
+        let board = board_of(&rt, *words);
+        for at in [1, 100, 2_000] {
+            let asked = asked_until(&rt, &board, at);
+            assert!(rt; at <= asked && asked - at < 2_000, "{asked} boards");
+        }
+    }
     Ok(())
 }
