@@ -4,8 +4,8 @@
     docs/uses.py [--write]
 
 In front of each block stands a line with the file's name alone, as `crates/oth_uses/src/game.rt`, in backquotes and with a colon. A block
-has to be that file word for word, and each caller of crates/oth_uses, the C example and the header's build line have to be shown. The line
-of `crates.txt` above a caller has to name the crates that it uses. Each problem is a line; the last line is `N passed, M failed`, and the
+has to be that file word for word, and each caller of crates/oth_uses and the C example's build line have to be shown. The line of
+`crates.txt` above a caller has to name the crates that it uses. Each problem is a line; the last line is `N passed, M failed`, and the
 exit status is 1 where something failed. With `--write` the blocks are first filled from the files.
 """
 import argparse

@@ -32,7 +32,7 @@ import weakref
 from collections import deque
 from collections.abc import Callable, Iterable, Iterator
 from concurrent.futures import Future, ThreadPoolExecutor
-from dataclasses import dataclass
+from dataclasses import dataclass, field
 from typing import TypeVar
 
 __all__ = [
@@ -154,6 +154,21 @@ class _Bounds(ctypes.Structure):
     _fields_ = [("lower", ctypes.c_int8), ("upper", ctypes.c_int8)]
 
 
+class _Known(ctypes.Structure):
+    _fields_ = [
+        ("bounds", _Bounds),
+        ("first", ctypes.c_uint8),
+        ("moves", ctypes.c_uint64),
+        ("lower", ctypes.c_int8 * 64),
+        ("upper", ctypes.c_int8 * 64),
+    ]
+
+    def as_bounds(self) -> Bounds:
+        moves = {move: (self.lower[_number(move)], self.upper[_number(move)]) for move in _names(self.moves)}
+        first = _names(1 << self.first)[0] if self.first < 64 else None
+        return Bounds(self.bounds.lower, self.bounds.upper, first, moves)
+
+
 class _Seat(ctypes.Structure):
     _fields_ = [("at", ctypes.c_void_p)]
 
@@ -174,7 +189,8 @@ def _library() -> ctypes.CDLL:
         "oth_table_new": [ctypes.c_uint32, ctypes.c_uint8, seat],
         "oth_seat_new": [seat, seat],
         "oth_solve_over": [seat, _Board, ctypes.POINTER(_Answer)],
-        "oth_solve_within": [seat, _Board, ctypes.c_uint64, ctypes.POINTER(_Answer), ctypes.POINTER(_Bounds)],
+        "oth_solve_until": [seat, _Board, ctypes.c_uint64, ctypes.POINTER(_Answer), ctypes.POINTER(_Known)],
+        "oth_null_window": [seat, _Board, ctypes.c_int8, ctypes.POINTER(_Bounds)],
         "oth_scores_over": [seat, _Board, ctypes.POINTER(_Scores)],
         "oth_stop_set": [seat],
         "oth_stop_clear": [seat],
@@ -280,10 +296,16 @@ class Answer:
 
 @dataclass(frozen=True)
 class Bounds:
-    """What is known of a board's score where its search was ended: it is neither less than `lower` nor more than `upper`."""
+    """What is known of a board's score where its search was ended: it is neither less than `lower` nor more than `upper`.
+
+    `moves` has such a pair for what each legal move gives, and `first` is the move to play, None where there is none: no move is known to give
+    more, and of several such moves it is the one that seemed best.
+    """
 
     lower: int
     upper: int
+    first: str | None = None
+    moves: dict[str, tuple[int, int]] = field(default_factory=dict, repr=False, compare=False)
 
 
 @dataclass(frozen=True)
@@ -510,18 +532,18 @@ class Table:
     def solve_within(self, board: Board, most: int) -> Answer | Bounds:
         """Solves as `solve` does, but looks up about `most` boards, 0 to 2**64 - 1; if these are too few, returns what is known by then.
 
-        A further call goes on with what the last one found, so it may be asked with more each time, until there is no more time. `stop` ends
-        it as too small a number does.
+        A further call goes on with what the last one found, so it may be asked again until there is no more time, and then there is a move to
+        play, `Bounds.first`. `stop` ends it as too small a number does.
         """
         if not 0 <= most <= _NO_LIMIT:
             raise ValueError(f"`most` is {most}, and 0 to 2**64 - 1 can be asked for")
-        answer, bounds = _Answer(), _Bounds()
+        answer, known = _Answer(), _Known()
 
         def solve() -> Answer | Bounds:
             with self._seat() as seat:
-                code = _LIB.oth_solve_within(seat, board._words, most, ctypes.byref(answer), ctypes.byref(bounds))
+                code = _LIB.oth_solve_until(seat, board._words, most, ctypes.byref(answer), ctypes.byref(known))
             if code == _STOPPED:
-                return Bounds(bounds.lower, bounds.upper)
+                return known.as_bounds()
             _done(code)
             return Answer(answer.score, _names(answer.best), Kind(answer.kind))
 
@@ -530,6 +552,20 @@ class Table:
         except KeyboardInterrupt:
             self.go_on()
             raise
+
+    def is_at_least(self, board: Board, score: int) -> bool:
+        """Tells whether the board is worth at least `score` under the table's scoring, sooner than `solve` tells its score.
+
+        Ctrl-C is heard at once, but the search goes on unheeded, until it is done or Python ends.
+        """
+        alpha, bounds = max(-65, min(64, score - 1)), _Bounds()
+
+        def decide() -> bool:
+            with self._seat() as seat:
+                _done(_LIB.oth_null_window(seat, board._words, alpha, ctypes.byref(bounds)))
+            return bounds.lower > alpha
+
+        return _heard(decide) if board.empties > _SOON_DONE else decide()
 
     def stop(self) -> None:
         """Ends the searches of `solve` and `solve_within` over the table, in all threads, until `go_on`."""

@@ -7,10 +7,12 @@ ghost use Rattle.oth_search.specs.Bounds.Full.{IsFullMinimax};
 
 use super::company::Company;
 use super::flag::StopFlag;
+use super::seen::Seen;
 use crate::bounds::{Answer, Cells, Entry, NullWindow, Solved};
 use crate::root::{Observer, RootMove, RootMoves, before_pass, best_moves, ended, settle_moves};
 use crate::tuning::FEWEST_EMPTIES_ENDED;
 use oth_rules::{Board, Scoring};
+use std::mem::replace;
 use thiserror::Error;
 
 /// Cells with a limit of look-ups. A search over them can be stopped when these are spent.
@@ -20,22 +22,50 @@ pub struct Limited<C> {
     pub cells: C,
     /// How many boards may still be looked up, by `look` and `recall` together.
     pub left: u64,
+    // What the guess of an earlier search saw.
+    seen: Seen,
 }
 
 impl<C: Cells> Limited<C> {
-    /// The cells, in which `limit` boards may be looked up.
+    /// The cells, in which `limit` boards may be looked up. What a guess sees is forgotten.
     pub fn of(cells: C, limit: u64) -> Limited<C>
         ensures left { result.left ≡ limit }
         ensures fixed { C.fixed result.cells ≡ C.fixed cells }
     {
-        Limited { cells, left: limit }
+        Limited::going_on(cells, limit, Seen::none())
+    }
+
+    /// The cells, in which `limit` boards may be looked up, for a search that goes on with a guess as far as it was
+    /// `seen`.
+    pub fn going_on(cells: C, limit: u64, seen: Seen) -> Limited<C>
+        ensures left { result.left ≡ limit }
+        ensures fixed { C.fixed result.cells ≡ C.fixed cells }
+    {
+        Limited {
+            cells,
+            left: limit,
+            seen,
+        }
     }
 
     /// The cells alone.
     pub fn into_cells(self) -> C
         ensures { result ≡ self.cells }
     {
-        self.cells
+        let (cells, _) = self.into_parts();
+        cells
+    }
+
+    /// The cells, and what the guess saw.
+    pub fn into_parts(self) -> (C, Seen)
+        ensures { result.0 ≡ self.cells }
+    {
+        let Limited {
+            cells,
+            left: _,
+            seen,
+        } = self;
+        (cells, seen)
     }
 
     // Takes one from what is left.
@@ -100,6 +130,18 @@ impl<C: Cells> Cells for Limited<C> {
 #[derive(Drop)]
 struct UntilEnded<'s> {
     stop: &'s StopFlag,
+    scoring: Scoring,
+    seen: Seen,
+    // Whether its guess was ended, after which what it tells isn't seen.
+    is_ended: bool,
+}
+
+impl<'s> UntilEnded<'s> {
+    // What its guess saw.
+    fn into_seen(self) -> Seen {
+        let UntilEnded { seen, .. } = self;
+        seen
+    }
 }
 
 impl<'s, C: Cells> Company<Limited<C>> for UntilEnded<'s> {
@@ -121,8 +163,19 @@ impl<'s, C: Cells> Observer<Limited<C>> for UntilEnded<'s> {
         child.narrowed_in(NullWindow::at(alpha + 1), cells, self)
     }
 
+    fn seen(&mut self, board: &Board, alpha: i8) -> Option<bool> {
+        self.seen.told(board, alpha, self.scoring)
+    }
+
+    fn tell_seen(&mut self, board: &Board, alpha: i8, is_above: bool) {
+        if !self.is_ended {
+            self.seen.tell(board, alpha, self.scoring, is_above);
+        }
+    }
+
     fn ends_guess(&mut self, cells: &mut Limited<C>) -> bool {
-        cells.is_ended(self.stop)
+        self.is_ended = cells.is_ended(self.stop);
+        self.is_ended
     }
 
     fn is_over(&self, cells: &Limited<C>) -> bool {
@@ -130,11 +183,13 @@ impl<'s, C: Cells> Observer<Limited<C>> for UntilEnded<'s> {
     }
 }
 
-/// A search was stopped before it was done; `known` is what was known of its board by then.
-#[derive(Clone, Copy, PartialEq, Eq, Debug, Error)]
+/// A search was stopped before it was done. `known` is what was known of its board by then, and `moves` has its moves
+/// with what was known of the board after each: none where the mover must pass.
+#[derive(Debug, Drop, Error)]
 #[error("the search was ended before it was done")]
 pub struct Stopped {
     pub known: Solved,
+    pub moves: RootMoves,
 }
 
 /// The answer of a board by a search over the cells, or what is known of the board if the look-ups are spent before, or
@@ -149,6 +204,7 @@ pub fn solve_until<C: Cells>(
     ensures board { IfOk result (λ a. (a.board ≡ board.now) × (a.scoring ≡ scoring)) }
     ensures full { IfOk result (IsFullMinimax board.now scoring) }
     ensures known { IfErr result (λ s. (s.known.board ≡ board.now) × (s.known.scoring ≡ scoring)) }
+    ensures moves { IfErr result (λ s. (s.moves.board ≡ board.now) × (s.moves.scoring ≡ scoring)) }
     ensures spent { IfErr result (λ s. cells.new.left ≡ 0) }
     ensures fixed { C.fixed cells.new.cells ≡ C.fixed cells.old.cells }
 {
@@ -172,14 +228,17 @@ fn solve_past_until<C: Cells>(
     requires some { can_move (pass board.now) ≡ true }
     ensures board { IfOk result (λ a. (a.board ≡ board.now) × (a.scoring ≡ scoring)) }
     ensures known { IfErr result (λ s. (s.known.board ≡ board.now) × (s.known.scoring ≡ scoring)) }
+    ensures moves { IfErr result (λ s. (s.moves.board ≡ board.now) × (s.moves.scoring ≡ scoring)) }
     ensures spent { IfErr result (λ s. cells.new.left ≡ 0) }
     ensures fixed { C.fixed cells.new.cells ≡ C.fixed cells.old.cells }
 {
     match solve_moves_until(board.pass(), cells, scoring, stop) {
         Ok(passed) => Ok(before_pass(*board, passed)),
-        Err(stopped) => Err(Stopped {
-            known: stopped.known.before_pass(board),
-        }),
+        Err(stopped) => {
+            let known = stopped.known.before_pass(board);
+            let moves = RootMoves::of(&known, &[]);
+            Err(Stopped { known, moves })
+        }
     }
 }
 
@@ -193,15 +252,23 @@ fn solve_moves_until<C: Cells>(
     requires { can_move board ≡ true }
     ensures board { IfOk result (λ a. (a.board ≡ board) × (a.scoring ≡ scoring)) }
     ensures known { IfErr result (λ s. (s.known.board ≡ board) × (s.known.scoring ≡ scoring)) }
+    ensures moves { IfErr result (λ s. (s.moves.board ≡ board) × (s.moves.scoring ≡ scoring)) }
     ensures spent { IfErr result (λ s. cells.new.left ≡ 0) }
     ensures fixed { C.fixed cells.new.cells ≡ C.fixed cells.old.cells }
 {
     let mut moves = RootMoves::of(&Solved::unknown(board, scoring), &[]);
-    settle_moves(&mut moves, cells, &mut UntilEnded { stop });
+    let seen = replace(&mut cells.seen, Seen::none());
+    let mut driver = UntilEnded {
+        stop,
+        scoring,
+        seen,
+        is_ended: false,
+    };
+    settle_moves(&mut moves, cells, &mut driver);
+    cells.seen = driver.into_seen();
     if cells.left == 0 {
-        return Err(Stopped {
-            known: moves.backed_up(),
-        });
+        let known = moves.backed_up();
+        return Err(Stopped { known, moves });
     }
     Ok(best_moves(&moves, cells))
 }
