@@ -4,8 +4,8 @@
     docs/uses.py [--write]
 
 In front of each block stands a line with the file's name alone, as `crates/oth_uses/src/game.rt`, in backquotes and with a colon. A block
-has to be that file word for word, and each caller of crates/oth_uses, the C example and the header's build line have to be shown. The line
-of `crates.txt` above a caller has to name the crates that it uses. Each problem is a line; the last line is `N passed, M failed`, and the
+has to be that file word for word, and each caller of crates/oth_uses and the C example's build line have to be shown. The line of
+`crates.txt` above a caller has to name the crates that it uses. Each problem is a line; the last line is `N passed, M failed`, and the
 exit status is 1 where something failed. With `--write` the blocks are first filled from the files.
 """
 import argparse
@@ -38,7 +38,7 @@ def write_blocks():
 def wanted():
     """Returns the files that the page has to show."""
     callers = (os.path.relpath(file, TOP) for file in sorted(glob.glob(f"{TOP}/crates/oth_uses/src/*.rt")))
-    return [*(file for file in callers if os.path.basename(file) not in NOT_SHOWN), "examples/c/worked.c"]
+    return [file for file in callers if os.path.basename(file) not in NOT_SHOWN]
 
 
 def problems():
@@ -53,7 +53,7 @@ def problems():
         else:
             yield None if text == read(name) else f"{PAGE}: the block of {name} is not that file"
     listed = {line[2]: set(line[1].split()) for line in LINE.finditer(page)}
-    for name in wanted()[:-1]:
+    for name in wanted():
         used = set(re.findall(r"^(?:ghost )?use (?:Rattle\.)?(\w+)", read(name), re.MULTILINE)) - {"std", "crate"}
         yield None if used <= listed.get(name, set()) else f"{PAGE}: the line of {name} doesn't name each of {', '.join(sorted(used))}"
     for name in ("include/othsolve.h", "examples/c/worked.c", "examples/c/library.sh", PAGE):

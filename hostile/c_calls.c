@@ -5,7 +5,8 @@
  *     c_calls solve SCORING CELLS THREADS       this many threads solve all lines at once, with 1 MB of stack each; prints what all of them found
  *     c_calls share SCORING CELLS THREADS       the same over one table, each thread from a seat of its own
  *     c_calls within SCORING CELLS THREADS      the same, each line by calls that may look up 1, 2, 4, .. boards until one is done; 1 where bounds of an ended call
- *                                               do not enclose the score, or none was ended
+ *                                               do not enclose the score or that of a move, the move to play is none or another is known to give more, a null window
+ *                                               tells otherwise, none was ended, or none of these knew more than all scores
  *     c_calls scores | share-scores SCORING CELLS THREADS      as solve and share: the moves of each line with their scores, the greatest first; 1 where they
  *                                               do not fit the answer
  * Linked with -Wl,--wrap=malloc it refuses, in each call, the request for memory whose number the environment's REFUSED gives. */
@@ -15,6 +16,7 @@
 #include <stdio.h>
 #include <stdlib.h>
 #include <string.h>
+#include <unistd.h>
 
 enum { MOST_LINES = 4096, LINE = 256, MOST_THREADS = 16, STACK = 1 << 20 };
 
@@ -36,7 +38,7 @@ static uint32_t cells;
 static _Thread_local oth_seat *seat;
 /* Whether each answer is asked for by calls that may be ended. */
 static int by_parts;
-static _Atomic long ended_calls, untrue_bounds;
+static _Atomic long ended_calls, untrue_bounds, closer_bounds;
 
 static void print_squares(FILE *file, uint64_t squares) {
     for (int square = 0; square < 64; square++) {
@@ -65,9 +67,52 @@ static void print_refusal(FILE *file, uint32_t code, uint8_t place, int count) {
     }
 }
 
-/* The answer by calls that may look up ever more boards. */
+static int encloses(int lower, int upper, int score) {
+    return -64 <= lower && lower <= score && score <= upper && upper <= 64;
+}
+
+/* What ended calls knew of a board: a limit is doubled at most 64 times. */
+struct ended {
+    int count;
+    oth_known known[64];
+};
+
+/* Whether a call that was ended, which knew this, told the truth of the scores, and a move that is known to give as much as any. */
+static int is_true(const oth_known *known, const oth_move_scores *scores) {
+    int holds = encloses(known->bounds.lower, known->bounds.upper, scores->answer.score) && known->moves == scores->moves;
+    if (known->moves == 0) {
+        return holds && known->first == OTH_NO_SQUARE;
+    }
+    holds = holds && known->first < 64 && (known->moves >> known->first & 1);
+    for (int square = 0; square < 64; square++) {
+        int lower = known->lower[square], upper = known->upper[square];
+        if (known->moves >> square & 1) {
+            holds = holds && encloses(lower, upper, scores->scores[square]) && lower <= known->lower[known->first];
+        } else {
+            holds = holds && lower == OTH_NO_SCORE && upper == OTH_NO_SCORE;
+        }
+    }
+    return holds;
+}
+
+/* Whether null windows at a threshold, and around the score, tell what they should. */
+static int are_decided(oth_board board, int score) {
+    static const int8_t thresholds[] = {-128, -65, -64, -7, 0, 1, 63, 64, 127};
+    int holds = 1;
+    for (int at = -2; at < (int)sizeof thresholds; at++) {
+        int8_t alpha = (int8_t)(at < 0 ? score + at + 1 : thresholds[at]);
+        oth_bounds bounds = {7, 7};
+        holds = holds && oth_null_window(seat, board, alpha, &bounds) == OTH_DONE && encloses(bounds.lower, bounds.upper, score);
+        holds = holds && (bounds.lower > alpha || bounds.upper <= alpha);
+    }
+    return holds;
+}
+
+/* The answer by calls that may look up ever more boards, the first half of them by oth_solve_within. */
 static uint32_t solved_by_parts(oth_board board, oth_answer *answer) {
     oth_bounds known = {-64, 64}, bounds;
+    oth_move_scores scores;
+    struct ended ended = {0};
     uint64_t most = 1;
     uint32_t code = oth_solve_within(seat, board, most, answer, &bounds);
     while (code == OTH_STOPPED) {
@@ -75,9 +120,23 @@ static uint32_t solved_by_parts(oth_board board, oth_answer *answer) {
         known.upper = bounds.upper < known.upper ? bounds.upper : known.upper;
         ended_calls += 1;
         most *= 2;
-        code = oth_solve_within(seat, board, most, answer, &bounds);
+        code = oth_solve_until(seat, board, most, answer, &ended.known[ended.count]);
+        if (code == OTH_STOPPED) {
+            bounds = ended.known[ended.count].bounds;
+            closer_bounds += empties(board) > 11 && bounds.upper - bounds.lower < 128;
+            ended.count += 1;
+        }
     }
-    untrue_bounds += code == OTH_DONE && (answer->score < known.lower || answer->score > known.upper);
+    if (code != OTH_DONE) {
+        return code;
+    }
+    untrue_bounds += answer->score < known.lower || answer->score > known.upper;
+    if (ended.count != 0 || empties(board) < 8) {
+        untrue_bounds += oth_scores_over(seat, board, &scores) != OTH_DONE || !are_decided(board, answer->score);
+        for (int at = 0; at < ended.count; at++) {
+            untrue_bounds += !is_true(&ended.known[at], &scores);
+        }
+    }
     return code;
 }
 
@@ -275,7 +334,7 @@ static void want(const char *name, int holds) {
     }
 }
 
-static const oth_board both = {1, 1}, open_board = {0x0000000810000000, 0x0000001008000000}, full = {~(uint64_t)0, 0};
+static const oth_board both = {1, 1}, few = {8, 0xffffffffffffff74}, open_board = {0x0000000810000000, 0x0000001008000000}, full = {~(uint64_t)0, 0};
 
 static void refusals_of_rules(void) {
     uint64_t word = 7;
@@ -357,6 +416,7 @@ static int is_made_at_last(oth_seat *first, oth_seat *more) {
 static void refusals_of_seats(void) {
     oth_answer answer = {7, 7, 7};
     oth_bounds bounds = {7, 7};
+    oth_known known = {{7, 7}, 7, 7, {7}, {7}};
     oth_move_scores scores = sevens();
     oth_seat first = {NULL}, more = {NULL};
     want("seat: no table", oth_seat_new(&first, &more) == OTH_NO_SEAT && first.at == NULL && more.at == NULL);
@@ -366,6 +426,12 @@ static void refusals_of_seats(void) {
     want("within: overlap", keeps(oth_solve_within(&first, both, 0, &answer, &bounds), OTH_OVERLAP, answer) && bounds.lower == 7);
     want("within: empties", keeps(oth_solve_within(&first, open_board, 0, &answer, &bounds), OTH_EMPTIES, answer) && bounds.lower == 7);
     want("within: no seat", keeps(oth_solve_within(&first, full, 0, &answer, &bounds), OTH_NO_SEAT, answer) && bounds.upper == 7);
+    want("until: overlap", keeps(oth_solve_until(&first, both, 0, &answer, &known), OTH_OVERLAP, answer) && known.first == 7);
+    want("until: empties", keeps(oth_solve_until(&first, open_board, 0, &answer, &known), OTH_EMPTIES, answer) && known.first == 7);
+    want("until: no seat", keeps(oth_solve_until(&first, full, 0, &answer, &known), OTH_NO_SEAT, answer) && known.first == 7 && known.lower[0] == 7);
+    want("window: overlap", oth_null_window(&first, both, 0, &bounds) == OTH_OVERLAP && bounds.lower == 7);
+    want("window: empties", oth_null_window(&first, open_board, 0, &bounds) == OTH_EMPTIES && bounds.lower == 7);
+    want("window: no seat", oth_null_window(&first, full, 0, &bounds) == OTH_NO_SEAT && bounds.upper == 7);
     want("scores over: overlap", keeps_scores(oth_scores_over(&first, both, &scores), OTH_OVERLAP, scores));
     want("scores over: empties", keeps_scores(oth_scores_over(&first, open_board, &scores), OTH_EMPTIES, scores));
     want("scores over: no seat", keeps_scores(oth_scores_over(&first, full, &scores), OTH_NO_SEAT, scores) && first.at == NULL);
@@ -381,11 +447,46 @@ static void refusals_of_seats(void) {
     want("free: the seat", first.at == NULL);
     want("over: refused", keeps(oth_solve_over(&first, full, &answer), OTH_NO_SEAT, answer));
     want("within: done", oth_solve_within(&more, full, 0, &answer, &bounds) == OTH_DONE && answer.score == 64 && bounds.lower == 7);
+    want("until: done", oth_solve_until(&more, full, 0, &answer, &known) == OTH_DONE && answer.score == 64 && known.first == 7);
     want("over: the other", oth_solve_over(&more, full, &answer) == OTH_DONE && answer.score == 64 && answer.kind == OTH_KIND_END);
     want("scores over: the other", oth_scores_over(&more, full, &scores) == OTH_DONE && scores.moves == 0 && scores.answer.score == 64);
     oth_seat_free(&more);
     oth_seat_free(&more);
     want("free: the last", more.at == NULL);
+}
+
+/* A board of 30 empty squares. */
+static const oth_board deep = {0x8070383c1010001c, 0x080402002f6c3e02};
+
+static void *solve_deep(void *given) {
+    oth_answer answer;
+    oth_bounds bounds = {7, 7};
+    uint32_t code = oth_solve_within(given, deep, UINT64_MAX, &answer, &bounds);
+    return code == OTH_STOPPED && -64 <= bounds.lower && bounds.lower <= bounds.upper && bounds.upper <= 64 ? given : NULL;
+}
+
+/* A board that takes hours, ended from another thread; and what is called before the flag is cleared, and then. */
+static void ends_by_another_thread(void) {
+    oth_answer answer = {7, 7, 7};
+    oth_bounds bounds = {7, 7};
+    oth_seat first = {NULL}, more = {NULL};
+    pthread_t solving;
+    void *ended = NULL;
+    want("stop: no seat", oth_stop_set(&first) == OTH_NO_SEAT && oth_stop_clear(&first) == OTH_NO_SEAT && first.at == NULL);
+    refused = 0;
+    want("stop: a table", oth_table_new(4096, 0, &first) == OTH_DONE && oth_seat_new(&first, &more) == OTH_DONE);
+    if (pthread_create(&solving, NULL, solve_deep, &first) != 0) {
+        abort();
+    }
+    usleep(300000);
+    want("stop: set", oth_stop_set(&more) == OTH_DONE && more.at != NULL);
+    pthread_join(solving, &ended);
+    want("stop: ends a call", ended == &first);
+    want("stop: ends the next call", oth_solve_within(&more, deep, UINT64_MAX, &answer, &bounds) == OTH_STOPPED && bounds.lower <= bounds.upper && answer.score == 7);
+    want("stop: no other call", oth_solve_over(&more, full, &answer) == OTH_DONE && answer.score == 64);
+    want("stop: cleared", oth_stop_clear(&first) == OTH_DONE && oth_solve_within(&more, few, UINT64_MAX, &answer, &bounds) == OTH_DONE && answer.score == -50);
+    oth_seat_free(&first);
+    oth_seat_free(&more);
 }
 
 static void refusals_of_texts(void) {
@@ -459,6 +560,7 @@ int main(int count, char **words) {
         refusals_of_solving();
         refusals_of_scores();
         refusals_of_seats();
+        ends_by_another_thread();
         refusals_of_texts();
         refusals_of_games();
         refusals_of_version();
@@ -476,7 +578,7 @@ int main(int count, char **words) {
         scoring = strcmp(words[2], "discs") == 0;
         cells = (uint32_t)strtoul(words[3], NULL, 10);
         int same = solve(atoi(words[4]), shares);
-        return !same || unfit_scores != 0 || (by_parts && (untrue_bounds != 0 || ended_calls == 0));
+        return !same || unfit_scores != 0 || (by_parts && (untrue_bounds != 0 || ended_calls == 0 || (line_count > 500 && closer_bounds == 0)));
     }
     is_play = strcmp(command, "play") == 0;
     each_line(stdout, is_play ? play_line : strcmp(command, "moves") == 0 ? moves_line : transcript_line);

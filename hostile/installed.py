@@ -132,7 +132,11 @@ Board.of_line(A).pass_turn() | ValueError: the side to move has a move
 Board.of_line("X" * 64 + " O").pass_turn() | ValueError: the game is over
 Board.start().solve() | Refused: more than 30 squares are empty
 Table(64).solve_within(Board.of_line(A), 1 << 40) | Answer(score=-50, best=('h1',), kind=<Kind.MOVE: 0>)
-type(Table(64).solve_within(Board.of_line(A), 0)).__name__ | 'Bounds'
+(lambda known: (known.lower <= -50 <= known.upper, known.first in known.moves, known.moves.keys()))(Table(64).solve_within(Board.of_line(A), 0)) | (True, True, dict_keys(['b1', 'h1']))
+Table(64).solve_within(Board.of_line(PASSES), 0).first | None
+[Table(64).is_at_least(Board.of_line(A), score) for score in (-1000, -64, -50, -49, 64, 1000)] | [True, True, True, False, False, False]
+Table(64, Scoring.DISCS).is_at_least(Board.of_line(A), -49) | True
+Table(64).is_at_least(Board.start(), 0) | Refused: more than 30 squares are empty
 Board.of_line(A).solve(cells=3) | Refused: the cells are neither 0 nor one of 1, 2, 4 .. 262144
 Board.of_line(A).solve(cells=-1) | Refused: the cells are neither 0 nor one of 1, 2, 4 .. 262144
 Table(64).solve_within(Board.of_line(A), -1) | ValueError: `most` is -1, and 0 to 2**64 - 1 can be asked for
@@ -200,6 +204,30 @@ try:
     table.solve(board)
 except Refused as refused:
     print(len(answers), refused)
+"""
+# Is interrupted in each call that searches, ends a search from another thread, and goes on.
+ENDED = """
+import os
+import signal
+import threading
+from othsolve import Board, Ended, Table, solve_all
+board, table = Board.of_transcript(input()), Table(4096)
+def heard(call):
+    threading.Timer(0.3, os.kill, (os.getpid(), signal.SIGINT)).start()
+    try:
+        call()
+    except KeyboardInterrupt:
+        return True
+calls = [board.solve, board.scores, lambda: table.solve(board), lambda: table.solve_within(board, 1 << 60), lambda: table.scores(board)]
+print(board.empties, [heard(call) for call in [*calls, lambda: list(solve_all([board] * 3, 2))]])
+threading.Timer(0.3, table.stop).start()
+try:
+    table.solve(board)
+except Ended as ended:
+    print(-64 <= ended.bounds.lower <= ended.bounds.upper <= 64, ended.bounds.first in board.moves())
+print(type(table.solve_within(board, 1 << 60)).__name__)
+table.go_on()
+print(table.solve(Board.of_line("X" * 64 + " O")))
 """
 # What `install --program` runs.
 TOOLS = "bash chmod cp dirname find install mkdir mktemp realpath rm rmdir sed sort tac".split()
@@ -434,6 +462,12 @@ def python(folder, prefix):
     yield from python_games(analyse, games.splitlines(True)[0], told)
     yield "tables are freed, also one that is closed while it is used", c_library.ran_wrong(
         [sys.executable, "-c", TABLES], games[:88] + "\n", "1 there is no seat\n", env=told)
+    wanted = f"30 {[True] * 6}\nTrue True\nBounds\n-64 end\n"
+    yield "each search of Python is ended by Ctrl-C, and by another thread", c_library.ran_wrong(
+        [sys.executable, "-c", ENDED], games[:60] + "\n", wanted, env=told)
+    words = ["timeout", "--preserve-status", "--signal", "INT", "--kill-after", "60", "2", *analyse, "--empties", "28"]
+    found = ran(words, games.splitlines(True)[0].encode(), env=told)
+    yield "an analysis is ended by Ctrl-C", None if found.status == 130 else f"{found}"
     yield from python_package(folder, told)
     unfound = ran(analyse, b"", env={**told, "OTHSOLVE_LIBRARY": f"{prefix}/nowhere.so"})
     right = unfound.status == 1 and f"{prefix}/nowhere.so".encode() in unfound.said.splitlines()[-1]

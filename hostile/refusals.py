@@ -65,6 +65,7 @@ int pthread_create(pthread_t *thread, const pthread_attr_t *attributes, void *(*
 
 # The crates that have tests of refusals, with the modules in which these stand.
 MODULES = {
+    "oth_search_tests": ("tests::limited::refused",),
     "oth_table_tests": ("tests::refused",),
     "oth_book_tests": ("tests::refused",),
     "oth_pool_tests": ("tests::refused", "tests::pieces::refused", "tests::batch::refused"),

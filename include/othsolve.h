@@ -7,8 +7,8 @@
  *           has one: `own` and `opp` change places. Where neither side has a move the game is over.
  * Score     What the mover gets if both sides play best, -64 to 64: its discs less the opponent's where the game is over.
  *           By OTH_SCORING_WINNER the squares that stay empty go to the winner, by OTH_SCORING_DISCS to nobody.
- * Answers   Each call but oth_seat_free returns OTH_DONE, which is 0, or the number of a refusal (oth_solve_within also
- *           OTH_STOPPED, which is none). A refused call writes nothing, but for `place` of the calls that have it.
+ * Answers   Each call but oth_seat_free returns OTH_DONE, which is 0, or the number of a refusal (oth_solve_within and
+ *           oth_solve_until also OTH_STOPPED, which is none). A refused call writes nothing, but for `place` of the calls that have it.
  *
  * Proved of each call is the contract beside it in crates/oth_c/src: what it writes is exactly what the rules over single
  * squares say, scores and best moves are those of full minimax, and a refusal comes exactly where it is named here.
@@ -22,8 +22,7 @@
  * 3. The program's malloc, realloc and free are of one allocator, which aligns as C asks. Only oth_solve_alone, oth_scores
  *    and the calls of a seat use them.
  * 4. No call is made from a signal handler, or from the forked child of a process with threads.
- * 5. A thread that solves (oth_solve_alone, oth_solve_over, oth_solve_within, oth_scores, oth_scores_over) has 1 MB of
- *    stack. The other calls need a few kilobytes.
+ * 5. A thread that solves (oth_solve_.., oth_scores, oth_scores_over, oth_null_window) has 1 MB of stack. The other calls need a few kilobytes.
  * 6. An oth_seat is {NULL} before its first call. After that only calls change it, one call at a time; it isn't copied, and
  *    no copy is used. It may be handed to another thread where that comes after the call before (a thread's start or join,
  *    a lock). At last oth_seat_free has each seat.
@@ -77,14 +76,14 @@ enum {
     OTH_MEMORY = 33   /* there is no memory for the table or the seat */
 };
 
-/* What oth_solve_within returns where its search was ended before it was done: no refusal. */
+/* What oth_solve_within and oth_solve_until return where their search was ended before it was done: no refusal. */
 enum { OTH_STOPPED = 41 };
 
 enum { OTH_SCORING_WINNER = 0, OTH_SCORING_DISCS = 1 };
 enum { OTH_KIND_MOVE = 0, OTH_KIND_PASS = 1, OTH_KIND_END = 2 };
 enum { OTH_BLACK = 0, OTH_WHITE = 1 };
 enum { OTH_BOARD_LINE = 66, OTH_MOVES_LINE = 191, OTH_VERSION_LINE = 64 };
-enum { OTH_NO_SCORE = -128 };
+enum { OTH_NO_SCORE = -128, OTH_NO_SQUARE = 64 };
 
 /* The discs of the mover and of the opponent. */
 typedef struct {
@@ -119,6 +118,18 @@ typedef struct {
     int8_t lower;
     int8_t upper;
 } oth_bounds;
+
+/* What is known of a board whose search was ended: bounds of its value; the square to play, OTH_NO_SQUARE where there is no
+ * move; its legal squares; and at the number of each of these bounds of what the move gives, for who moves. At the other
+ * squares stands OTH_NO_SCORE. No move is known to give more than the one to play: no `lower` is greater than the one there.
+ * Of several such moves it is the one that seemed best. */
+typedef struct {
+    oth_bounds bounds;
+    uint8_t first;
+    uint64_t moves;
+    int8_t lower[64];
+    int8_t upper[64];
+} oth_known;
 
 /* A seat of a table that several threads share, or none where it is {NULL}. */
 typedef struct {
@@ -183,10 +194,37 @@ uint32_t oth_scores_over(oth_seat *seat, oth_board board, oth_move_scores *score
  * beside it, the search is ended, and the call returns OTH_STOPPED, writes true bounds of the board's value, and no answer.
  * What it found stays in the table, and a further call from there goes on with it: so `most` may be small, and calls be made,
  * each with more, until there is no more time. It ends a little later than that: at the next board of 11 and more empty
- * squares, and not within the guess of the score with which each search begins. Where it returns OTH_DONE it has written the
- * answer, and no bounds.
+ * squares, or in the guess of the score with which a search begins some milliseconds later. oth_stop_set ends it too. Where it
+ * returns OTH_DONE it has written the answer, and no bounds.
  * Refusals, the first that holds: OTH_OVERLAP, OTH_EMPTIES, OTH_NO_SEAT. */
 uint32_t oth_solve_within(oth_seat *seat, oth_board board, uint64_t most, oth_answer *answer, oth_bounds *bounds);
+
+/* The same for a program that has to move: where it returns OTH_STOPPED it writes what is known of the board and of each move,
+ * so that there is one to play, however small `most` was. The best move of an answer is any bit of `best`.
+ *
+ *     oth_known known;
+ *     uint32_t code;
+ *     do {
+ *         code = oth_solve_until(&seat, board, 100000, &answer, &known);
+ *     } while (code == OTH_STOPPED && is_time_left());
+ *
+ * A further call over the same board goes on where the last one from this seat ended, as far as the table has kept what was
+ * found, so `most` may be small: but each call takes up some hundred look-ups to come there.
+ * Refusals, the first that holds: OTH_OVERLAP, OTH_EMPTIES, OTH_NO_SEAT. */
+uint32_t oth_solve_until(oth_seat *seat, oth_board board, uint64_t most, oth_answer *answer, oth_known *known);
+
+/* Whether the value of a board of at most 30 empty squares is above `alpha`, under the table's scoring: true bounds, of which
+ * the lower one is above `alpha`, or else the upper one is not. So a value is at least n exactly where `lower` is, with n - 1
+ * for `alpha`. That takes less time than the value, and the moves aren't compared. oth_stop_set doesn't end it.
+ * Refusals, the first that holds: OTH_OVERLAP, OTH_EMPTIES, OTH_NO_SEAT. */
+uint32_t oth_null_window(oth_seat *seat, oth_board board, int8_t alpha, oth_bounds *bounds);
+
+/* Sets the table's flag: each call of oth_solve_within and oth_solve_until over the table ends soon, as if it could look up no
+ * more, and so does each that is made before oth_stop_clear clears the flag. The other calls of a seat are not ended. A thread
+ * that ends the calls of others has a seat of its own (oth_seat_new), which no call has meanwhile.
+ * Refusal: OTH_NO_SEAT. */
+uint32_t oth_stop_set(oth_seat *seat);
+uint32_t oth_stop_clear(oth_seat *seat);
 
 /* Frees the seat, and with the last seat its table; it is {NULL} then. Nothing is done where it was. */
 void oth_seat_free(oth_seat *seat);

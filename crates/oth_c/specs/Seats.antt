@@ -1,20 +1,23 @@
 -- What the calls of seats promise. A seat is the use of a table, or None.
 --     is_held x                  there is a seat
+--     seat_code x                what a call answers that needs a seat and nothing else
 --     IsOpened cells g u         u is the first use of a table of `cells` cells under this scoring, and has seen nothing
 --     Opens g cells x y          where there was no seat there is the first one of a new table
 --     Joins x y more more'       where there was no seat there is a further one of the same table
 --     Solves, SolvesFully x b a      a is the answer of the board under the table's scoring, as C has it and as the search
 --     EnclosesIn, EnclosesFully x b      bounds enclose the board's value under the table's scoring, as C has them and as the search
+--     DecidesIn, DecidesFully x b alpha      such bounds that tell whether the value is above alpha
 --     IsKept x y                 it is the same seat of the same table, whatever it has seen
 --     RefusesCells, RefusesTable, RefusesSeat, RefusesBoard      why a call refuses: the first cause that holds
-use Rattle.std.specs.Prelude.{◌≡◌, ℕ, ℤ, ◌<◌, ◌≤◌, [], Bool, true, false, Option, Some, None}
+use Rattle.std.specs.Prelude.{◌≡◌, ℕ, ℤ, pos, ◌+ℤ◌, ◌<◌, ◌≤◌, [], Bool, true, false, if◌then◌else◌, Option, Some, None}
 use Rattle.oth_rules.specs.Position.{empty_count}
 use Rattle.oth_rules.specs.declared.scoring.Scoring.{Scoring}
 use Rattle.oth_rules.specs.Score.{score_of}
 use Rattle.oth_rules.specs.Value.{value}
-use Rattle.oth_search.specs.Bounds.Interval.{Encloses}
+use Rattle.oth_search.specs.Bounds.Interval.{IsInterval, Encloses, Decides}
 use Rattle.oth_search.specs.Bounds.Full.{IsFullMinimax}
 use Rattle.oth_search.specs.declared.bounds.solved.Solved.{Solved}
+use Rattle.oth_search.specs.declared.shared.stop.Stopped.{Stopped}
 use Rattle.oth_search.specs.declared.bounds.answer.Answer.{Answer}
 use Rattle.oth_table.specs.SharedTable.{IsSame, Makes}
 use Rattle.oth_table.specs.Parts.{Use, fixed_of}
@@ -25,10 +28,14 @@ use Rattle.oth_c.specs.declared.refusal.Refusal.{Refusal}
 use Rattle.oth_c.specs.declared.refusal.Refusal.TheVariants as refusal
 use Rattle.oth_c.specs.Answers.{IsAnswer, scoring_of}
 use Rattle.oth_c.specs.Boards.{overlaps, position}
+use Rattle.oth_c.specs.Codes.{code_of}
 
 abbrev pub is_held : Option Use → Bool
 is_held None = false
 is_held (Some u) = true
+
+abbrev pub seat_code : Option Use → ℕ
+seat_code x = if is_held x then 0 else code_of refusal.NoSeat
 
 abbrev pub IsOpened : ℕ → Scoring → Use → Type 0
 IsOpened cells g u = (u.table.cells ≡ cells) × (u.table.terms.scoring ≡ g) × (u.seat.name ≡ 0) × (u.seat.seen ≡ [])
@@ -57,12 +64,27 @@ EnclosesIn None b lower upper = ⊥
 EnclosesIn (Some u) b lower upper =
     (overlaps b ≡ false)
     × (empty_count (position b) ≤ 30)
+    × IsInterval lower upper
     × Encloses lower upper (value (score_of u.table.terms.scoring) (position b))
 
-abbrev pub EnclosesFully : Option Use → OthBoard → Solved → Type 0
+abbrev pub EnclosesFully : Option Use → OthBoard → Stopped → Type 0
 EnclosesFully None b s = ⊥
 EnclosesFully (Some u) b s =
-    (overlaps b ≡ false) × (empty_count (position b) ≤ 30) × (s.board ≡ position b) × (s.scoring ≡ u.table.terms.scoring)
+    (overlaps b ≡ false)
+    × (empty_count (position b) ≤ 30)
+    × (s.known.board ≡ position b) × (s.known.scoring ≡ u.table.terms.scoring)
+    × (s.moves.board ≡ position b) × (s.moves.scoring ≡ u.table.terms.scoring)
+
+abbrev pub DecidesIn : Option Use → OthBoard → ℤ → ℤ → ℤ → Type 0
+DecidesIn x b alpha lower upper = EnclosesIn x b lower upper × Decides lower upper alpha (alpha +ℤ pos 1)
+
+abbrev pub DecidesFully : Option Use → OthBoard → ℤ → Solved → Type 0
+DecidesFully None b alpha s = ⊥
+DecidesFully (Some u) b alpha s =
+    (overlaps b ≡ false)
+    × (empty_count (position b) ≤ 30)
+    × (s.board ≡ position b) × (s.scoring ≡ u.table.terms.scoring)
+    × Decides s.interval.lower s.interval.upper alpha (alpha +ℤ pos 1)
 
 abbrev pub IsKept : Option Use → Option Use → Type 0
 IsKept None y = y ≡ None

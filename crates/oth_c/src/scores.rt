@@ -45,8 +45,8 @@ impl OthScores {
     }
 }
 
-// What stands at a square that is no legal move: less than each score.
-const NO_SCORE: i8 = -128;
+/// What stands at a square that is no legal move: less than each score.
+pub const NO_SCORE: i8 = -128;
 
 // What stands at each square.
 fn by_square(moves: &[ScoredMove]) -> [i8; 64]

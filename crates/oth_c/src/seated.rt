@@ -1,7 +1,8 @@
-//! A seat with the table that it is at.
+//! A seat with the table that it is at, and the flag that ends searches over that table.
 
-ghost use Rattle.std.specs.Prelude.{◌≡◌, IfOk, IfErr};
+ghost use Rattle.std.specs.Prelude.{◌≡◌, ◌+ℤ◌, pos, IfOk, IfErr};
 ghost use Rattle.oth_search.specs.Bounds.Full.{IsFullMinimax};
+ghost use Rattle.oth_search.specs.Bounds.Interval.{Decides};
 ghost use Rattle.oth_table.specs.SharedTable.{IsSeatOf, IsSame, Makes};
 ghost use Rattle.oth_table.specs.Sizes.{IsSize};
 ghost use Rattle.oth_table.specs.Parts.{fixed_of};
@@ -11,17 +12,22 @@ ghost use Rattle.oth_c.specs.declared.refusal.Refusal.TheVariants as refusal;
 use crate::refusal::Refusal;
 use crate::solving::cells_over;
 use oth_rules::{Board, Scoring};
-use oth_search::{Answer, Limited, Scores, Stopped, scores_with, solve_until, solve_with};
+use oth_search::{
+    Answer, Limited, Scores, Seen, Solved, StopFlag, Stopped, scores_with, solve_until, solve_with,
+};
 use oth_table::{SharedTable, TableError, TableSeat};
 use std::alloc::Global;
 use std::marker::Model;
 use std::sync::Arc;
 
-/// A seat of a table, and a part in the table: the last seat that goes frees it.
+/// A seat of a table, and a part in the table and in its flag: the last seat that goes frees both.
 #[derive(Drop)]
 pub struct Seated {
     table: Arc<SharedTable>,
     seat: TableSeat,
+    stop: Arc<StopFlag>,
+    // What the guess of an ended search saw.
+    seen: Seen,
 }
 
 impl Model for Seated {
@@ -52,7 +58,16 @@ impl Seated {
                 let Ok(table) = Arc::new(alloc, table) else {
                     return Err(Refusal::Memory);
                 };
-                Ok(Seated { table, seat })
+                let Ok(stop) = Arc::new(alloc, StopFlag::new()) else {
+                    return Err(Refusal::Memory);
+                };
+                let seen = Seen::new(alloc);
+                Ok(Seated {
+                    table,
+                    seat,
+                    stop,
+                    seen,
+                })
             }
             Err(TableError::Cells) => Err(Refusal::Cells),
             Err(_) => Err(Refusal::Memory),
@@ -66,12 +81,25 @@ impl Seated {
         ensures made { IfOk result (λ s. (s.table ≡ self.old.table) × Makes self.old.seat self.new.seat s.seat) }
         ensures err { IfErr result (λ r. (r ≡ refusal.Memory) × (self.new ≡ self.old)) }
     {
-        let Seated { table, seat } = self;
+        let Seated {
+            table,
+            seat,
+            stop,
+            ..
+        } = self;
         let Ok(part) = Arc::try_clone(table) else {
             return Err(Refusal::Memory);
         };
+        let Ok(stop) = Arc::try_clone(stop) else {
+            return Err(Refusal::Memory);
+        };
         match table.seat(alloc, seat) {
-            Ok(seat) => Ok(Seated { table: part, seat }),
+            Ok(seat) => Ok(Seated {
+                table: part,
+                seat,
+                stop,
+                seen: Seen::new(alloc),
+            }),
             Err(_) => Err(Refusal::Memory),
         }
     }
@@ -81,11 +109,22 @@ impl Seated {
         ensures kept { fixed_of result.0 ≡ fixed_of self }
         ensures full { IsFullMinimax board self.table.terms.scoring result.1 }
     {
-        let Seated { table, seat } = self;
+        let Seated {
+            table,
+            seat,
+            stop,
+            seen,
+        } = self;
         let mut cells = cells_over(alloc, &board, &table, seat, false);
         let answer = solve_with(board, &mut cells, table.scoring());
         let seat = cells.into_cells().into_seat();
-        (Seated { table, seat }, answer)
+        let seated = Seated {
+            table,
+            seat,
+            stop,
+            seen,
+        };
+        (seated, answer)
     }
 
     /// The scores of a board's moves under the table's scoring, and the seat, as it then is.
@@ -94,15 +133,26 @@ impl Seated {
         ensures board { result.1.answer.board ≡ board }
         ensures scoring { result.1.answer.scoring ≡ self.table.terms.scoring }
     {
-        let Seated { table, seat } = self;
+        let Seated {
+            table,
+            seat,
+            stop,
+            seen,
+        } = self;
         let mut cells = cells_over(alloc, &board, &table, seat, false);
         let scores = scores_with(board, &mut cells, table.scoring());
         let seat = cells.into_cells().into_seat();
-        (Seated { table, seat }, scores)
+        let seated = Seated {
+            table,
+            seat,
+            stop,
+            seen,
+        };
+        (seated, scores)
     }
 
     /// Returns the answer of a board under the table's scoring, or the bounds that are known when about `most` boards
-    /// were looked up; and the seat, as it then is.
+    /// were looked up, or once the table's flag is set; and the seat, as it then is.
     pub fn solve_within(
         self,
         alloc: Global,
@@ -113,12 +163,66 @@ impl Seated {
         ensures full { IfOk result.1 (IsFullMinimax board self.table.terms.scoring) }
         ensures known { IfErr result.1 (λ s. (s.known.board ≡ board)
             × (s.known.scoring ≡ self.table.terms.scoring)) }
+        ensures moves { IfErr result.1 (λ s. (s.moves.board ≡ board)
+            × (s.moves.scoring ≡ self.table.terms.scoring)) }
     {
-        let Seated { table, seat } = self;
+        let Seated {
+            table,
+            seat,
+            stop,
+            seen,
+        } = self;
         let cells = cells_over(alloc, &board, &table, seat, false);
-        let mut limited = Limited::of(cells, most);
-        let found = solve_until(alloc, &board, &mut limited, table.scoring());
-        let seat = limited.into_cells().into_cells().into_seat();
-        (Seated { table, seat }, found)
+        let mut limited = Limited::going_on(cells, most, seen);
+        let found = solve_until(&board, &mut limited, table.scoring(), &stop);
+        let (cells, seen) = limited.into_parts();
+        let seat = cells.into_cells().into_seat();
+        let seated = Seated {
+            table,
+            seat,
+            stop,
+            seen,
+        };
+        (seated, found)
+    }
+
+    /// Returns bounds that tell whether the board's value is above `alpha` under the table's scoring, and the seat, as
+    /// it then is. A threshold that no value is above, or every one, takes no search.
+    pub fn null_window(self, alloc: Global, board: Board, alpha: i8) -> (Seated, Solved)
+        ensures kept { fixed_of result.0 ≡ fixed_of self }
+        ensures board { result.1.board ≡ board }
+        ensures scoring { result.1.scoring ≡ self.table.terms.scoring }
+        ensures decides { Decides result.1.interval.lower result.1.interval.upper alpha (alpha +ℤ pos 1) }
+    {
+        let Seated {
+            table,
+            seat,
+            stop,
+            seen,
+        } = self;
+        let scoring = table.scoring();
+        let mut cells = cells_over(alloc, &board, &table, seat, false);
+        let found = if -64 <= alpha && alpha <= 63 {
+            Solved::by_null_window(&board, alpha, &mut cells, scoring)
+        } else {
+            Solved::unknown(board, scoring)
+        };
+        let seat = cells.into_cells().into_seat();
+        let seated = Seated {
+            table,
+            seat,
+            stop,
+            seen,
+        };
+        (seated, found)
+    }
+
+    /// Tells all seats of the table whether searches that may be ended are to end.
+    pub fn tell_all(&self, are_to_end: bool) {
+        if are_to_end {
+            self.stop.set();
+        } else {
+            self.stop.clear();
+        }
     }
 }

@@ -6,7 +6,7 @@ ghost use Rattle.oth_table.specs.Sizes.{IsSize};
 ghost use Rattle.oth_c.specs.Boards.{overlaps, position};
 ghost use Rattle.oth_c.specs.Codes.{code_of};
 ghost use Rattle.oth_c.specs.Seats.{is_held, IsOpenedAt, Opens, Joins, Solves, IsKept};
-ghost use Rattle.oth_c.specs.Seats.{RefusesCells, RefusesTable, RefusesSeat, RefusesBoard};
+ghost use Rattle.oth_c.specs.Seats.{DecidesIn, DecidesFully, RefusesCells, RefusesTable, RefusesSeat, RefusesBoard};
 ghost use Rattle.oth_c.specs.declared.refusal.Refusal.{Refusal as RefusedBy};
 
 use crate::answer::OthAnswer;
@@ -15,8 +15,9 @@ use crate::refusal::{DONE, Refusal, deliver};
 use crate::seat::OthSeat;
 use crate::seated::{Place, Seated};
 use crate::solving::scoring_of;
+use crate::within::OthBounds;
 use oth_rules::{Board, Scoring};
-use oth_search::MOST_EMPTIES;
+use oth_search::{MOST_EMPTIES, Solved};
 use std::alloc::Global;
 
 /// Makes a table of `cells` cells, 1, 2, 4 .. 262,144, for boards under the scoring of this number, 0 or 1, and its
@@ -179,6 +180,49 @@ fn solved_over(alloc: Global, seat: &mut OthSeat, board: OthBoard) -> Result<Oth
     place.seated = Some(seated);
     seat.put(place);
     Ok(OthAnswer::of(&answer))
+}
+
+/// Writes true bounds of the value of a board of at most 30 empty squares, under the table's scoring, that tell whether
+/// it is above `alpha`: the lower one is above it, or the upper one isn't. Refusals 1, 5 and 31, tested in this order;
+/// they leave the seat as it was.
+#[unsafe(no_mangle)]
+pub extern "C" fn oth_null_window(
+    alloc: Global,
+    seat: &mut OthSeat,
+    board: OthBoard,
+    alpha: i8,
+    bounds: &mut OthBounds,
+) -> u32
+    ensures decided { result ≡ DONE → DecidesIn seat.old.held board alpha bounds.new.lower bounds.new.upper }
+    ensures same { IsKept seat.old.held seat.new.held }
+    ensures refused { result ≢ DONE → (r : RefusedBy) × (result ≡ code_of r) × RefusesBoard seat.old.held board r }
+    ensures kept { result ≢ DONE → (seat.new.held ≡ seat.old.held) × (bounds.new ≡ bounds.old) }
+{
+    match decided_over(alloc, seat, board, alpha) {
+        Ok(found) => {
+            *bounds = OthBounds::of(found.interval);
+            DONE
+        }
+        Err(refusal) => refusal.code(),
+    }
+}
+
+// The board with such bounds, or the first refusal.
+fn decided_over(
+    alloc: Global,
+    seat: &mut OthSeat,
+    board: OthBoard,
+    alpha: i8,
+) -> Result<Solved, Refusal>
+    ensures decided { IfOk result (DecidesFully seat.old.held board alpha) }
+    ensures same { IsKept seat.old.held seat.new.held }
+    ensures err { IfErr result (λ r. RefusesBoard seat.old.held board r × (seat.new.held ≡ seat.old.held)) }
+{
+    let (board, seated, mut place) = lifted(alloc, seat, board)?;
+    let (kept, found) = seated.null_window(alloc, board, alpha);
+    place.seated = Some(kept);
+    seat.put(place);
+    Ok(found)
 }
 
 /// Frees a seat, and with the last seat its table. Where there is none nothing is done.

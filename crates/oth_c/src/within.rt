@@ -1,16 +1,22 @@
-//! The solver for a caller who can't wait: a search that may be ended before it is done.
+//! The solver for a caller who can't wait: a search that may be ended before it is done, by a limit or from another
+//! thread.
 
-ghost use Rattle.std.specs.Prelude.{◌≡◌, ◌≢◌, IfOk, IfErr};
+ghost use Rattle.std.specs.Prelude.{◌≡◌, ◌≢◌, ◌⊎◌, ◌<◌, IfOk, IfErr, true};
+ghost use Rattle.oth_rules.specs.Move.{is_legal};
 ghost use Rattle.oth_c.specs.Codes.{code_of};
-ghost use Rattle.oth_c.specs.Seats.{Solves, SolvesFully, EnclosesIn, EnclosesFully, IsKept, RefusesBoard};
+ghost use Rattle.oth_c.specs.Seats.{Solves, SolvesFully, EnclosesIn, EnclosesFully, IsKept};
+ghost use Rattle.oth_c.specs.Seats.{RefusesBoard, seat_code};
+ghost use Rattle.oth_c.specs.Scores.{IsBoundedAt, AreBounded, AreKnown, TellsKnown};
 ghost use Rattle.oth_c.specs.declared.refusal.Refusal.{Refusal as RefusedBy};
 
 use crate::answer::OthAnswer;
 use crate::board::OthBoard;
 use crate::refusal::{DONE, Refusal, STOPPED};
+use crate::scores::NO_SCORE;
 use crate::seat::OthSeat;
 use crate::sharing::lifted;
-use oth_search::{Answer, Interval, Solved, Stopped};
+use oth_rules::Square;
+use oth_search::{Answer, Interval, RootMoves, Stopped};
 use std::alloc::Global;
 
 /// Bounds of the value of a board for its mover, -64 to 64.
@@ -22,19 +28,92 @@ pub struct OthBounds {
 }
 
 impl OthBounds {
-    // The bounds of a board.
-    fn of(solved: &Solved) -> OthBounds
-        ensures lower { result.lower ≡ solved.now.interval.lower }
-        ensures upper { result.upper ≡ solved.now.interval.upper }
+    /// The numbers of bounds.
+    pub fn of(interval: Interval) -> OthBounds
+        ensures lower { result.lower ≡ interval.lower }
+        ensures upper { result.upper ≡ interval.upper }
     {
-        let Interval { lower, upper } = solved.interval;
+        let Interval { lower, upper } = interval;
         OthBounds { lower, upper }
     }
 }
 
-/// As `oth_solve_over`, by a search that looks up at most about `most` boards. Where that is too few for the answer it
-/// gives 41, and true bounds of the board's value in its place. Refusals 1, 5 and 31, tested in this order; they leave
-/// the seat as it was.
+/// What is known of a board and of its moves: bounds of its value; the square of a move that is known to give as much
+/// as any is known to give, of several the one that seemed best, or 64 where there is no move; its legal squares; and
+/// bounds of what each move gives, seen from who moves, at its square. At a square that is no legal move stands -128.
+#[repr(C)]
+#[derive(Clone, Copy, PartialEq, Eq, Debug)]
+pub struct OthKnown {
+    pub bounds: OthBounds,
+    pub first: u8,
+    pub moves: u64,
+    pub lower: [i8; 64],
+    pub upper: [i8; 64],
+}
+
+impl OthKnown {
+    // The numbers of what was known when a search ended.
+    fn of(stopped: &Stopped) -> OthKnown
+        requires board { stopped.now.moves.board ≡ stopped.now.known.board }
+        requires scoring { stopped.now.moves.scoring ≡ stopped.now.known.scoring }
+        ensures { AreKnown stopped.now.known.board stopped.now.known.scoring result }
+    {
+        let moves = &stopped.moves;
+        let (lower, upper) = by_square(moves);
+        OthKnown {
+            bounds: OthBounds::of(stopped.known.interval),
+            first: first_of(moves),
+            moves: stopped.known.board.moves(),
+            lower,
+            upper,
+        }
+    }
+}
+
+// What stands in place of a square where there is none.
+const NO_SQUARE: u8 = 64;
+
+// The square of the surest move, if there is a move.
+fn first_of(moves: &RootMoves) -> u8
+    ensures { (result ≡ 64) ⊎ (is_legal moves.now.board result ≡ true) }
+{
+    match moves.surest() {
+        Some(square) => square.number(),
+        None => NO_SQUARE,
+    }
+}
+
+// The lower bounds that stand at each square, and the upper ones.
+fn by_square(moves: &RootMoves) -> ([i8; 64], [i8; 64])
+    ensures { AreBounded moves.now.board moves.now.scoring result.0 result.1 }
+{
+    let mut lower = [NO_SCORE; 64];
+    let mut upper = [NO_SCORE; 64];
+    for number in 0..64 {
+        let bounds = bounds_at(moves, number);
+        lower[number] = bounds.lower;
+        upper[number] = bounds.upper;
+    }
+    (lower, upper)
+}
+
+// The bounds that stand at the square of this number.
+fn bounds_at(moves: &RootMoves, number: usize) -> OthBounds
+    requires { number < 64 }
+    ensures { IsBoundedAt moves.now.board moves.now.scoring number result.lower result.upper }
+{
+    match moves.known_after(Square::numbered(number as u8)) {
+        Some(known) => OthBounds::of(known.interval.turned()),
+        None => OthBounds {
+            lower: NO_SCORE,
+            upper: NO_SCORE,
+        },
+    }
+}
+
+/// As `oth_solve_over`, by a search that looks up at most about `most` boards, and ends too once `oth_stop_set` has set
+/// the table's flag. Where it has no answer by then it gives 41, and true bounds of the board's value in its place.
+/// Refusals 1, 5 and 31, tested in this order; they leave the seat as it was.
 #[unsafe(no_mangle)]
 pub extern "C" fn oth_solve_within(
     alloc: Global,
@@ -59,7 +138,40 @@ pub extern "C" fn oth_solve_within(
             DONE
         }
         Ok(Err(stopped)) => {
-            *bounds = OthBounds::of(&stopped.known);
+            *bounds = OthBounds::of(stopped.known.interval);
+            STOPPED
+        }
+        Err(refusal) => refusal.code(),
+    }
+}
+
+/// As `oth_solve_within`, and where it gives 41 it writes true bounds of each move too, and which one to play. Refusals
+/// 1, 5 and 31, tested in this order; they leave the seat as it was.
+#[unsafe(no_mangle)]
+pub extern "C" fn oth_solve_until(
+    alloc: Global,
+    seat: &mut OthSeat,
+    board: OthBoard,
+    most: u64,
+    answer: &mut OthAnswer,
+    known: &mut OthKnown,
+) -> u32
+    ensures answered { result ≡ DONE → Solves seat.old.held board answer.new }
+    ensures stopped { result ≡ STOPPED → TellsKnown seat.old.held board known.new }
+    ensures same { IsKept seat.old.held seat.new.held }
+    ensures refused { result ≢ DONE → result ≢ STOPPED
+        → (r : RefusedBy) × (result ≡ code_of r) × RefusesBoard seat.old.held board r }
+    ensures unanswered { result ≢ DONE → answer.new ≡ answer.old }
+    ensures untold { result ≢ STOPPED → known.new ≡ known.old }
+    ensures kept { result ≢ DONE → result ≢ STOPPED → seat.new.held ≡ seat.old.held }
+{
+    match found_within(alloc, seat, board, most) {
+        Ok(Ok(found)) => {
+            *answer = OthAnswer::of(&found);
+            DONE
+        }
+        Ok(Err(stopped)) => {
+            *known = OthKnown::of(&stopped);
             STOPPED
         }
         Err(refusal) => refusal.code(),
@@ -74,7 +186,7 @@ fn found_within(
     most: u64,
 ) -> Result<Result<Answer, Stopped>, Refusal>
     ensures full { IfOk result (λ f. IfOk f (SolvesFully seat.old.held board)) }
-    ensures known { IfOk result (λ f. IfErr f (λ s. EnclosesFully seat.old.held board s.known)) }
+    ensures known { IfOk result (λ f. IfErr f (EnclosesFully seat.old.held board)) }
     ensures same { IsKept seat.old.held seat.new.held }
     ensures err { IfErr result (λ r. RefusesBoard seat.old.held board r × (seat.new.held ≡ seat.old.held)) }
 {
@@ -83,4 +195,42 @@ fn found_within(
     place.seated = Some(seated);
     seat.put(place);
     Ok(found)
+}
+
+/// Sets the flag of the seat's table: calls of `oth_solve_within` over that table end, those that are under way and
+/// those that begin before `oth_stop_clear`. Refusal 31.
+#[unsafe(no_mangle)]
+pub extern "C" fn oth_stop_set(alloc: Global, seat: &mut OthSeat) -> u32
+    ensures code { result ≡ seat_code seat.old.held }
+    ensures kept { seat.new.held ≡ seat.old.held }
+{
+    tell_all(alloc, seat, true)
+}
+
+/// Clears the flag of the seat's table. Refusal 31.
+#[unsafe(no_mangle)]
+pub extern "C" fn oth_stop_clear(alloc: Global, seat: &mut OthSeat) -> u32
+    ensures code { result ≡ seat_code seat.old.held }
+    ensures kept { seat.new.held ≡ seat.old.held }
+{
+    tell_all(alloc, seat, false)
+}
+
+// Tells all seats of the table whether their searches are to end.
+fn tell_all(alloc: Global, seat: &mut OthSeat, are_to_end: bool) -> u32
+    ensures code { result ≡ seat_code seat.old.held }
+    ensures kept { seat.new.held ≡ seat.old.held }
+{
+    let Some(place) = seat.take(alloc) else {
+        return Refusal::NoSeat.code();
+    };
+    let code = match &place.seated {
+        Some(seated) => {
+            seated.tell_all(are_to_end);
+            DONE
+        }
+        None => Refusal::NoSeat.code(),
+    };
+    seat.put(place);
+    code
 }

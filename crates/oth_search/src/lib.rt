@@ -26,4 +26,4 @@ pub use root::{
     Unobserved, answer_by, before_pass, ended, first_threshold, lead, scores_with, seeming_value,
     settle_at, settle_moves, solve_alone, solve_moves, solve_with, value_of,
 };
-pub use shared::{Company, Limited, Stopped, put, solve_until};
+pub use shared::{Company, Limited, Seen, StopFlag, Stopped, put, solve_until};

@@ -8,6 +8,7 @@ use crate::{
     loss_of, scores_after, solve_both, solve_by_book,
 };
 use oth_rules::{Board, Scoring, Square};
+use oth_search::StopFlag;
 use oth_table::{SharedTable, TableCells, TableSeat};
 use std::alloc::Global;
 use std::test::Fail;
@@ -78,10 +79,14 @@ fn an_engine_has_to_move(rt: HostRuntime) {
         panic!(rt; "no board or no table")
     };
     let cells = TableCells::of(&table, seat);
-    let (cells, early) = bounds_in_time(rt.alloc(), cells, &board, 0, Scoring::Winner);
+    let stop = StopFlag::new();
+    let (cells, early) = bounds_in_time(cells, &board, 0, Scoring::Winner, &stop);
     assert!(rt; early.interval.lower <= -50 && -50 <= early.interval.upper);
-    let (_, whole) = bounds_in_time(rt.alloc(), cells, &board, u64::MAX, Scoring::Winner);
+    let (cells, whole) = bounds_in_time(cells, &board, u64::MAX, Scoring::Winner, &stop);
     assert!(rt; whole.interval.lower == -50 && whole.interval.upper == -50);
+    stop.set();
+    let (_, ended) = bounds_in_time(cells, &board, u64::MAX, Scoring::Winner, &stop);
+    assert!(rt; ended.interval.lower <= -50 && -50 <= ended.interval.upper);
 }
 
 #[test]

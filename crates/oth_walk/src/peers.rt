@@ -43,7 +43,6 @@ struct Goal {
 /// that it has under way itself.
 #[derive(Drop)]
 pub(crate) struct Peers<'w> {
-    alloc: Global,
     shape: Shape,
     pub root_bound: RootBound<'w>,
     pub hints: HintSeat<'w>,
@@ -65,7 +64,6 @@ impl<'w> Peers<'w> {
         hints: HintSeat<'w>,
     ) -> Peers<'w> {
         Peers {
-            alloc,
             shape,
             root_bound,
             hints,
@@ -241,10 +239,6 @@ impl<'w, C: Cells> Observer<C> for Peers<'w> {
 }
 
 impl<'w, C: Cells> Company<C> for Peers<'w> {
-    fn alloc(&self) -> Global {
-        self.alloc
-    }
-
     fn fewest(&self) -> u8 {
         self.shape.fewest
     }

@@ -30,11 +30,14 @@ import re
 import threading
 import weakref
 from collections import deque
-from collections.abc import Iterable, Iterator
+from collections.abc import Callable, Iterable, Iterator
 from concurrent.futures import Future, ThreadPoolExecutor
-from dataclasses import dataclass
+from dataclasses import dataclass, field
+from typing import TypeVar
 
-__all__ = ["Answer", "Board", "Bounds", "Kind", "LIBRARY_VERSION", "MOST_EMPTIES", "Refused", "Scoring", "Side", "Table", "solve_all"]
+__all__ = [
+    "Answer", "Board", "Bounds", "Ended", "Kind", "LIBRARY_VERSION", "MOST_EMPTIES", "Refused", "Scoring", "Side", "Table", "solve_all"
+]
 
 __version__ = "0.2.0"
 
@@ -43,6 +46,10 @@ MOST_EMPTIES = 30
 
 _BOARD_LINE, _MOVES_LINE, _VERSION_LINE = 66, 191, 64
 _WAITING_PER_THREAD = 4
+# Up to so many empty squares a call takes some hundredths of a second, and Ctrl-C waits for it.
+_SOON_DONE = 14
+_NO_LIMIT = (1 << 64) - 1
+_Found = TypeVar("_Found")
 
 # The number of each refusal, and what it says, as in othsolve.h.
 _WORDS = {
@@ -85,6 +92,17 @@ class Refused(ValueError):
     def __reduce__(self) -> tuple[type[Refused], tuple[int, int | None]]:
         """What `pickle` makes it of again: the number and the place, and not the words."""
         return Refused, (self.code, self.place)
+
+
+class Ended(Exception):
+    """A search was ended by `Table.stop` before it was done: `bounds` is what is known of the board's score."""
+
+    def __init__(self, bounds: Bounds) -> None:
+        self.bounds = bounds
+        super().__init__(f"the search was ended; the score is {bounds.lower:+d} to {bounds.upper:+d}")
+
+    def __reduce__(self) -> tuple[type[Ended], tuple[Bounds]]:
+        return Ended, (self.bounds,)
 
 
 class Scoring(enum.IntEnum):
@@ -136,6 +154,21 @@ class _Bounds(ctypes.Structure):
     _fields_ = [("lower", ctypes.c_int8), ("upper", ctypes.c_int8)]
 
 
+class _Known(ctypes.Structure):
+    _fields_ = [
+        ("bounds", _Bounds),
+        ("first", ctypes.c_uint8),
+        ("moves", ctypes.c_uint64),
+        ("lower", ctypes.c_int8 * 64),
+        ("upper", ctypes.c_int8 * 64),
+    ]
+
+    def as_bounds(self) -> Bounds:
+        moves = {move: (self.lower[_number(move)], self.upper[_number(move)]) for move in _names(self.moves)}
+        first = _names(1 << self.first)[0] if self.first < 64 else None
+        return Bounds(self.bounds.lower, self.bounds.upper, first, moves)
+
+
 class _Seat(ctypes.Structure):
     _fields_ = [("at", ctypes.c_void_p)]
 
@@ -156,8 +189,11 @@ def _library() -> ctypes.CDLL:
         "oth_table_new": [ctypes.c_uint32, ctypes.c_uint8, seat],
         "oth_seat_new": [seat, seat],
         "oth_solve_over": [seat, _Board, ctypes.POINTER(_Answer)],
-        "oth_solve_within": [seat, _Board, ctypes.c_uint64, ctypes.POINTER(_Answer), ctypes.POINTER(_Bounds)],
+        "oth_solve_until": [seat, _Board, ctypes.c_uint64, ctypes.POINTER(_Answer), ctypes.POINTER(_Known)],
+        "oth_null_window": [seat, _Board, ctypes.c_int8, ctypes.POINTER(_Bounds)],
         "oth_scores_over": [seat, _Board, ctypes.POINTER(_Scores)],
+        "oth_stop_set": [seat],
+        "oth_stop_clear": [seat],
         "oth_seat_free": [seat],
         "oth_read_board": [ctypes.c_char_p, ctypes.c_size_t, ctypes.POINTER(_Position), place],
         "oth_read_transcript": [ctypes.c_char_p, ctypes.c_size_t, ctypes.POINTER(_Position), place],
@@ -180,6 +216,32 @@ _LIB = _library()
 def _done(code: int, place: int | None = None) -> None:
     if code:
         raise Refused(code, place)
+
+
+def _heard(call: Callable[[], _Found], end: Callable[[], None] | None = None) -> _Found:
+    """Returns what the call does, made in a thread of its own where this is the main thread, which hears Ctrl-C meanwhile.
+
+    Then `end` ends the call; where there is none, it goes on by itself, and nobody waits for it.
+    """
+    if threading.current_thread() is not threading.main_thread():
+        return call()
+    found: Future[_Found] = Future()
+
+    def make() -> None:
+        try:
+            found.set_result(call())
+        except BaseException as error:
+            found.set_exception(error)
+
+    thread = threading.Thread(target=make, daemon=True)
+    thread.start()
+    try:
+        return found.result()
+    except BaseException:
+        if end is not None and not found.done():
+            end()
+            thread.join()
+        raise
 
 
 def _version() -> str:
@@ -234,10 +296,16 @@ class Answer:
 
 @dataclass(frozen=True)
 class Bounds:
-    """What is known of a board's score where its search was ended: it is neither less than `lower` nor more than `upper`."""
+    """What is known of a board's score where its search was ended: it is neither less than `lower` nor more than `upper`.
+
+    `moves` has such a pair for what each legal move gives, and `first` is the move to play, None where there is none: no move is known to give
+    more, and of several such moves it is the one that seemed best.
+    """
 
     lower: int
     upper: int
+    first: str | None = None
+    moves: dict[str, tuple[int, int]] = field(default_factory=dict, repr=False, compare=False)
 
 
 @dataclass(frozen=True)
@@ -336,9 +404,11 @@ class Board:
         """Returns the score, all best moves and the kind of a board of at most MOST_EMPTIES empty squares.
 
         The search makes a table of `cells` cells of 32 bytes, and frees it: 0 for none, or 1, 2, 4 .. 262144. It changes the time alone.
-        Nothing ends a search early, and Ctrl-C is heard when it is done. Some tenths of a second at 18 empty squares become five to six
-        times as much with every two more.
+        Ctrl-C ends it. Some tenths of a second at 18 empty squares become five to six times as much with every two more.
         """
+        if _SOON_DONE < self.empties <= MOST_EMPTIES and threading.current_thread() is threading.main_thread():
+            with Table(cells or 1, scoring) as table:
+                return table.solve(self)
         answer = _Answer()
         _done(_LIB.oth_solve_alone(self._words, Scoring(scoring), _cells(cells), ctypes.byref(answer)))
         return Answer(answer.score, _names(answer.best), Kind(answer.kind))
@@ -347,10 +417,15 @@ class Board:
         """Returns the score of each legal move, rising: what the board after it is worth to the mover. The best moves have the greatest.
 
         There are none where the side passes or the game is over. It takes longer than `solve`, and less than a `solve` for each move.
+        Ctrl-C is heard at once, but the search goes on unheeded, until it is done or Python ends.
         """
-        found = _Scores()
-        _done(_LIB.oth_scores(self._words, Scoring(scoring), _cells(cells), ctypes.byref(found)))
-        return found.by_name()
+        found, scoring, cells = _Scores(), Scoring(scoring), _cells(cells)
+
+        def score() -> dict[str, int]:
+            _done(_LIB.oth_scores(self._words, scoring, cells, ctypes.byref(found)))
+            return found.by_name()
+
+        return _heard(score) if self.empties > _SOON_DONE else score()
 
     def line(self) -> str:
         """Returns the board line."""
@@ -401,6 +476,12 @@ class _Seats:
             else:
                 self._free.append(seat)
 
+    def tell(self, call: Callable[[_Seat], int]) -> None:
+        """Makes a call of a flag with the first seat, unless the table is closed."""
+        with self._lock:
+            if not self._closed:
+                _done(call(ctypes.byref(self._first)))
+
     def close(self) -> None:
         """Frees each seat but those of calls that are under way, which are freed as these end; the last one frees the table."""
         with self._lock:
@@ -419,7 +500,8 @@ class Table:
                 print(answer)
 
     `cells` is 1, 2, 4 .. 262144, of 32 bytes each. The table is freed by `close`, or where the `with` ends, or when nothing refers to it any
-    more, once no call is under way.
+    more, once no call is under way. `stop`, by any thread, ends the calls of `solve` and `solve_within` that are under way, and those that
+    are made before `go_on`. Ctrl-C does so too, while the main thread has a call of them.
     """
 
     def __init__(self, cells: int = 65_536, scoring: Scoring = Scoring.WINNER) -> None:
@@ -427,33 +509,71 @@ class Table:
         self._close = weakref.finalize(self, self._seats.close)
 
     def solve(self, board: Board) -> Answer:
-        """Returns the score, all best moves and the kind of a board of at most MOST_EMPTIES empty squares, under the table's scoring."""
-        answer = _Answer()
-        with self._seat() as seat:
-            _done(_LIB.oth_solve_over(seat, board._words, ctypes.byref(answer)))
-        return Answer(answer.score, _names(answer.best), Kind(answer.kind))
+        """Returns the score, all best moves and the kind of a board of at most MOST_EMPTIES empty squares, under the table's scoring.
+
+        It raises Ended where `stop` ended the search.
+        """
+        found = self.solve_within(board, _NO_LIMIT)
+        if isinstance(found, Bounds):
+            raise Ended(found)
+        return found
 
     def scores(self, board: Board) -> dict[str, int]:
         """Returns the score of each legal move, rising, under the table's scoring, as `Board.scores`."""
         found = _Scores()
-        with self._seat() as seat:
-            _done(_LIB.oth_scores_over(seat, board._words, ctypes.byref(found)))
-        return found.by_name()
+
+        def score() -> dict[str, int]:
+            with self._seat() as seat:
+                _done(_LIB.oth_scores_over(seat, board._words, ctypes.byref(found)))
+            return found.by_name()
+
+        return _heard(score) if board.empties > _SOON_DONE else score()
 
     def solve_within(self, board: Board, most: int) -> Answer | Bounds:
         """Solves as `solve` does, but looks up about `most` boards, 0 to 2**64 - 1; if these are too few, returns what is known by then.
 
-        A further call goes on with what the last one found, so it may be asked with more each time, until there is no more time.
+        A further call goes on with what the last one found, so it may be asked again until there is no more time, and then there is a move to
+        play, `Bounds.first`. `stop` ends it as too small a number does.
         """
-        if not 0 <= most < 1 << 64:
+        if not 0 <= most <= _NO_LIMIT:
             raise ValueError(f"`most` is {most}, and 0 to 2**64 - 1 can be asked for")
-        answer, bounds = _Answer(), _Bounds()
-        with self._seat() as seat:
-            code = _LIB.oth_solve_within(seat, board._words, most, ctypes.byref(answer), ctypes.byref(bounds))
-        if code == _STOPPED:
-            return Bounds(bounds.lower, bounds.upper)
-        _done(code)
-        return Answer(answer.score, _names(answer.best), Kind(answer.kind))
+        answer, known = _Answer(), _Known()
+
+        def solve() -> Answer | Bounds:
+            with self._seat() as seat:
+                code = _LIB.oth_solve_until(seat, board._words, most, ctypes.byref(answer), ctypes.byref(known))
+            if code == _STOPPED:
+                return known.as_bounds()
+            _done(code)
+            return Answer(answer.score, _names(answer.best), Kind(answer.kind))
+
+        try:
+            return _heard(solve, self.stop) if board.empties > _SOON_DONE else solve()
+        except KeyboardInterrupt:
+            self.go_on()
+            raise
+
+    def is_at_least(self, board: Board, score: int) -> bool:
+        """Tells whether the board is worth at least `score` under the table's scoring, sooner than `solve` tells its score.
+
+        Ctrl-C is heard at once, but the search goes on unheeded, until it is done or Python ends.
+        """
+        alpha, bounds = max(-65, min(64, score - 1)), _Bounds()
+
+        def decide() -> bool:
+            with self._seat() as seat:
+                _done(_LIB.oth_null_window(seat, board._words, alpha, ctypes.byref(bounds)))
+            return bounds.lower > alpha
+
+        return _heard(decide) if board.empties > _SOON_DONE else decide()
+
+    def stop(self) -> None:
+        """Ends the searches of `solve` and `solve_within` over the table, in all threads, until `go_on`."""
+        self._seats.tell(_LIB.oth_stop_set)
+
+    def go_on(self) -> None:
+        """Lets searches over the table go on to their end again that begin from now on."""
+        self._seats.tell(_LIB.oth_stop_clear)
 
     @contextlib.contextmanager
     def _seat(self) -> Iterator[ctypes.pointer]:
@@ -480,17 +600,18 @@ def solve_all(
 ) -> Iterator[Answer]:
     """Yields the answers of many boards in their order, each solved by one of `threads` threads (as many as there are processors if None).
 
-    Boards are taken a few ahead of the answers, so an endless iterable is no harm. A board that is refused raises its Refused in its turn.
+    The threads share a table of `cells` cells, as `Table`. Boards are taken a few ahead of the answers, so an endless iterable is no harm. A
+    board that is refused raises its Refused in its turn. Ctrl-C ends all searches, and so does whoever takes no more answers.
     """
     if threads is None:
         threads = len(os.sched_getaffinity(0))
     if threads < 1:
         raise ValueError(f"`threads` is {threads}, and has to be 1 or more")
     waiting: deque[Future[Answer]] = deque()
-    with ThreadPoolExecutor(threads) as pool:
+    with Table(cells or 1, scoring) as table, ThreadPoolExecutor(threads) as pool:
         try:
             for board in boards:
-                waiting.append(pool.submit(board.solve, scoring, cells))
+                waiting.append(pool.submit(table.solve, board))
                 if len(waiting) >= _WAITING_PER_THREAD * threads:
                     yield waiting.popleft().result()
             while waiting:
@@ -498,3 +619,4 @@ def solve_all(
         finally:
             for future in waiting:
                 future.cancel()
+            table.stop()

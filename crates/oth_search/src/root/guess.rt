@@ -240,7 +240,7 @@ fn glance_at_all_moves<C: Cells, O: Observer<C>>(
 }
 
 // Returns a bound, on its side of `alpha`, of the value that the board after a reply to a root's move seems to have:
-// what another worker told, or else by `seeming_value`.
+// what another worker told, or else by `seeming_value`. Once the guess ends that is `alpha`.
 fn glance_after_reply<C: Cells, O: Observer<C>>(
     board: Board,
     alpha: i8,
@@ -254,6 +254,9 @@ fn glance_after_reply<C: Cells, O: Observer<C>>(
 {
     if let Some(is_above) = observer.seen(&board, alpha) {
         return beside(alpha, is_above);
+    }
+    if observer.ends_guess(cells) {
+        return alpha;
     }
     observer.begin(&board);
     let found = seeming_value(board, alpha, cells, scoring);

@@ -1,12 +1,13 @@
 //! The moves of a root, each with its square, the board after it, and what is known of that.
-ghost use Rattle.std.specs.Prelude.{◌≡◌, ◌≤◌, IfSome, length};
-ghost use Rattle.oth_rules.specs.Laws.{IsScore};
+ghost use Rattle.std.specs.Prelude.{◌≡◌, ◌≤◌, ◌↔◌, IsSome, IfSome, length};
+ghost use Rattle.oth_rules.specs.Laws.{IsLegal, IsScore};
+ghost use Rattle.oth_rules.specs.Move.{after};
 ghost use Rattle.oth_search.specs.Root.Moves.{IsRootMove, AreRootMoves};
 
 use crate::bounds::{Interval, Solved, greater, known_of};
 use crate::ordering::order;
 use arrayvec::ArrayVec;
-use oth_rules::Square;
+use oth_rules::{Board, Square};
 use std::marker::Model;
 
 /// A move of a root, and the board after it with bounds of its value.
@@ -18,7 +19,7 @@ pub struct RootMove {
 
 /// A root with bounds of its value, and each of its legal moves once with the board after it. Which move comes first,
 /// and how close the bounds are, affects speed only.
-#[derive(Drop)]
+#[derive(Drop, Debug)]
 pub struct RootMoves {
     root: Solved,
     list: ArrayVec<RootMove, 64>,
@@ -94,6 +95,54 @@ impl RootMoves {
         ensures { IfSome result (IsRootMove self.now) }
     {
         self.list.get(place).copied()
+    }
+
+    /// The board after the move to this square with what is known of it; `None` exactly if the move is illegal.
+    pub fn known_after(&self, square: Square) -> Option<Solved>
+        ensures variant { IsSome result ↔ IsLegal self.now.board square }
+        ensures board { IfSome result (λ s. s.board ≡ after self.now.board square) }
+        ensures scoring { IfSome result (λ s. s.scoring ≡ self.now.scoring) }
+    {
+        let child = self.root.board.play(square)?;
+        Some(self.known(child))
+    }
+
+    // What is known of this board, if it is one after a move.
+    fn known(&self, board: Board) -> Solved
+        ensures board { result.board ≡ board }
+        ensures scoring { result.scoring ≡ self.now.scoring }
+    {
+        let scoring = self.root.scoring;
+        for root_move in self.list.as_slice() {
+            let child = root_move.child;
+            if child.board == board && child.scoring == scoring {
+                return child;
+            }
+        }
+        Solved::unknown(board, scoring)
+    }
+
+    /// The square of a move that is known to give as much as any is known to give: of several the first one in the
+    /// order of these moves. There is none exactly if there is no move.
+    pub fn surest(&self) -> Option<Square>
+        ensures { IfSome result (IsLegal self.now.board) }
+    {
+        let root_move = self.get(self.leader())?;
+        Some(root_move.square)
+    }
+
+    /// The place of the first move after which the board has the least upper bound, 0 if there is no move.
+    pub(crate) fn leader(&self) -> usize {
+        let mut least = 65;
+        let mut leader = 0;
+        for (place, root_move) in self.list.as_slice().iter().enumerate() {
+            let upper = root_move.child.interval.upper;
+            if upper < least {
+                least = upper;
+                leader = place;
+            }
+        }
+        leader
     }
 
     /// The place of the move to this square, or the number of moves if it isn't legal: 0 to 64.

@@ -87,6 +87,13 @@ pub trait Observer<C: Cells> {
     /// That look has ended.
     fn end(&mut self, _board: &Board) {}
 
+    /// During a first guess: whether it ends with what was seen by now.
+    fn ends_guess(&mut self, _cells: &mut C) -> bool
+        ensures fixed { C.fixed _cells.new ≡ C.fixed _cells.old }
+    {
+        false
+    }
+
     /// Whether the search ends, with no further null window.
     fn is_over(&self, _cells: &C) -> bool {
         false

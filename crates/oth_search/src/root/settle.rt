@@ -91,7 +91,7 @@ pub(crate) fn settle<C: Cells, O: Observer<C>>(
     ensures fixed { C.fixed cells.new ≡ C.fixed cells.old }
 {
     lead(moves, quest.start, cells, observer);
-    let leader = leader(moves);
+    let leader = moves.leader();
     settle_at(moves, leader, quest, cells, observer);
     for place in 0..moves.len() {
         settle_at(moves, place, quest, cells, observer);
@@ -264,20 +264,6 @@ fn best<C: Cells, O: Observer<C>>(moves: &RootMoves, observer: &mut O) -> i8
     ensures { IsScore result }
 {
     observer.best(-moves.best())
-}
-
-// The place of the first move after which the board has the least upper bound.
-fn leader(moves: &RootMoves) -> usize {
-    let mut least = 65;
-    let mut leader = 0;
-    for (place, root_move) in moves.as_slice().iter().enumerate() {
-        let upper = root_move.child.interval.upper;
-        if upper < least {
-            least = upper;
-            leader = place;
-        }
-    }
-    leader
 }
 
 // The least lower bound of the boards after the moves.

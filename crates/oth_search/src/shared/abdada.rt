@@ -8,12 +8,15 @@ use super::company::Company;
 use crate::bounds::{Cells, Entry, Interval, NullWindow, Solved, first, known_below, without};
 use crate::root::MOST_EMPTIES;
 use crate::tuning::{LAST_MOVE_ROUND, MOVE_ROUNDS};
+use arrayvec::ArrayVec;
 use oth_rules::{Board, Scoring, Square};
-use std::alloc::Global;
+
+// Room for the children of a node: a board of at most 30 empty squares has no more moves.
+const MOST_CHILDREN: usize = 32;
 
 impl Solved {
-    /// The board with closer bounds, by a shared search of its moves. They decide the window unless the search is given
-    /// up, or there is no memory for its list of children.
+    /// The board with closer bounds, by a shared search of its moves, which takes no memory. They decide the window
+    /// unless the search is given up, or a board below has more than 32 moves, which none of 30 empty squares has.
     pub fn narrowed_in<C: Cells, H: Company<C>>(
         &self,
         window: NullWindow,
@@ -105,12 +108,12 @@ struct Node {
     best: Square,
     score: i8,
     // The bounds of the boards after them, or of the boards after a forced pass there.
-    children: Vec<Solved>,
+    children: ArrayVec<Solved, MOST_CHILDREN>,
 }
 
 impl Node {
     // The node of a board whose moves are about to be searched.
-    fn of(asked: &Solved, window: NullWindow, together: usize, alloc: Global) -> Node
+    fn of(asked: &Solved, window: NullWindow, together: usize) -> Node
         ensures board { result.board ≡ asked.now.board }
         ensures scoring { result.scoring ≡ asked.now.scoring }
     {
@@ -123,7 +126,7 @@ impl Node {
             searched: 0,
             best: Square::numbered(0),
             score: -65,
-            children: Vec::new(alloc),
+            children: ArrayVec::new(),
         }
     }
 
@@ -142,7 +145,7 @@ impl Node {
             self.score = score;
             self.best = square;
         }
-        let _ = self.children.push(solved.awake());
+        let _ = self.children.try_push(solved.awake());
     }
 
     // The board, with all scores as its bounds.
@@ -173,7 +176,7 @@ fn narrow_moves<C: Cells, H: Company<C>>(
     }
     let squares = company.order(&board);
     let together = company.together(board.empties());
-    let mut node = Node::of(asked, window, together, company.alloc());
+    let mut node = Node::of(asked, window, together);
     for round in 0..MOVE_ROUNDS {
         node.leaves = round < LAST_MOVE_ROUND;
         if let Some(found) = visit_all(&mut node, squares.as_slice(), plies, cells, company) {

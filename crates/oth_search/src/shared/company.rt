@@ -6,14 +6,10 @@ use crate::bounds::{Cells, NullWindow};
 use crate::ordering::order;
 use arrayvec::ArrayVec;
 use oth_rules::{Board, Square};
-use std::alloc::Global;
 
 /// Hooks of the shared search: who is at a node, when to give up, which move order to use. The defaults are those of
 /// one worker. No answer depends on them.
 pub trait Company<C: Cells> {
-    /// The memory for the bounds of a node's children while they are searched.
-    fn alloc(&self) -> Global;
-
     /// Boards of fewer empty squares than this are searched to the end, and no hook is called there.
     fn fewest(&self) -> u8;
 

@@ -1,15 +1,18 @@
-//! A search that may be stopped: it ends when its table look-ups are spent.
-ghost use Rattle.std.specs.Prelude.{◌≡◌, IfOk, IfErr, true, false};
+//! A search that may be stopped: it ends when its table look-ups are spent, or when another thread sets a flag.
+ghost use Rattle.std.specs.Prelude.{◌≡◌, ◌-◌, IfOk, IfErr, IfSome, true, false};
 ghost use Rattle.oth_rules.specs.Position.{pass};
 ghost use Rattle.oth_rules.specs.Move.{can_move};
+ghost use Rattle.oth_rules.specs.Symmetry.{IsCanonical};
 ghost use Rattle.oth_search.specs.Bounds.Full.{IsFullMinimax};
 
 use super::company::Company;
+use super::flag::StopFlag;
+use super::seen::Seen;
 use crate::bounds::{Answer, Cells, Entry, NullWindow, Solved};
 use crate::root::{Observer, RootMove, RootMoves, before_pass, best_moves, ended, settle_moves};
 use crate::tuning::FEWEST_EMPTIES_ENDED;
 use oth_rules::{Board, Scoring};
-use std::alloc::Global;
+use std::mem::replace;
 use thiserror::Error;
 
 /// Cells with a limit of look-ups. A search over them can be stopped when these are spent.
@@ -19,22 +22,68 @@ pub struct Limited<C> {
     pub cells: C,
     /// How many boards may still be looked up, by `look` and `recall` together.
     pub left: u64,
+    // What the guess of an earlier search saw.
+    seen: Seen,
 }
 
 impl<C: Cells> Limited<C> {
-    /// The cells, in which `limit` boards may be looked up.
+    /// The cells, in which `limit` boards may be looked up. What a guess sees is forgotten.
     pub fn of(cells: C, limit: u64) -> Limited<C>
         ensures left { result.left ≡ limit }
         ensures fixed { C.fixed result.cells ≡ C.fixed cells }
     {
-        Limited { cells, left: limit }
+        Limited::going_on(cells, limit, Seen::none())
+    }
+
+    /// The cells, in which `limit` boards may be looked up, for a search that goes on with a guess as far as it was
+    /// `seen`.
+    pub fn going_on(cells: C, limit: u64, seen: Seen) -> Limited<C>
+        ensures left { result.left ≡ limit }
+        ensures fixed { C.fixed result.cells ≡ C.fixed cells }
+    {
+        Limited {
+            cells,
+            left: limit,
+            seen,
+        }
     }
 
     /// The cells alone.
     pub fn into_cells(self) -> C
         ensures { result ≡ self.cells }
     {
-        self.cells
+        let (cells, _) = self.into_parts();
+        cells
+    }
+
+    /// The cells, and what the guess saw.
+    pub fn into_parts(self) -> (C, Seen)
+        ensures { result.0 ≡ self.cells }
+    {
+        let Limited {
+            cells,
+            left: _,
+            seen,
+        } = self;
+        (cells, seen)
+    }
+
+    // Takes one from what is left.
+    fn count(&mut self)
+        ensures cells { self.new.cells ≡ self.old.cells }
+        ensures one { self.new.left ≡ self.old.left - 1 }
+    {
+        self.left = self.left.saturating_sub(1);
+    }
+
+    // Whether nothing is left. Where the flag is set, it takes away what was.
+    fn is_ended(&mut self, stop: &StopFlag) -> bool
+        ensures cells { self.new.cells ≡ self.old.cells }
+    {
+        if stop.is_set() {
+            self.left = 0;
+        }
+        self.left == 0
     }
 }
 
@@ -43,8 +92,14 @@ impl<C: Cells> Cells for Limited<C> {
 
     ghost fixed = { λ l. C.fixed l.cells };
 
-    fn look(&mut self, board: &Board, scoring: Scoring) -> Option<Entry> {
-        self.left = self.left.saturating_sub(1);
+    /// Looks the board up in the cells, which takes one from what is left.
+    fn look(&mut self, board: &Board, scoring: Scoring) -> Option<Entry>
+        requires { IsCanonical board.now }
+        ensures asked { IfSome result (λ e. (e.board ≡ board.now) × (e.scoring ≡ scoring)) }
+        ensures fixed { C.fixed self.new.cells ≡ C.fixed self.old.cells }
+        ensures one { self.new.left ≡ self.old.left - 1 }
+    {
+        self.count();
         self.cells.look(board, scoring)
     }
 
@@ -56,8 +111,13 @@ impl<C: Cells> Cells for Limited<C> {
         self.cells.remembers(empties)
     }
 
-    fn recall(&mut self, board: &Board, scoring: Scoring) -> Option<Solved> {
-        self.left = self.left.saturating_sub(1);
+    /// Recalls the board from the cells, which takes one from what is left.
+    fn recall(&mut self, board: &Board, scoring: Scoring) -> Option<Solved>
+        ensures asked { IfSome result (λ s. (s.board ≡ board.now) × (s.scoring ≡ scoring)) }
+        ensures fixed { C.fixed self.new.cells ≡ C.fixed self.old.cells }
+        ensures one { self.new.left ≡ self.old.left - 1 }
+    {
+        self.count();
         self.cells.recall(board, scoring)
     }
 
@@ -66,27 +126,35 @@ impl<C: Cells> Cells for Limited<C> {
     }
 }
 
-// A search by one worker that is stopped when the look-ups are spent.
-#[derive(Clone, Copy)]
-struct UntilSpent {
-    alloc: Global,
+// A search by one worker that is stopped when the look-ups are spent or the flag is set.
+#[derive(Drop)]
+struct UntilEnded<'s> {
+    stop: &'s StopFlag,
+    scoring: Scoring,
+    seen: Seen,
+    // Whether its guess was ended, after which what it tells isn't seen.
+    is_ended: bool,
 }
 
-impl<C: Cells> Company<Limited<C>> for UntilSpent {
-    fn alloc(&self) -> Global {
-        self.alloc
+impl<'s> UntilEnded<'s> {
+    // What its guess saw.
+    fn into_seen(self) -> Seen {
+        let UntilEnded { seen, .. } = self;
+        seen
     }
+}
 
+impl<'s, C: Cells> Company<Limited<C>> for UntilEnded<'s> {
     fn fewest(&self) -> u8 {
         FEWEST_EMPTIES_ENDED
     }
 
     fn gives_up(&mut self, _searched: &Board, cells: &mut Limited<C>) -> bool {
-        cells.left == 0
+        cells.is_ended(self.stop)
     }
 }
 
-impl<C: Cells> Observer<Limited<C>> for UntilSpent {
+impl<'s, C: Cells> Observer<Limited<C>> for UntilEnded<'s> {
     fn decide(&mut self, known: &RootMove, alpha: i8, cells: &mut Limited<C>) -> Solved {
         let child = known.child;
         if child.interval.decides(alpha, alpha + 1) {
@@ -95,29 +163,48 @@ impl<C: Cells> Observer<Limited<C>> for UntilSpent {
         child.narrowed_in(NullWindow::at(alpha + 1), cells, self)
     }
 
+    fn seen(&mut self, board: &Board, alpha: i8) -> Option<bool> {
+        self.seen.told(board, alpha, self.scoring)
+    }
+
+    fn tell_seen(&mut self, board: &Board, alpha: i8, is_above: bool) {
+        if !self.is_ended {
+            self.seen.tell(board, alpha, self.scoring, is_above);
+        }
+    }
+
+    fn ends_guess(&mut self, cells: &mut Limited<C>) -> bool {
+        self.is_ended = cells.is_ended(self.stop);
+        self.is_ended
+    }
+
     fn is_over(&self, cells: &Limited<C>) -> bool {
         cells.left == 0
     }
 }
 
-/// A search was stopped before it was done; `known` is what was known of its board by then.
-#[derive(Clone, Copy, PartialEq, Eq, Debug, Error)]
+/// A search was stopped before it was done. `known` is what was known of its board by then, and `moves` has its moves
+/// with what was known of the board after each: none where the mover must pass.
+#[derive(Debug, Drop, Error)]
 #[error("the search was ended before it was done")]
 pub struct Stopped {
     pub known: Solved,
+    pub moves: RootMoves,
 }
 
-/// The answer of a board by a search over the cells, or what is known of the board if the look-ups are spent before.
-/// The search stops at the next board of 11 and more empty squares, so somewhat later than they are spent.
+/// The answer of a board by a search over the cells, or what is known of the board if the look-ups are spent before, or
+/// another thread sets the flag. The search stops at the next board of 11 and more empty squares, or at the next look
+/// of its first guess, so somewhat later.
 pub fn solve_until<C: Cells>(
-    alloc: Global,
     board: &Board,
     cells: &mut Limited<C>,
     scoring: Scoring,
+    stop: &StopFlag,
 ) -> Result<Answer, Stopped>
     ensures board { IfOk result (λ a. (a.board ≡ board.now) × (a.scoring ≡ scoring)) }
     ensures full { IfOk result (IsFullMinimax board.now scoring) }
     ensures known { IfErr result (λ s. (s.known.board ≡ board.now) × (s.known.scoring ≡ scoring)) }
+    ensures moves { IfErr result (λ s. (s.moves.board ≡ board.now) × (s.moves.scoring ≡ scoring)) }
     ensures spent { IfErr result (λ s. cells.new.left ≡ 0) }
     ensures fixed { C.fixed cells.new.cells ≡ C.fixed cells.old.cells }
 {
@@ -125,52 +212,63 @@ pub fn solve_until<C: Cells>(
         return Ok(ended(*board, scoring));
     }
     if board.can_move() {
-        return solve_moves_until(alloc, *board, cells, scoring);
+        return solve_moves_until(*board, cells, scoring, stop);
     }
-    solve_past_until(alloc, board, cells, scoring)
+    solve_past_until(board, cells, scoring, stop)
 }
 
 // As `solve_until`, of a board whose mover must pass.
 fn solve_past_until<C: Cells>(
-    alloc: Global,
     board: &Board,
     cells: &mut Limited<C>,
     scoring: Scoring,
+    stop: &StopFlag,
 ) -> Result<Answer, Stopped>
     requires none { can_move board.now ≡ false }
     requires some { can_move (pass board.now) ≡ true }
     ensures board { IfOk result (λ a. (a.board ≡ board.now) × (a.scoring ≡ scoring)) }
     ensures known { IfErr result (λ s. (s.known.board ≡ board.now) × (s.known.scoring ≡ scoring)) }
+    ensures moves { IfErr result (λ s. (s.moves.board ≡ board.now) × (s.moves.scoring ≡ scoring)) }
     ensures spent { IfErr result (λ s. cells.new.left ≡ 0) }
     ensures fixed { C.fixed cells.new.cells ≡ C.fixed cells.old.cells }
 {
-    match solve_moves_until(alloc, board.pass(), cells, scoring) {
+    match solve_moves_until(board.pass(), cells, scoring, stop) {
         Ok(passed) => Ok(before_pass(*board, passed)),
-        Err(stopped) => Err(Stopped {
-            known: stopped.known.before_pass(board),
-        }),
+        Err(stopped) => {
+            let known = stopped.known.before_pass(board);
+            let moves = RootMoves::of(&known, &[]);
+            Err(Stopped { known, moves })
+        }
     }
 }
 
 // As `solve_until`, of a board whose mover has a move.
 fn solve_moves_until<C: Cells>(
-    alloc: Global,
     board: Board,
     cells: &mut Limited<C>,
     scoring: Scoring,
+    stop: &StopFlag,
 ) -> Result<Answer, Stopped>
     requires { can_move board ≡ true }
     ensures board { IfOk result (λ a. (a.board ≡ board) × (a.scoring ≡ scoring)) }
     ensures known { IfErr result (λ s. (s.known.board ≡ board) × (s.known.scoring ≡ scoring)) }
+    ensures moves { IfErr result (λ s. (s.moves.board ≡ board) × (s.moves.scoring ≡ scoring)) }
     ensures spent { IfErr result (λ s. cells.new.left ≡ 0) }
     ensures fixed { C.fixed cells.new.cells ≡ C.fixed cells.old.cells }
 {
     let mut moves = RootMoves::of(&Solved::unknown(board, scoring), &[]);
-    settle_moves(&mut moves, cells, &mut UntilSpent { alloc });
+    let seen = replace(&mut cells.seen, Seen::none());
+    let mut driver = UntilEnded {
+        stop,
+        scoring,
+        seen,
+        is_ended: false,
+    };
+    settle_moves(&mut moves, cells, &mut driver);
+    cells.seen = driver.into_seen();
     if cells.left == 0 {
-        return Err(Stopped {
-            known: moves.backed_up(),
-        });
+        let known = moves.backed_up();
+        return Err(Stopped { known, moves });
     }
     Ok(best_moves(&moves, cells))
 }

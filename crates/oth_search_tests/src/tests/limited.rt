@@ -1,10 +1,16 @@
 //! Searches that are ended before they are done.
 
+ghost use Rattle.std.specs.Prelude.{◌≡◌, IfSome};
+
+mod refused;
+
 use super::board_of;
 use oth_rules::{Board, Scoring};
 use oth_search::{
-    Cells, Interval, Limited, NoCells, Solved, Stopped, WithLocal, solve_alone, solve_until,
+    Cells, Entry, Interval, Limited, LocalTable, NoCells, Seen, Solved, StopFlag, Stopped,
+    WithLocal, solve_alone, solve_until,
 };
+use std::alloc::Global;
 use std::process::Abort;
 use std::test::Fail;
 
@@ -21,12 +27,12 @@ fn bounds_within<R: AllocGlobal + Abort>(rt: &R, board: &Board, limit: u64) -> I
         panic!(rt; "not solved")
     };
     let mut cells = Limited::of(WithLocal::alone(rt.alloc(), board.empties()), limit);
-    let bounds = match solve_until(rt.alloc(), board, &mut cells, Scoring::Winner) {
+    let bounds = match solve_until(board, &mut cells, Scoring::Winner, &StopFlag::new()) {
         Ok(found) => {
             assert!(rt; found == answer);
             Solved::of_answer(&found).interval
         }
-        Err(Stopped { known }) => known.interval,
+        Err(stopped) => stopped.known.interval,
     };
     assert!(rt; bounds.lower <= answer.score && answer.score <= bounds.upper);
     bounds
@@ -46,7 +52,7 @@ fn a_search_that_may_look_up_nothing_ends_early(rt: HostRuntime) -> Result<(), F
     for words in &BOARDS {
         let board = board_of(&rt, *words);
         let mut cells = Limited::of(NoCells, 0);
-        match solve_until(rt.alloc(), &board, &mut cells, Scoring::Discs) {
+        match solve_until(&board, &mut cells, Scoring::Discs, &StopFlag::new()) {
             Ok(_) => panic!(rt; "whole"),
             Err(stopped) => assert!(rt; stopped.known.board == board),
         }
@@ -72,5 +78,168 @@ fn bounds_close_with_what_may_be_looked_up(rt: HostRuntime) -> Result<(), Fail> 
     }
     assert!(rt; stopped > 2 && stopped < 20);
     assert!(rt; closer > 0);
+    Ok(())
+}
+
+// Cells that keep nothing, count what they are asked for, and set the flag at the look of this number.
+#[derive(Drop)]
+struct Stopping<'s> {
+    asked: u64,
+    at: u64,
+    stop: &'s StopFlag,
+}
+
+impl<'s> Stopping<'s> {
+    fn count(&mut self) {
+        self.asked = self.asked.wrapping_add(1);
+        if self.asked == self.at {
+            self.stop.set();
+        }
+    }
+}
+
+impl<'s> Cells for Stopping<'s> {
+    ghost Fixed = { Unit {0} };
+
+    ghost fixed = { λ c. tt };
+
+    fn look(&mut self, _board: &Board, _scoring: Scoring) -> Option<Entry> {
+        self.count();
+        None
+    }
+
+    fn recall(&mut self, _board: &Board, _scoring: Scoring) -> Option<Solved> {
+        self.count();
+        None
+    }
+}
+
+// How many boards are asked for before a search of the board ends whose flag is set at the look of this number.
+fn asked_until<R: AllocGlobal + Abort>(rt: &R, board: &Board, at: u64) -> u64 {
+    let stop = StopFlag::new();
+    let counted = Stopping {
+        asked: 0,
+        at,
+        stop: &stop,
+    };
+    let mut cells = Limited::of(counted, u64::MAX);
+    match solve_until(board, &mut cells, Scoring::Winner, &stop) {
+        Ok(_) => panic!(rt; "whole"),
+        Err(stopped) => assert!(rt; stopped.known.board == *board && cells.left == 0),
+    }
+    cells.cells.asked
+}
+
+#[test]
+fn a_flag_that_is_set_ends_a_search(rt: HostRuntime) -> Result<(), Fail> {
+    for words in &BOARDS {
+        let board = board_of(&rt, *words);
+        for at in [1, 100, 2_000] {
+            let asked = asked_until(&rt, &board, at);
+            assert!(rt; at <= asked && asked - at < 2_000, "{asked} boards");
+        }
+    }
+    Ok(())
+}
+
+// Cells that keep the boards that a transposition table has, as far as there is memory, and count what they are asked
+// for.
+#[derive(Drop)]
+struct Kept {
+    table: Option<LocalTable>,
+    asked: u64,
+}
+
+impl Kept {
+    fn new(alloc: Global) -> Kept {
+        Kept {
+            table: LocalTable::large_below(alloc, 20).ok(),
+            asked: 0,
+        }
+    }
+
+    fn known(&mut self, board: &Board, scoring: Scoring) -> Option<Solved>
+        ensures asked { IfSome result (λ s. (s.board ≡ board.now) × (s.scoring ≡ scoring)) }
+    {
+        self.asked = self.asked.wrapping_add(1);
+        match &self.table {
+            Some(table) => table.recall(board, scoring),
+            None => None,
+        }
+    }
+}
+
+impl Cells for Kept {
+    ghost Fixed = { Unit {0} };
+
+    ghost fixed = { λ c. tt };
+
+    fn look(&mut self, board: &Board, scoring: Scoring) -> Option<Entry> {
+        let known = self.known(board, scoring)?;
+        Some(Entry::of(&known))
+    }
+
+    fn put(&mut self, entry: &Entry) {
+        if let Some(table) = &mut self.table {
+            table.remember(&entry.solved());
+        }
+    }
+
+    fn recall(&mut self, _board: &Board, _scoring: Scoring) -> Option<Solved> {
+        self.asked = self.asked.wrapping_add(1);
+        None
+    }
+}
+
+// Asks for a board by calls of `limit` look-ups each until one answers it. Each knows at least as much as the one
+// before. Returns the number of calls and of boards that were asked for.
+fn solved_by_calls<R: AllocGlobal + Abort>(rt: &R, board: &Board, limit: u64) -> (u64, u64) {
+    let mut kept = Kept::new(rt.alloc());
+    let mut seen = Seen::new(rt.alloc());
+    let stop = StopFlag::new();
+    for calls in 1..1_000u64 {
+        let mut cells = Limited::going_on(kept, limit, seen);
+        let found = solve_until(board, &mut cells, Scoring::Winner, &stop);
+        let (back, saw) = cells.into_parts();
+        kept = back;
+        seen = saw;
+        match found {
+            Ok(answer) => {
+                assert!(rt; answer.board == *board);
+                return (calls, kept.asked);
+            }
+            Err(stopped) => check_moves(rt, &stopped),
+        }
+    }
+    panic!(rt; "not solved")
+}
+
+// Each move has bounds, and the first one to be played is known to give as much as any.
+fn check_moves<R: Abort>(rt: &R, stopped: &Stopped) {
+    let Some(first) = stopped.moves.surest() else {
+        panic!(rt; "no move")
+    };
+    let Some(surest) = stopped.moves.known_after(first) else {
+        panic!(rt; "illegal")
+    };
+    assert!(rt; stopped.moves.len() > 0);
+    for root_move in stopped.moves.as_slice() {
+        assert!(rt; surest.interval.upper <= root_move.child.interval.upper);
+    }
+}
+
+// A board of a game, of 16 empty squares.
+const SIXTEEN: [u64; 2] = [0x20bc_0020_3010_8007, 0x4041_7b5f_4d4f_7f70];
+
+#[test]
+fn calls_go_on_where_the_last_one_ended(rt: HostRuntime) -> Result<(), Fail> {
+    let board = board_of(&rt, SIXTEEN);
+    let (one, whole) = solved_by_calls(&rt, &board, u64::MAX);
+    assert!(rt; one == 1);
+    let (calls, asked) = solved_by_calls(&rt, &board, whole / 20);
+    assert!(rt;
+        15 < calls && asked / 13 <= whole / 10,
+        "{calls} calls, {asked} boards for {whole}"
+    );
     Ok(())
 }

@@ -1,0 +1,23 @@
+//! What holds of a search that may be ended whichever request for memory is refused.
+
+use super::{BOARDS, Kept};
+use crate::tests::board_of;
+use oth_rules::Scoring;
+use oth_search::{Limited, Seen, StopFlag, solve_until};
+use std::test::Fail;
+
+#[test]
+fn a_search_ends_within_its_limit(rt: HostRuntime) -> Result<(), Fail> {
+    for words in &BOARDS {
+        let board = board_of(&rt, *words);
+        let kept = Kept::new(rt.alloc());
+        let mut cells = Limited::going_on(kept, 1_000, Seen::new(rt.alloc()));
+        match solve_until(&board, &mut cells, Scoring::Winner, &StopFlag::new()) {
+            Ok(_) => panic!(rt; "whole"),
+            Err(stopped) => assert!(rt; stopped.known.board == board && cells.left == 0),
+        }
+        let asked = cells.cells.asked;
+        assert!(rt; 1_000 <= asked && asked < 3_000, "{asked} boards");
+    }
+    Ok(())
+}
