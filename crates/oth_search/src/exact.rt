@@ -4,6 +4,7 @@ ghost use Rattle.oth_rules.specs.Laws.{IsScore};
 ghost use Rattle.oth_search.specs.Bounds.Interval.{Decides};
 
 use crate::bounds::{Cells, Solved};
+use crate::nws::Hearer;
 use crate::root::Pace;
 use crate::shared::put;
 use oth_rules::{Board, Scoring};
@@ -44,6 +45,35 @@ impl Solved {
             return known;
         }
         let found = Solved::by_null_window(&self.board, alpha, cells, self.scoring);
+        let solved = known.joined(&found);
+        put(&solved, cells);
+        solved
+    }
+
+    /// As `decided_at`, and tells `hearer` of each search of a board after a move.
+    pub fn decided_with<C: Cells, H: Hearer>(
+        &self,
+        alpha: i8,
+        cells: &mut C,
+        hearer: &mut H,
+    ) -> Solved
+        requires low { negsuc 64 ≤ℤ alpha }
+        requires high { alpha ≤ℤ pos 64 }
+        ensures board { result.board ≡ self.now.board }
+        ensures scoring { result.scoring ≡ self.now.scoring }
+        ensures lower { self.now.interval.lower ≤ℤ result.interval.lower }
+        ensures upper { result.interval.upper ≤ℤ self.now.interval.upper }
+        ensures decides { Decides result.interval.lower result.interval.upper alpha (alpha +ℤ pos 1) }
+        ensures fixed { C.fixed cells.new ≡ C.fixed cells.old }
+    {
+        if self.interval.decides(alpha, alpha + 1) {
+            return *self;
+        }
+        let known = self.joined(&Solved::looked_up(&self.board, cells, self.scoring));
+        if known.interval.decides(alpha, alpha + 1) {
+            return known;
+        }
+        let found = Solved::by_heard_window(&self.board, alpha, cells, self.scoring, hearer);
         let solved = known.joined(&found);
         put(&solved, cells);
         solved

@@ -19,6 +19,7 @@ pub use bounds::{
     OWN_FACTOR, Solved, board_hash, known_below, known_of,
 };
 pub use local::{LocalTable, LocalTables, WithLocal};
+pub use nws::Hearer;
 pub use ordering::order;
 pub use pvs::search;
 pub use root::{

@@ -9,15 +9,19 @@
 //! (enhanced transposition cutoff). A stability cutoff ends the search where the opponent's stable discs leave no
 //! more than alpha.
 //!
+//! `heard`: a search that tells of each board after a move when it searches it, for whoever announces these.
+//!
 //! `shallow`: at most 5 empty squares, on twins, odd quadrants first (parity), without ranks. `last`: a body for each
 //! of the last four squares; the last one is scored by the number of its flips. `node`, `empties` and `quadrant` are
 //! what these hand down.
 mod deep;
 mod empties;
+mod heard;
 mod last;
 mod node;
 mod quadrant;
 mod shallow;
 
 pub use deep::{known, nws_node, nws_with};
+pub use heard::{Hearer, nws_heard};
 pub use node::Node;

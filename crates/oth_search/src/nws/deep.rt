@@ -204,8 +204,8 @@ fn nws_children<C: Cells>(
     best
 }
 
-// Stability cutoff: the upper bound that the opponent's stable discs leave to the mover, if it is at most `alpha`.
-fn most_at(board: &Board, alpha: i8, scoring: Scoring) -> Option<i8>
+/// Stability cutoff: the upper bound that the opponent's stable discs leave to the mover, if it is at most `alpha`.
+pub fn most_at(board: &Board, alpha: i8, scoring: Scoring) -> Option<i8>
     ensures { IfSome result (BoundsAt (value (score_of scoring) board.now) alpha) }
 {
     if alpha < LEAST_ALPHA_BOUNDED {
@@ -219,9 +219,9 @@ fn most_at(board: &Board, alpha: i8, scoring: Scoring) -> Option<i8>
     if most <= alpha { Some(most) } else { None }
 }
 
-// Enhanced transposition cutoff: a bound above `alpha`, if what a table has of a child gives one. Children whose mover
-// has no move are not looked up.
-fn recorded_above<C: Cells>(
+/// Enhanced transposition cutoff: a bound above `alpha`, if what a table has of a child gives one. Children whose mover
+/// has no move are not looked up.
+pub fn recorded_above<C: Cells>(
     parent: &Board,
     children: &[Child],
     alpha: i8,

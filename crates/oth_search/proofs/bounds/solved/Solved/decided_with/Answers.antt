@@ -1,0 +1,15 @@
+use Rattle.std.proofs.Common.{sym, arith, ◌∙◌}
+use Rattle.std.proofs.lemmas.Int.{ints}
+use Rattle.oth_search.proofs.PvsLemmas.Withins.{Decides-same}
+use Rattle.oth_search.proofs.RootLemmas.RootSearch.{Decides-closer}
+use Rattle.oth_search.proofs.bounds.solved.Solved.decided_with.Goals as goal
+
+pub returns-then-decides-2-clause-decides : goal.returns-then-decides-2-clause-decides
+returns-then-decides-2-clause-decides g c = Decides-same _ _ _ _ _ _ (omega (arith, ints)) (omega (arith, ints)) (c.decides-2.ensures.decided c.if-decides-2.true)
+
+pub returns-clause-decides : goal.returns-clause-decides
+returns-clause-decides g c =
+    let known = c.joined-known.ensures in
+    let found = c.by_heard_window-found.ensures in
+    let both = c.joined-solved.ensures.both (found.board ∙ sym known.board) (found.scoring ∙ sym known.scoring) in
+    Decides-closer _ _ _ _ _ _ _ _ c.joined-solved.result.interval.is_interval both.0 both.1 (omega (arith, ints)) (omega (arith, ints)) found.decides

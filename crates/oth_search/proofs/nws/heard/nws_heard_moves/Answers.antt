@@ -1,0 +1,66 @@
+use Rattle.std.proofs.Common.{refl, ◌∙◌, arith}
+use Rattle.std.specs.Prelude.{ℤ, neg_ℤ}
+use Rattle.std.proofs.lemmas.Int.{ints}
+use Rattle.oth_search.specs.Ordering.Keys.{key_square}
+use Rattle.oth_search.specs.Ordering.Children.{IsChild}
+use Rattle.oth_search.proofs.OrderingLemmas.KeyLemmas.{All-refill}
+use Rattle.oth_search.proofs.BoundsLemmas.SquareSets.{Takes-same, In-none}
+use Rattle.oth_search.proofs.BoundsLemmas.Replies.{BoundsAt-reply, BoundsAt-cut, ReplyLoop-start, ReplyLoop-keeps, ReplyLoop-takes, ReplyLoop-end, NoneAbove-moves}
+use Rattle.oth_search.proofs.nws.heard.nws_heard_moves.Goals as goal
+
+pub loop-left-init : goal.loop-left-init
+loop-left-init g c = record {
+  loop = ReplyLoop-start c.args.scoring c.args.node.board _ _ _ refl (omega (arith, ints, c.requires.threshold.low))
+      (NoneAbove-moves c.args.scoring c.args.node.board c.args.node.moves _ c.args.node.legal);
+  fixed = c.cutoff.ensures.fixed;
+  each = c.ranked-list.ensures;
+}
+
+pub next_child-child-requires-clause-legal : goal.next_child-child-requires-clause-legal
+next_child-child-requires-clause-legal g c = c.loop-left.invariant.loop.replies.untried
+
+pub nws_node-reply-requires : goal.nws_node-reply-requires
+nws_node-reply-requires g c =
+    record { low = omega (arith, ints, c.requires.threshold.high); high = omega (arith, ints, c.requires.threshold.low) }
+
+pub returns-then-reply-alpha-clause-value : goal.returns-then-reply-alpha-clause-value
+returns-then-reply-alpha-clause-value g c =
+    let made = c.next_child-child.ensures.child in
+    BoundsAt-cut c.args.scoring c.args.node.board (key_square c.next_child-child.result.key) c.args.alpha _ made.legal
+    (BoundsAt-reply c.args.scoring c.args.node.board c.node.result.board (key_square c.next_child-child.result.key) c.args.alpha _ _ c.nws_node-reply.result (c.node.ensures ∙ made.board)
+    (omega (arith, ints)) (omega (arith, ints)) c.nws_node-reply.ensures.value)
+    (omega (arith, ints, c.if-reply-alpha.true))
+
+pub loop-left-preserved : goal.loop-left-preserved
+loop-left-preserved g c =
+    let child = c.next_child-child.result in
+    let made = c.next_child-child.ensures.child in
+    let r : ℤ = neg_ℤ c.nws_node-reply.result in
+    record {
+      loop = ReplyLoop-keeps c.args.scoring c.args.node.board _ _ (key_square child.key) _ _ r c.loop-left.invariant.loop
+          (Takes-same _ _ _ _ c.square.ensures c.next_child-child.ensures.member c.without-left.ensures.rest)
+          (BoundsAt-reply c.args.scoring c.args.node.board c.node.result.board (key_square child.key) _ _ r c.nws_node-reply.result (c.node.ensures ∙ made.board)
+          (omega (arith, ints)) refl c.nws_node-reply.ensures.value)
+          (omega (arith, ints, c.if-reply-best.false));
+      fixed = c.nws_node-reply.ensures.fixed ∙ c.loop-left.invariant.fixed;
+      each = All-refill (IsChild c.args.node.board) _ _ _ c.loop-left.invariant.each c.next_child-child.ensures.children;
+    }
+
+pub loop-left-preserved-then-reply-best : goal.loop-left-preserved-then-reply-best
+loop-left-preserved-then-reply-best g c =
+    let child = c.next_child-child.result in
+    let made = c.next_child-child.ensures.child in
+    record {
+      loop = ReplyLoop-takes c.args.scoring c.args.node.board _ _ (key_square child.key) _ _ _ c.loop-left.invariant.loop
+          (Takes-same _ _ _ _ c.square.ensures c.next_child-child.ensures.member c.without-left.ensures.rest)
+          (BoundsAt-reply c.args.scoring c.args.node.board c.node.result.board (key_square child.key) _ _ _ c.nws_node-reply.result (c.node.ensures ∙ made.board)
+          (omega (arith, ints)) (omega (arith, ints)) c.nws_node-reply.ensures.value)
+          (omega (arith, ints, c.if-reply-alpha.false))
+          (omega (arith, ints, c.if-reply-best.true));
+      fixed = c.nws_node-reply.ensures.fixed ∙ c.loop-left.invariant.fixed;
+      each = All-refill (IsChild c.args.node.board) _ _ _ c.loop-left.invariant.each c.next_child-child.ensures.children;
+    }
+
+pub returns-clause-value : goal.returns-clause-value
+returns-clause-value g c =
+    ReplyLoop-end c.args.scoring c.args.node.board c.args.alpha _ _ _ c.loop-left.invariant.loop (omega (arith, ints)) (In-none _ c.loop-left-test.false) c.requires.some

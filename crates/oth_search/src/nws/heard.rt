@@ -1,0 +1,105 @@
+//! A null-window search that is heard: before it searches a board after a move it says so, and afterwards that it has.
+ghost use Rattle.std.specs.Prelude.{◌≡◌, true, IfSome};
+ghost use Rattle.std.specs.List.{All};
+ghost use Rattle.oth_rules.specs.Move.{can_move};
+ghost use Rattle.oth_rules.specs.Score.{score_of};
+ghost use Rattle.oth_rules.specs.Value.{value};
+ghost use Rattle.oth_search.specs.Bounds.Interval.{BoundsAt, IsThreshold};
+ghost use Rattle.oth_search.specs.Ordering.Children.{IsChild};
+
+use super::deep::{most_at, nws_node, recorded_above};
+use super::node::Node;
+use crate::bounds::{Cells, without};
+use crate::ordering::{Child, next_child, ranked};
+use crate::tuning::{FEWEST_EMPTIES_LOOKED, FEWEST_EMPTIES_RECORDED};
+use arrayvec::ArrayVec;
+use oth_rules::{Board, Scoring};
+
+/// Hears of the searches of the boards after one board's moves. No answer depends on it.
+pub trait Hearer {
+    /// The search of this board is about to begin.
+    fn begin(&mut self, board: &Board);
+
+    /// That search has ended.
+    fn end(&mut self, board: &Board);
+}
+
+/// As `nws_node`, but tells `hearer` of each search of a board after a move, or after a forced pass and a move, and asks
+/// the cells of these boards alone.
+pub fn nws_heard<C: Cells, H: Hearer>(
+    node: Node,
+    alpha: i8,
+    cells: &mut C,
+    scoring: Scoring,
+    hearer: &mut H,
+) -> i8
+    requires { IsThreshold alpha }
+    ensures value { BoundsAt (value (score_of scoring) node.board) alpha result }
+    ensures fixed { C.fixed cells.new ≡ C.fixed cells.old }
+{
+    if node.moves != 0 {
+        return nws_heard_moves(node, alpha, cells, scoring, hearer);
+    }
+    let passed = Node::of(node.board.pass());
+    if passed.moves != 0 {
+        return -nws_heard_moves(passed, -alpha - 1, cells, scoring, hearer);
+    }
+    node.board.final_score(scoring)
+}
+
+// As `nws_heard`, of a board whose mover has a move: the best-ranked one first, unless a cutoff comes before.
+fn nws_heard_moves<C: Cells, H: Hearer>(
+    node: Node,
+    alpha: i8,
+    cells: &mut C,
+    scoring: Scoring,
+    hearer: &mut H,
+) -> i8
+    requires threshold { IsThreshold alpha }
+    requires some { can_move node.board ≡ true }
+    ensures value { BoundsAt (value (score_of scoring) node.board) alpha result }
+    ensures fixed { C.fixed cells.new ≡ C.fixed cells.old }
+{
+    let mut list: ArrayVec<Child, 32> = ranked(&node, FEWEST_EMPTIES_LOOKED, 64);
+    if let Some(found) = cutoff(&node.board, list.as_slice(), alpha, cells, scoring) {
+        return found;
+    }
+    let mut best = -64;
+    let mut left = node.moves;
+    while left != 0 {
+        let child = next_child(&node.board, list.as_mut_slice(), left);
+        left = without(left, child.square());
+        hearer.begin(&child.board);
+        let reply = -nws_node(child.node(), -alpha - 1, cells, scoring);
+        hearer.end(&child.board);
+        if reply > alpha {
+            return reply;
+        }
+        if reply > best {
+            best = reply;
+        }
+    }
+    best
+}
+
+// The bound on its side of `alpha` that comes without a search, if there is one: by the opponent's stable discs, or by
+// what a table has of a child.
+fn cutoff<C: Cells>(
+    board: &Board,
+    children: &[Child],
+    alpha: i8,
+    cells: &mut C,
+    scoring: Scoring,
+) -> Option<i8>
+    requires { All (IsChild board.now) children.now }
+    ensures value { IfSome result (BoundsAt (value (score_of scoring) board.now) alpha) }
+    ensures fixed { C.fixed cells.new ≡ C.fixed cells.old }
+{
+    if let Some(most) = most_at(board, alpha, scoring) {
+        return Some(most);
+    }
+    if board.empties() < FEWEST_EMPTIES_RECORDED {
+        return None;
+    }
+    recorded_above(board, children, alpha, cells, scoring)
+}
