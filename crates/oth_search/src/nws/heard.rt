@@ -24,8 +24,8 @@ pub trait Hearer {
     fn end(&mut self, board: &Board);
 }
 
-/// As `nws_node`, but tells `hearer` of each search of a board after a move, or after a forced pass and a move, and asks
-/// the cells of these boards alone.
+/// As `nws_node`, but tells `hearer` of each search of a board after a move, or after a forced pass and a move, and
+/// asks the cells of these boards alone.
 pub fn nws_heard<C: Cells, H: Hearer>(
     node: Node,
     alpha: i8,
