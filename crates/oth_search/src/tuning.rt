@@ -153,12 +153,12 @@ pub(crate) fn large_last_below(empties: u8) -> usize
 /// Empty squares of the root: from here on a selective search gives the first guess. Below it the search starts at 0.
 pub(crate) const FEWEST_EMPTIES_GUESSED: u8 = 12;
 
-/// Empty squares, by those of the board after a reply: up to here the selective search goes through all moves. Roots of
-/// 22 and more are searched for so long that a nearer guess saves more than it takes.
+/// Empty squares, by those of the board after a reply: up to here the selective search goes through all moves. At roots
+/// of 22 and 23 a nearer guess saves more than it takes.
 pub(crate) fn most_empties_in_full(empties: u8) -> u8 {
     match empties {
-        0..=19 => 6,
-        _ => 10,
+        20..=21 => 10,
+        _ => 6,
     }
 }
 
