@@ -26,7 +26,7 @@ impl Solved {
 
     /// The board with bounds that decide whether its value is above `alpha`, -65 to 64. Searches only where the known
     /// ones and those in the cells leave that open, and stores what it finds.
-    pub(crate) fn decided_at<C: Cells>(&self, alpha: i8, cells: &mut C) -> Solved
+    pub fn decided_at<C: Cells>(&self, alpha: i8, cells: &mut C) -> Solved
         requires low { negsuc 64 ≤ℤ alpha }
         requires high { alpha ≤ℤ pos 64 }
         ensures board { result.board ≡ self.now.board }
