@@ -10,7 +10,7 @@
 //!       |
 //!     frontier        the boards two plies below the root; ranks: what promises most is drawn first
 //!       |
-//!     workers         each: draw a number -> gate before -> search the item and its move -> gate after -> reply
+//!     workers         each: draw a number -> search the item and its move, each new item announced -> reply
 //!       |               no number left -> search what is still open of the root's moves
 //!       |               all read and raise one floor, and meet in one table
 //!     replies         those of the workers; the caller searches the numbers left (announced)
@@ -19,11 +19,11 @@
 //!       |
 //!     solve_moves     searches only what is neither exact nor strictly below the score
 //!
-//! By one worker the caller searches alone, by `solve_moves`, with no floor and no deques, and `announcing` tells the
-//! gate of the items below each move that it is at.
+//! By one worker the caller searches alone, by `solve_moves`, with no floor and no deques. Whoever is about to search
+//! an item for the first time announces it (`Announced`), however it came there; the items that no search needed come
+//! last.
 #![tactic(auto)]
 
-mod announcing;
 mod at_once;
 mod book_lookup;
 mod draw_order;

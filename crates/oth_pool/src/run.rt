@@ -16,8 +16,8 @@ use oth_pieces::{Drawn, Floor, FloorSeat, Frontier, Hand, Reply, Tasks};
 use oth_search::{Cells, RootMove, RootMoves, Solved};
 use oth_table::TableCells;
 use oth_walk::{
-    Gate, HintSeat, Hints, RootBound, Search, Sharing, Worker, WorkerCells, orders_for,
-    worker_cells,
+    Announced, Announcer, Gate, HintSeat, Hints, RootBound, Search, Seats, Sharing, Worker,
+    WorkerCells, orders_for, worker_cells,
 };
 use std::alloc::Global;
 use std::thread::Threads;
@@ -43,6 +43,7 @@ pub(crate) struct Means<'m, R, G> {
 pub(crate) struct Links<'s> {
     pub floor: &'s Floor,
     pub hints: &'s Option<Hints>,
+    pub announced: &'s Announced,
 }
 
 /// Lets `workers` workers, 1 to 16, search the items of the frontier with a window at the floor, each over cells of the
@@ -76,18 +77,31 @@ pub fn run_workers<'t, R: Threads + Sync, G: Gate>(
         workers,
     };
     let hints = hints_for(&means, &search);
+    let announced = Announced::of(&root.board, Some(frontier), gate);
     let links = Links {
         floor,
         hints: &hints,
+        announced: &announced,
     };
-    run(&means, &search, links, seat, table).0
+    let gathered = run(&means, &search, links, seat, table).0;
+    pass_over(&announced, &gathered.drawn, gate);
+    gathered
+}
+
+// Announces the items that were drawn, and of which no search was needed.
+fn pass_over<G: Gate>(announced: &Announced, drawn: &Drawn, gate: &G) {
+    for list in drawn.lists.as_slice() {
+        for number in list.as_slice() {
+            announced.pass_over(*number, gate);
+        }
+    }
 }
 
 /// As `run_workers`, for a prepared search by workers that share `links`. Returns also what they found of the root's
 /// moves.
 #[inline(never)]
 pub(crate) fn run<'w, 't, R: Threads + Sync, G: Gate>(
-    means: &Means<R, G>,
+    means: &Means<'w, R, G>,
     search: &Search,
     links: Links<'w>,
     seat: &mut FloorSeat,
@@ -107,11 +121,13 @@ pub(crate) fn run<'w, 't, R: Threads + Sync, G: Gate>(
         return nothing(alloc, search);
     };
     let count = hands.len();
-    let (Some(workers), Ok(jobs), Ok(room), Ok(replies)) = (
+    let items = search.frontier.len() as usize;
+    let (Some(workers), Ok(jobs), Ok(room), Ok(replies), Ok(told)) = (
         workers_of(means, search, links, seat, table),
         Vec::with_capacity(alloc, count),
         Vec::with_capacity(alloc, count),
-        Vec::with_capacity(alloc, search.frontier.len() as usize),
+        Vec::with_capacity(alloc, items),
+        Vec::with_capacity(alloc, items),
     ) else {
         let drawn = tasks.close(hands);
         let replies = Vec::new(alloc);
@@ -120,6 +136,7 @@ pub(crate) fn run<'w, 't, R: Threads + Sync, G: Gate>(
     let jobs = jobs_of(alloc, search, hands, workers, jobs);
     let jobs = run_jobs(means, search, &tasks, jobs);
     let replies = replies_of(jobs.as_slice(), replies);
+    let replies = told_by_all(jobs.as_slice(), replies.as_slice(), told);
     let found = found_by_workers(alloc, jobs.as_slice());
     let hands = hands_in(room, jobs);
     let drawn = tasks.close(hands);
@@ -149,13 +166,13 @@ fn nothing(alloc: Global, search: &Search) -> (Gathered, Vec<RootMove>)
 
 // Makes the workers, which have searched nothing yet. None where there is no memory for them or for their seats of the
 // floor.
-fn workers_of<'w, 't, R, G>(
-    means: &Means<R, G>,
+fn workers_of<'w, 't, R, G: Gate>(
+    means: &Means<'w, R, G>,
     search: &Search,
     links: Links<'w>,
     seat: &mut FloorSeat,
     table: &mut Option<TableCells<'t>>,
-) -> Option<Vec<Worker<'w, WorkerCells<'t>>>>
+) -> Option<Vec<Worker<'w, WorkerCells<'t>, G>>>
     requires { IsSeatOf links.floor.now seat.old }
     ensures seat { LendsFloor seat.old seat.new }
     ensures table { LendsTable table.old table.new }
@@ -171,21 +188,25 @@ fn workers_of<'w, 't, R, G>(
             return None;
         };
         let root_bound = RootBound::of(links.floor, own);
-        let hints = HintSeat::of(links.hints);
+        let seats = Seats {
+            root_bound,
+            hints: HintSeat::of(links.hints),
+            announcer: Announcer::of(links.announced),
+        };
         let cells = worker_cells(alloc, empties, search.shape.sharing, table);
-        workers.push_reserved(Worker::of(search, alloc, cells, root_bound, hints));
+        workers.push_reserved(Worker::of(search, alloc, cells, seats, means.gate));
     }
     Some(workers)
 }
 
 // Makes a job of each hand and a worker. A job for whose replies there is no memory gets no room for them.
-fn jobs_of<'w, C: Drop>(
+fn jobs_of<'w, G, C: Drop>(
     alloc: Global,
     search: &Search,
     hands: Vec<Hand>,
-    mut workers: Vec<Worker<'w, C>>,
-    mut jobs: Vec<Job<'w, C>>,
-) -> Vec<Job<'w, C>>
+    mut workers: Vec<Worker<'w, C, G>>,
+    mut jobs: Vec<Job<'w, C, G>>,
+) -> Vec<Job<'w, C, G>>
     requires many { vec_len workers ≡ vec_len hands }
     requires room { (vec_len jobs ≡ 0) × (vec_len hands ≤ vec_capacity jobs) }
     ensures hands { map (λ j. j.work.hand) result.items ≡ hands.items }
@@ -208,15 +229,15 @@ fn run_jobs<'w, R: Threads + Sync, G: Gate, C: Cells + Send + Drop>(
     means: &Means<R, G>,
     search: &Search,
     tasks: &Tasks,
-    mut jobs: Vec<Job<'w, C>>,
-) -> Vec<Job<'w, C>>
+    mut jobs: Vec<Job<'w, C, G>>,
+) -> Vec<Job<'w, C, G>>
     requires hands { AreAllHands tasks.now (map (λ j. j.work.hand) jobs.items) }
     requires each { All (λ j. Holds search.now.frontier.now search.now.scoring j.work) jobs.items }
     ensures hands { AreAllHands tasks.now (map (λ j. j.work.hand) result.items) }
     ensures each { All (λ j. Holds search.now.frontier.now search.now.scoring j.work) result.items }
     ensures many { vec_len result ≡ vec_len jobs.entry }
 {
-    work_all(means.rt, search, tasks, means.gate, jobs.as_mut_slice());
+    work_all(means.rt, search, tasks, jobs.as_mut_slice());
     jobs
 }
 
@@ -231,7 +252,7 @@ pub(crate) fn room_for<T: Drop>(alloc: Global, count: u32) -> Vec<T>
 }
 
 // Returns all replies of the jobs, as far as there is room for them.
-fn replies_of<'w, C>(jobs: &[Job<'w, C>], room: Vec<Reply>) -> Vec<Reply>
+fn replies_of<'w, C, G>(jobs: &[Job<'w, C, G>], room: Vec<Reply>) -> Vec<Reply>
     requires { room.items ≡ [] }
     ensures replies { (items : List Item) (scoring : Scoring) → All (λ j. Holds items scoring j.work) jobs.now
         → All (IsReplyOf items scoring) result.items }
@@ -245,8 +266,43 @@ fn replies_of<'w, C>(jobs: &[Job<'w, C>], room: Vec<Reply>) -> Vec<Reply>
     replies
 }
 
+// Returns these replies with what any of the workers found of their items, as far as there is room for them: the worker
+// that drew an item need not be the one that searched it.
+fn told_by_all<'w, G: Gate, C: Cells>(
+    jobs: &[Job<'w, C, G>],
+    replies: &[Reply],
+    room: Vec<Reply>,
+) -> Vec<Reply>
+    requires { room.items ≡ [] }
+    ensures replies { (items : List Item) (scoring : Scoring) → All (IsReplyOf items scoring) replies.now
+        → All (IsReplyOf items scoring) result.items }
+    ensures once { (x : ℕ) → times x (numbers_of result.items) ≤ times x (numbers_of replies.now) }
+{
+    let mut told = room;
+    for reply in replies {
+        let _ = told.push(told_of(jobs, reply));
+    }
+    told
+}
+
+// Returns the reply with what any of the workers found of its item.
+fn told_of<'w, G: Gate, C: Cells>(jobs: &[Job<'w, C, G>], reply: &Reply) -> Reply
+    ensures number { result.number ≡ reply.now.number }
+    ensures board { result.solved.board ≡ reply.now.solved.board }
+    ensures scoring { result.solved.scoring ≡ reply.now.solved.scoring }
+{
+    let mut solved = reply.solved;
+    for job in jobs {
+        solved = job.worker.known_of_item(reply.number, &solved);
+    }
+    Reply {
+        number: reply.number,
+        solved,
+    }
+}
+
 // Returns what the workers found of the root's moves, as far as there is memory.
-fn found_by_workers<'w, C>(alloc: Global, jobs: &[Job<'w, C>]) -> Vec<RootMove> {
+fn found_by_workers<'w, C, G>(alloc: Global, jobs: &[Job<'w, C, G>]) -> Vec<RootMove> {
     let mut found = Vec::new(alloc);
     for job in jobs {
         let _ = found.extend_from_slice(job.worker.moves.as_slice());
@@ -255,7 +311,7 @@ fn found_by_workers<'w, C>(alloc: Global, jobs: &[Job<'w, C>]) -> Vec<RootMove> 
 }
 
 // Moves the hands of the jobs into `room`.
-fn hands_in<'w, C: Drop>(mut room: Vec<Hand>, jobs: Vec<Job<'w, C>>) -> Vec<Hand>
+fn hands_in<'w, G, C: Drop>(mut room: Vec<Hand>, jobs: Vec<Job<'w, C, G>>) -> Vec<Hand>
     requires { (vec_len room ≡ 0) × (vec_len jobs ≤ vec_capacity room) }
     ensures { result.items ≡ map (λ j. j.work.hand) jobs.entry.items }
 {

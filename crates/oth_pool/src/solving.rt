@@ -8,7 +8,6 @@ ghost use Rattle.oth_pieces.specs.Hands.{IsCrew};
 ghost use Rattle.oth_pieces.specs.History.{floor_after};
 ghost use Rattle.oth_pieces.specs.Watch.{IsSeatOf};
 
-use crate::announcing::Announcer;
 use crate::book_lookup::{answer_in, bounds_in};
 use crate::run::{Gathered, Links, Means, hints_for, room_for, run};
 use crate::tuning::{FEWEST_EMPTIES_CREWED, cells_for};
@@ -16,11 +15,13 @@ use oth_book::Book;
 use oth_pieces::{Floor, FloorSeat, Frontier, is_crew};
 use oth_rules::{Board, Scoring};
 use oth_search::{
-    Answer, Cells, MOST_EMPTIES, RootMoves, Solved, Unobserved, before_pass, ended, known_below,
-    solve_moves,
+    Answer, Cells, MOST_EMPTIES, RootMoves, Solved, before_pass, ended, known_below, solve_moves,
 };
 use oth_table::{SharedTable, TableCells, is_size};
-use oth_walk::{Gate, HintSeat, RootBound, Search, Sharing, Worker, search_item, worker_cells};
+use oth_walk::{
+    Alone, Announced, Announcer, Gate, HintSeat, RootBound, Search, Seats, Sharing, Worker,
+    search_item, worker_cells,
+};
 use std::alloc::Global;
 use std::thread::Threads;
 use thiserror::Error;
@@ -177,10 +178,11 @@ fn answer_alone<'t, R: Threads + Sync, G: Gate>(
 {
     let empties = by_book.board.empties();
     let mut cells = worker_cells(means.alloc, empties, Sharing::Alone, access);
-    let mut announcer = Announcer::of(&by_book.board, means.gate);
+    let announced = Announced::of(&by_book.board, None, means.gate);
+    let mut alone = Alone::of(means.gate, &announced);
     let moves = RootMoves::of(by_book, &[]);
-    let answer = solve_moves(moves, &mut cells, &mut announcer);
-    announcer.finish();
+    let answer = solve_moves(moves, &mut cells, &mut alone);
+    announced.finish(means.gate);
     answer
 }
 
@@ -205,23 +207,39 @@ fn answer_together<'t, R: Threads + Sync, G: Gate>(
     let search = Search::of(&moves, &frontier, sharing);
     let (floor, mut seat) = raised_floor(alloc, by_book)?;
     let hints = hints_for(means, &search);
+    let announced = Announced::of(&by_book.board, Some(&*frontier), means.gate);
     let links = Links {
         floor: &floor,
         hints: &hints,
+        announced: &announced,
     };
-    let (gathered, found) = run(means, &search, links, &mut seat, access);
-    let cells = worker_cells(alloc, by_book.board.empties(), sharing, access);
-    let bound = RootBound::of(&floor, seat);
-    let mut worker = Worker::of(&search, alloc, cells, bound, HintSeat::none());
+    let means = Means {
+        rt: means.rt,
+        alloc,
+        gate: means.gate,
+        workers: means.workers,
+    };
+    let (gathered, found) = run(&means, &search, links, &mut seat, access);
+    let empties = by_book.board.empties();
+    let cells = worker_cells(alloc, empties, sharing, access);
+    let seats = Seats {
+        root_bound: RootBound::of(&floor, seat),
+        hints: HintSeat::none(),
+        announcer: Announcer::of(&announced),
+    };
+    let mut worker = Worker::of(&search, alloc, cells, seats, means.gate);
     for root_move in found.as_slice() {
         worker.update(root_move.square, &root_move.child);
     }
-    let replies = replies_of(means, &search, &gathered, &mut worker);
+    let replies = replies_of(alloc, &search, &gathered, &mut worker);
     take_in_items(&search, replies.as_slice(), &mut worker);
     moves.narrow_root(&worker.root());
     let (mut cells, known) = worker.into_parts();
     moves.take_in(known.as_slice());
-    Some(solve_moves(moves, &mut cells, &mut Unobserved))
+    let mut alone = Alone::of(means.gate, &announced);
+    let answer = solve_moves(moves, &mut cells, &mut alone);
+    announced.finish(means.gate);
+    Some(answer)
 }
 
 // Makes the frontier of the board on the heap, which leaves the stack to the search. None where there is no memory.
@@ -245,19 +263,19 @@ fn raised_floor(alloc: Global, by_book: &Solved) -> Option<(Floor, FloorSeat)>
 }
 
 // Returns what the workers found of the items, and the caller of those that none took, as far as there is room for it.
-fn replies_of<R, G: Gate, C: Cells>(
-    means: &Means<R, G>,
+fn replies_of<G: Gate, C: Cells>(
+    alloc: Global,
     search: &Search,
     gathered: &Gathered,
-    worker: &mut Worker<C>,
+    worker: &mut Worker<C, G>,
 ) -> Vec<Solved> {
-    let mut replies = room_for(means.alloc, search.frontier.len());
+    let mut replies = room_for(alloc, search.frontier.len());
     for reply in gathered.replies.as_slice() {
         let _ = replies.push(reply.solved);
     }
     for number in gathered.drawn.left.as_slice() {
         if let Some(item) = search.frontier.entry(*number) {
-            let _ = replies.push(search_item(search, *number, &item, means.gate, worker));
+            let _ = replies.push(search_item(search, *number, &item, worker));
         }
     }
     replies
@@ -265,7 +283,7 @@ fn replies_of<R, G: Gate, C: Cells>(
 
 // Backs up what was found of the items to the board after each move that isn't settled, and gives it to the caller's
 // worker.
-fn take_in_items<C: Cells>(search: &Search, items: &[Solved], worker: &mut Worker<C>) {
+fn take_in_items<G: Gate, C: Cells>(search: &Search, items: &[Solved], worker: &mut Worker<C, G>) {
     for root_move in search.moves.as_slice() {
         if !worker.is_settled(root_move.square) {
             let found = known_below(root_move.child.board, 1, items, search.scoring);

@@ -3,7 +3,6 @@ ghost use Rattle.std.specs.Prelude.{◌≡◌};
 ghost use Rattle.oth_pool.specs.Solving.{IsSolvable};
 ghost use Rattle.oth_pieces.specs.Hands.{IsCrew};
 
-use crate::announcing::Announcer;
 use crate::at_once::for_each_at_once;
 use crate::queue::Queue;
 use crate::run::{Means, room_for};
@@ -11,7 +10,7 @@ use crate::solving::answer_over;
 use arrayvec::ArrayVec;
 use oth_search::{Cells, Interval, Solved, ended, value_of};
 use oth_table::TableCells;
-use oth_walk::{Gate, Sharing, WorkerCells, worker_cells};
+use oth_walk::{Alone, Announced, Gate, Sharing, WorkerCells, worker_cells};
 use std::thread::Threads;
 
 // What one worker searches over, and the boards that it has valued.
@@ -126,9 +125,10 @@ fn value_alone<R, G: Gate, C: Cells>(
     if is_exact(by_book) {
         return *by_book;
     }
-    let mut announcer = Announcer::of(&by_book.board, means.gate);
-    let valued = value_of(by_book, sibling, cells, &mut announcer);
-    announcer.finish();
+    let announced = Announced::of(&by_book.board, None, means.gate);
+    let mut alone = Alone::of(means.gate, &announced);
+    let valued = value_of(by_book, sibling, cells, &mut alone);
+    announced.finish(means.gate);
     valued
 }
 

@@ -11,7 +11,7 @@ pub struct Work {
 
 /// A worker's work, and what it searches with.
 #[derive(Drop)]
-pub(crate) struct Job<'w, C> {
+pub(crate) struct Job<'w, C, G> {
     pub work: Work,
-    pub worker: Worker<'w, C>,
+    pub worker: Worker<'w, C, G>,
 }

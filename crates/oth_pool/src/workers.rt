@@ -16,24 +16,23 @@ pub(crate) fn work_all<'w, R: Threads + Sync, G: Gate, C: Cells + Send>(
     rt: &R,
     search: &Search,
     tasks: &Tasks,
-    gate: &G,
-    jobs: &mut [Job<'w, C>],
+    jobs: &mut [Job<'w, C, G>],
 )
-    requires { (i : ℕ) (d : Job C) → i < length jobs.old
+    requires { (i : ℕ) (d : Job C G) → i < length jobs.old
         → CanWork search.now.frontier.now search.now.scoring tasks.now (slice_index_or jobs.old i d).work }
-    ensures works { (i : ℕ) (d : Job C) → i < length jobs.old
+    ensures works { (i : ℕ) (d : Job C G) → i < length jobs.old
         → CanWork search.now.frontier.now search.now.scoring tasks.now (slice_index_or jobs.new i d).work }
-    ensures numbers { (i : ℕ) (d : Job C) → i < length jobs.old
+    ensures numbers { (i : ℕ) (d : Job C G) → i < length jobs.old
         → number_of (slice_index_or jobs.new i d).work.hand ≡ number_of (slice_index_or jobs.old i d).work.hand }
 {
     for_each_at_once(
         rt,
-        &|job: &mut Job<C>|
+        &|job: &mut Job<C, G>|
             requires { CanWork search.now.frontier.now search.now.scoring tasks.now job.old.work }
             ensures works { CanWork search.entry.now.frontier.now search.entry.now.scoring
                 tasks.entry.now job.new.work }
             ensures number { number_of job.new.work.hand ≡ number_of job.old.work.hand }
-        { search_all(search, tasks, gate, &mut job.work, &mut job.worker) },
+        { search_all(search, tasks, &mut job.work, &mut job.worker) },
         jobs,
     );
 }
@@ -42,29 +41,27 @@ pub(crate) fn work_all<'w, R: Threads + Sync, G: Gate, C: Cells + Send>(
 fn search_all<G: Gate, C: Cells>(
     search: &Search,
     tasks: &Tasks,
-    gate: &G,
     work: &mut Work,
-    worker: &mut Worker<C>,
+    worker: &mut Worker<C, G>,
 )
     requires { CanWork search.now.frontier.now search.now.scoring tasks.now work.old }
     ensures works { CanWork search.now.frontier.now search.now.scoring tasks.now work.new }
     ensures number { number_of work.new.hand ≡ number_of work.old.hand }
 {
     for _ in 0..u64::MAX {
-        if !search_next(search, tasks, gate, work, worker) {
+        if !search_next(search, tasks, work, worker) {
             break;
         }
     }
-    settle_all(gate, worker);
+    settle_all(worker);
 }
 
 // Draws a number and searches its item. False where no number or no room for a reply is left.
 fn search_next<G: Gate, C: Cells>(
     search: &Search,
     tasks: &Tasks,
-    gate: &G,
     work: &mut Work,
-    worker: &mut Worker<C>,
+    worker: &mut Worker<C, G>,
 ) -> bool
     requires { CanWork search.now.frontier.now search.now.scoring tasks.now work.old }
     ensures works { CanWork search.now.frontier.now search.now.scoring tasks.now work.new }
@@ -79,7 +76,7 @@ fn search_next<G: Gate, C: Cells>(
     let Some(item) = search.frontier.entry(number) else {
         return false;
     };
-    let solved = search_item(search, number, &item, gate, worker);
+    let solved = search_item(search, number, &item, worker);
     work.replies.push_reserved(Reply { number, solved });
     true
 }

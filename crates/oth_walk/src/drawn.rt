@@ -10,126 +10,127 @@
 //! may reach it is searched to its value.
 ghost use Rattle.std.specs.Prelude.{◌≡◌};
 
-use crate::gate::Gate;
+use crate::announcing::Gate;
 use crate::reply::search_reply;
 use crate::shared::Search;
 use crate::tuning::{FINAL_ROUNDS, LAST_FINAL_ROUND, MOVES_BEFORE, MOVES_TOGETHER};
 use crate::worker::Worker;
-use oth_pieces::Item;
+use oth_pieces::{Item, awake};
 use oth_rules::Square;
 use oth_search::{Cells, RootMove, Solved};
 
-/// Searches the item of this number, of which the gate hears, and what it leaves open of its root move. Returns what is
-/// known of the item's board then.
+/// Searches the item of this number, if nobody did and no bounds settle its move of the root, and what it leaves open
+/// of that move. Returns what is known of the item's board then.
 pub fn search_item<G: Gate, C: Cells>(
     search: &Search,
     number: u32,
     item: &Item,
-    gate: &G,
-    worker: &mut Worker<C>,
+    worker: &mut Worker<C, G>,
 ) -> Solved
     ensures board { result.board ≡ item.now.board }
     ensures scoring { result.scoring ≡ search.now.scoring }
 {
-    gate.before(number);
     let unknown = Solved::unknown(item.board, search.scoring);
-    let found = search_below(item, &unknown, gate, worker);
-    tell(gate, worker);
-    gate.after(number);
-    found
+    search_below(search, number, item, worker);
+    worker.tell();
+    let known = worker.known_of_item(number, &unknown);
+    worker.look_up(&known)
 }
 
-// Tells the gate how far the search is, if the gate follows that.
-fn tell<G: Gate, C: Cells>(gate: &G, worker: &mut Worker<C>) {
-    if gate.follows() {
-        let root = worker.known_of_root();
-        gate.goes_on(&root, worker.settled());
-    }
-}
-
-// Searches the item, of whose board this is known, and settles its root move. Returns what is known of the board then.
+// Searches the item, and settles its root move.
 fn search_below<G: Gate, C: Cells>(
+    search: &Search,
+    number: u32,
     item: &Item,
-    known: &Solved,
-    gate: &G,
-    worker: &mut Worker<C>,
-) -> Solved
-    ensures board { result.board ≡ known.now.board }
-    ensures scoring { result.scoring ≡ known.now.scoring }
-{
+    worker: &mut Worker<C, G>,
+) {
     worker.move_to_front();
-    let place = worker.moves.place_of(item.square);
-    let Some(root_move) = worker.moves.get(place) else {
-        return worker.look_up(known);
-    };
     if !worker.peers.shares() {
-        settle_alone(&root_move, worker);
-        return worker.look_up(known);
+        settle_alone(item.square, worker);
+        return;
     }
     worker.lead();
-    tell(gate, worker);
+    worker.tell();
     settle_before(item.square, worker);
-    tell(gate, worker);
-    if worker.is_settled(item.square) {
-        return worker.look_up(known);
+    worker.tell();
+    let place = worker.moves.place_of(item.square);
+    let Some(root_move) = worker.heard(place) else {
+        return;
+    };
+    if root_move.child.is_settled(-worker.floor()) {
+        return;
     }
-    if !is_reply(item, &root_move) {
-        settle(item.square, worker);
-        return worker.look_up(known);
+    search_elder_brother(search, number, &root_move, worker);
+    if !is_move(item, &root_move) {
+        let unknown = Solved::unknown(item.board, search.scoring);
+        search_reply(number, item, &unknown, worker);
     }
-    search_elder_brother(&root_move, known, worker);
-    let found = search_reply(&root_move, known, worker);
-    settle(item.square, worker);
-    found
-}
-
-// Settles the root's move to this square.
-fn settle<C: Cells>(square: Square, worker: &mut Worker<C>) {
-    let place = worker.moves.place_of(square);
     worker.settle_at(place);
 }
 
-// Whether the item comes after a reply to the move, with no forced pass on the way.
-fn is_reply(item: &Item, root_move: &RootMove) -> bool {
-    item.same_mover && item.board.can_move() && root_move.child.board.can_move()
+// Whether the item is the board after the move itself, and not one after a reply.
+fn is_move(item: &Item, root_move: &RootMove) -> bool {
+    item.board == awake(root_move.child.board).0
 }
 
 // Where workers share no table: takes the whole move, unless another worker has it, from whom nothing could be learnt
 // on the way. Before there is a floor it asks once at the guess, and goes on only if the move may reach it.
-fn settle_alone<C: Cells>(root_move: &RootMove, worker: &mut Worker<C>) {
+fn settle_alone<G: Gate, C: Cells>(square: Square, worker: &mut Worker<C, G>) {
+    let place = worker.moves.place_of(square);
+    let Some(root_move) = worker.moves.get(place) else {
+        return;
+    };
     if worker.peers.hints.is_searched(&root_move.child.board) {
         return;
     }
-    if worker.floor() > -64 || worker.ask(root_move) {
-        settle(root_move.square, worker);
+    if worker.floor() > -64 || worker.ask(&root_move) {
+        worker.settle_at(place);
     }
 }
 
 // Helps to settle the first `MOVES_BEFORE` root moves, as far as they come before the one to this square.
-fn settle_before<C: Cells>(square: Square, worker: &mut Worker<C>) {
+fn settle_before<G: Gate, C: Cells>(square: Square, worker: &mut Worker<C, G>) {
     let places = worker.moves.place_of(square).min(MOVES_BEFORE);
     for place in 0..places {
         worker.settle_at(place);
     }
 }
 
-// Helps with the first reply to the move, unless this board is the one after it.
-fn search_elder_brother<C: Cells>(root_move: &RootMove, known: &Solved, worker: &mut Worker<C>) {
-    let child = root_move.child.board;
-    let squares = worker.peers.order_of(&child);
-    let Some(square) = squares.first() else {
+// Helps with the first reply to the move, unless that is the item of this number.
+fn search_elder_brother<G: Gate, C: Cells>(
+    search: &Search,
+    number: u32,
+    root_move: &RootMove,
+    worker: &mut Worker<C, G>,
+) {
+    let Some(elder) = elder_brother(root_move, worker) else {
         return;
     };
-    let Some(elder) = child.play(*square) else {
+    if elder == number {
         return;
-    };
-    if elder != known.board && elder.can_move() {
-        search_reply(root_move, &Solved::unknown(elder, known.scoring), worker);
+    }
+    if let Some(item) = search.frontier.entry(elder) {
+        let unknown = Solved::unknown(item.board, search.scoring);
+        search_reply(elder, &item, &unknown, worker);
     }
 }
 
+// The number of the item after the first reply to the move, if it is an item.
+fn elder_brother<G: Gate, C: Cells>(
+    root_move: &RootMove,
+    worker: &mut Worker<C, G>,
+) -> Option<u32> {
+    let (child, _) = awake(root_move.child.board);
+    let squares = worker.peers.order_of(&child);
+    let board = child.play(*squares.first()?)?;
+    worker
+        .peers
+        .announcer
+        .number_below(root_move.square, &board)
+}
+
 /// Settles the root moves that are still open, when no item is left.
-pub fn settle_all<G: Gate, C: Cells>(gate: &G, worker: &mut Worker<C>) {
+pub fn settle_all<G: Gate, C: Cells>(worker: &mut Worker<C, G>) {
     let rounds = if worker.peers.shares() {
         FINAL_ROUNDS
     } else {
@@ -139,13 +140,13 @@ pub fn settle_all<G: Gate, C: Cells>(gate: &G, worker: &mut Worker<C>) {
     for round in 0..rounds {
         for place in 0..worker.moves.len() {
             settle_in_round(place, round, worker);
-            tell(gate, worker);
+            worker.tell();
         }
     }
 }
 
 // Settles the move at this place, unless it is deferred in this round.
-fn settle_in_round<C: Cells>(place: usize, round: u32, worker: &mut Worker<C>) {
+fn settle_in_round<G: Gate, C: Cells>(place: usize, round: u32, worker: &mut Worker<C, G>) {
     let Some(known) = worker.moves.get(place) else {
         return;
     };

@@ -9,8 +9,8 @@
 #![tactic(auto)]
 
 mod access;
+mod announcing;
 mod drawn;
-mod gate;
 mod guess;
 mod hints;
 mod move_order;
@@ -22,11 +22,11 @@ mod tuning;
 mod worker;
 
 pub use access::{WorkerCells, worker_cells};
+pub use announcing::{Alone, Announced, Announcer, Gate, ItemSet, Open};
 pub use drawn::{search_item, settle_all};
-pub use gate::{Gate, Open};
 pub use hints::{HintSeat, Hints};
 pub use move_order::MoveOrder;
 pub use root_bound::RootBound;
-pub use shared::{Search, Shape, Sharing};
+pub use shared::{Search, Seats, Shape, Sharing};
 pub use tuning::orders_for;
 pub use worker::Worker;

@@ -8,27 +8,22 @@
 //! a table make the first guess together, and the first that is done tells it; below, that guess is a draw. Without a
 //! table each worker guesses by itself.
 //!
-//! To the search below a move (`shared/abdada` of `oth_search`) they are the `Company`. A worker marks the node that
-//! it searches, and defers a node that another has marked to a later round through the moves, so that workers part at
-//! once and meet again where only marked boards are left. What one finds the others look up in the table: a board and
-//! the boards after its moves before its moves are searched, and boards above after a move was. Boards of fewer than
-//! 10 empty squares (11 where the root has 20 or more) are searched to the end by one worker. Such a search is given
-//! up where the floor rises (not without a table, where all that it has found would be lost), where the move is
-//! settled, or where the table decides one of the boards above.
+//! To the search below a move they are the `Company` (`company`).
 ghost use Rattle.std.specs.Prelude.{◌≡◌};
 
+mod company;
+
+use crate::announcing::{Announcer, Gate};
 use crate::hints::HintSeat;
 use crate::move_order::MoveOrder;
 use crate::root_bound::RootBound;
-use crate::shared::Shape;
-use crate::tuning::{
-    CHILDREN_TOGETHER, FEW_TOGETHER, FEWEST_EMPTIES_GUESSED_TOGETHER, KEPT_ORDER_MIN_EMPTIES,
-    SMALL_NODE_MARGIN,
-};
+use crate::shared::{Search, Seats, Shape};
+use crate::tuning::{FEWEST_EMPTIES_GUESSED_TOGETHER, KEPT_ORDER_MIN_EMPTIES, SMALL_NODE_MARGIN};
 use arrayvec::ArrayVec;
+use oth_pieces::Frontier;
 use oth_rules::{Board, Scoring, Square};
 use oth_search::{
-    Cells, Company, Interval, NullWindow, Observer, Pace, RootMove, RootMoves, Solved, order, put,
+    Cells, Interval, NullWindow, Observer, Pace, RootMove, RootMoves, Solved, order, put,
 };
 use std::alloc::Global;
 
@@ -39,38 +34,67 @@ struct Goal {
     window: NullWindow,
 }
 
-/// The other workers of a search as one of them knows them, by the table, the floor and the hints, and the searches
-/// that it has under way itself.
+/// The other workers of a search as one of them knows them, by the table, the floor and the hints, the items that it
+/// announces to the gate, and the searches that it has under way itself.
 #[derive(Drop)]
-pub(crate) struct Peers<'w> {
+pub(crate) struct Peers<'w, G> {
     shape: Shape,
     pub root_bound: RootBound<'w>,
     pub hints: HintSeat<'w>,
+    pub announcer: Announcer<'w>,
+    pub gate: &'w G,
+    // What this worker has found of each item, by their numbers; empty where there is no memory.
+    items: Vec<Solved>,
     // The root's moves that this worker has settled.
     settled: u64,
-    // The root's move that it searches below, and the floor at which that search began.
-    square: Square,
+    // The board after the root's move that it searches below, and the floor at which that search began.
+    child: Board,
     floor_before: i8,
     // The searches under way below that move.
     goals: Vec<Goal>,
 }
 
-impl<'w> Peers<'w> {
-    /// The peers of a worker with no search under way, in a search of this shape.
-    pub fn of(
-        alloc: Global,
-        shape: Shape,
-        root_bound: RootBound<'w>,
-        hints: HintSeat<'w>,
-    ) -> Peers<'w> {
-        Peers {
-            shape,
+impl<'w, G> Peers<'w, G> {
+    /// The peers of a worker of this search that has no search under way. Their lists take memory as they grow; if
+    /// there is none they keep less.
+    pub fn of(alloc: Global, search: &Search, seats: Seats<'w>, gate: &'w G) -> Peers<'w, G> {
+        let Seats {
             root_bound,
             hints,
+            announcer,
+        } = seats;
+        Peers {
+            shape: search.shape,
+            root_bound,
+            hints,
+            announcer,
+            gate,
+            items: unknown_items(alloc, search.frontier, search.scoring),
             settled: 0,
-            square: Square::numbered(0),
+            child: Board::default(),
             floor_before: -64,
             goals: Vec::new(alloc),
+        }
+    }
+
+    /// What this worker has found of the item of this number, and `known`.
+    pub fn known_of_item(&self, number: u32, known: &Solved) -> Solved
+        ensures board { result.board ≡ known.now.board }
+        ensures scoring { result.scoring ≡ known.now.scoring }
+    {
+        match self.items.get(number as usize) {
+            Some(found) => known.joined(found),
+            None => *known,
+        }
+    }
+
+    /// Keeps what was found of the item of this number, if it is one.
+    pub fn keep(&mut self, number: Option<u32>, found: &Solved) {
+        if let Some(number) = number {
+            let place = number as usize;
+            if place < self.items.len() {
+                self.items[place] = self.items[place].joined(&found.awake());
+            }
         }
     }
 
@@ -84,10 +108,12 @@ impl<'w> Peers<'w> {
         self.shares() && self.root_bound.board().empties() >= FEWEST_EMPTIES_GUESSED_TOGETHER
     }
 
-    /// A search below the root's move to this square begins.
-    pub fn begin_below(&mut self, square: Square) {
-        self.square = square;
+    /// The search of the board after this move of the root begins. Returns its number, where it is an item that the
+    /// caller has to announce.
+    pub fn begin_below(&mut self, root_move: &RootMove) -> Option<u32> {
+        self.child = root_move.child.board;
         self.floor_before = self.root_bound.floor();
+        self.announcer.begin_below(root_move.square)
     }
 
     /// Raises the floor by the bound of the root that the board after this move of it alone gives.
@@ -108,9 +134,26 @@ impl<'w> Peers<'w> {
         }
     }
 
-    /// Whether the root's move needs no further search.
+    /// Whether this worker's bounds settle the root's move, or without a table another one told that its bounds do.
     pub fn is_settled(&mut self, square: Square) -> bool {
-        self.settled & square.word() != 0 || self.hints.is_settled(square)
+        self.settled & square.word() != 0 || !self.shares() && self.hints.is_settled(square)
+    }
+
+    // Whether the move that is searched below needs no further search: where another worker told so, the table is asked
+    // for bounds that settle it.
+    fn is_out<C: Cells>(&mut self, cells: &mut C) -> bool
+        ensures fixed { C.fixed cells.new ≡ C.fixed cells.old }
+    {
+        let square = self.announcer.square();
+        if self.is_settled(square) {
+            return true;
+        }
+        if !self.hints.is_settled(square) {
+            return false;
+        }
+        let floor = self.root_bound.floor();
+        let known = Solved::looked_up(&self.child, cells, self.root_bound.scoring());
+        known.is_settled(-floor)
     }
 
     /// How many of the root's moves need no further search.
@@ -169,7 +212,20 @@ fn is_decided<C: Cells>(goal: &Goal, cells: &mut C, scoring: Scoring) -> bool
     goal.window.is_decided(known.interval)
 }
 
-impl<'w, C: Cells> Observer<C> for Peers<'w> {
+// Every item of the frontier, with all scores as its bounds; none where there is no memory.
+fn unknown_items(alloc: Global, frontier: &Frontier, scoring: Scoring) -> Vec<Solved> {
+    let Ok(mut items) = Vec::with_capacity(alloc, frontier.len() as usize) else {
+        return Vec::new(alloc);
+    };
+    for number in 0..frontier.len() {
+        if let Some(board) = frontier.item(number) {
+            let _ = items.push(Solved::unknown(board, scoring));
+        }
+    }
+    items
+}
+
+impl<'w, G: Gate, C: Cells> Observer<C> for Peers<'w, G> {
     fn before(&mut self, root_move: &RootMove) {
         self.hints.begin(&root_move.child.board);
     }
@@ -204,8 +260,16 @@ impl<'w, C: Cells> Observer<C> for Peers<'w> {
         if child.interval.decides(alpha, alpha + 1) {
             return child;
         }
-        self.begin_below(square);
+        if let Some(number) = self.begin_below(known) {
+            self.gate.before(number);
+            self.announcer.tell(number);
+        }
         let found = child.narrowed_in(NullWindow::at(alpha + 1), cells, self);
+        if let Some(number) = self.announcer.end_below() {
+            self.gate.after(number);
+        }
+        let number = self.announcer.number_of_move();
+        self.keep(number, &found);
         put(&found, cells);
         self.raise_by(&RootMove {
             square,
@@ -235,67 +299,5 @@ impl<'w, C: Cells> Observer<C> for Peers<'w> {
 
     fn end(&mut self, board: &Board) {
         self.hints.end(board);
-    }
-}
-
-impl<'w, C: Cells> Company<C> for Peers<'w> {
-    fn fewest(&self) -> u8 {
-        self.shape.fewest
-    }
-
-    fn together(&self, empties: u8) -> usize {
-        if empties <= self.shape.dealt {
-            FEW_TOGETHER
-        } else {
-            CHILDREN_TOGETHER
-        }
-    }
-
-    // Another worker seems to search the board, and this one could learn what it finds.
-    fn is_left(&mut self, board: &Board) -> bool {
-        self.shares() && self.hints.is_searched(board)
-    }
-
-    fn begin(&mut self, board: &Board) {
-        self.hints.begin(board);
-    }
-
-    fn end(&mut self, board: &Board) {
-        self.hints.end(board);
-    }
-
-    fn enter(&mut self, board: &Board, window: NullWindow) -> usize {
-        let depth = self.goals.len();
-        if self.shares() {
-            let (image, _) = board.canonical();
-            let _ = self.goals.push(Goal { image, window });
-        }
-        depth
-    }
-
-    fn leave(&mut self, depth: usize) {
-        self.goals.truncate(depth);
-    }
-
-    // The floor has risen, the root's move is settled, or the table decides one of the searches under way. Without a
-    // shared table a search goes on at a higher floor: what it has found by now would be lost.
-    fn gives_up(&mut self, searched: &Board, cells: &mut C) -> bool {
-        let most = self.goals_after(searched.empties());
-        self.shares() && self.root_bound.floor() > self.floor_before
-            || self.is_settled(self.square)
-            || self.is_any_decided(most, cells)
-    }
-
-    fn order(&mut self, board: &Board) -> ArrayVec<Square, 64> {
-        self.order_of(board)
-    }
-
-    fn prefer(&mut self, board: &Board, square: Square) {
-        if board.empties() < KEPT_ORDER_MIN_EMPTIES {
-            return;
-        }
-        if let Some(kept) = self.hints.order_of(board) {
-            self.hints.keep_order(board, kept.with_first(square));
-        }
     }
 }

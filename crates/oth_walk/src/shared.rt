@@ -1,6 +1,9 @@
 //! What all workers of a search have in common.
 ghost use Rattle.std.specs.Prelude.{◌≡◌};
 
+use crate::announcing::Announcer;
+use crate::hints::HintSeat;
+use crate::root_bound::RootBound;
 use crate::tuning::shared_empties;
 use oth_pieces::Frontier;
 use oth_rules::Scoring;
@@ -32,6 +35,15 @@ impl<'s> Search<'s> {
             shape: Shape::of(root.board.empties(), sharing),
         }
     }
+}
+
+/// One worker's access to what all workers share besides the table: the floor, the hints, and which items the gate has
+/// heard of.
+#[derive(Drop)]
+pub struct Seats<'w> {
+    pub root_bound: RootBound<'w>,
+    pub hints: HintSeat<'w>,
+    pub announcer: Announcer<'w>,
 }
 
 /// How many workers search, and how one learns what another found.
@@ -74,13 +86,14 @@ pub struct Shape {
 }
 
 impl Shape {
-    /// The shape of a search below a root of `empties` empty squares.
+    /// The shape of a search below a root of `empties` empty squares. The boards after its moves are shared however few
+    /// are empty there, so that each board after a reply is searched by itself.
     pub fn of(empties: u8, sharing: Sharing) -> Shape
         ensures { result.sharing ≡ sharing }
     {
         let (fewest, dealt) = shared_empties(empties);
         Shape {
-            fewest,
+            fewest: fewest.min(empties.saturating_sub(1)),
             dealt,
             sharing,
         }

@@ -2,11 +2,10 @@
 ghost use Rattle.std.specs.Prelude.{◌≡◌, pos, negsuc, ◌≤ℤ◌};
 ghost use Rattle.oth_search.specs.Bounds.Interval.{IsThreshold};
 
+use crate::announcing::Gate;
 use crate::guess::Guess;
-use crate::hints::HintSeat;
 use crate::peers::Peers;
-use crate::root_bound::RootBound;
-use crate::shared::Search;
+use crate::shared::{Search, Seats};
 use oth_rules::Square;
 use oth_search::{
     Cells, Observer, Quest, RootMove, RootMoves, Solved, first_threshold, lead, settle_at,
@@ -15,27 +14,27 @@ use std::alloc::Global;
 
 /// One worker: its cells, its view of the others, and its bounds of the root's moves.
 #[derive(Drop)]
-pub struct Worker<'w, C> {
+pub struct Worker<'w, C, G> {
     pub(crate) cells: C,
-    pub(crate) peers: Peers<'w>,
+    pub(crate) peers: Peers<'w, G>,
     // The score that the root seems to have, and the move by which it seems to, once it was guessed.
     guess: Option<Guess>,
     /// The root's moves, with the bounds that it knows, in the order in which they are searched.
     pub moves: RootMoves,
 }
 
-impl<'w, C: Cells> Worker<'w, C> {
+impl<'w, C: Cells, G: Gate> Worker<'w, C, G> {
     /// A worker that has searched nothing yet. Its lists take memory as they grow; if there is none they keep less.
     pub fn of(
         search: &Search,
         alloc: Global,
         cells: C,
-        root_bound: RootBound<'w>,
-        hints: HintSeat<'w>,
-    ) -> Worker<'w, C> {
+        seats: Seats<'w>,
+        gate: &'w G,
+    ) -> Worker<'w, C, G> {
         Worker {
             cells,
-            peers: Peers::of(alloc, search.shape, root_bound, hints),
+            peers: Peers::of(alloc, search, seats, gate),
             guess: None,
             moves: search.moves.another(),
         }
@@ -54,9 +53,35 @@ impl<'w, C: Cells> Worker<'w, C> {
         self.peers.root_bound.root()
     }
 
-    /// Whether the root's move needs no further search.
+    /// Whether this worker's bounds settle the root's move, or without a table another one told that its bounds do.
     pub fn is_settled(&mut self, square: Square) -> bool {
         self.peers.is_settled(square)
+    }
+
+    /// What this worker has found of the item of this number, and `known`.
+    pub fn known_of_item(&self, number: u32, known: &Solved) -> Solved
+        ensures board { result.board ≡ known.now.board }
+        ensures scoring { result.scoring ≡ known.now.scoring }
+    {
+        self.peers.known_of_item(number, known)
+    }
+
+    /// The move at this place, if there is one, with what this worker and the table know of the board after it.
+    pub(crate) fn heard(&mut self, place: usize) -> Option<RootMove> {
+        let known = self.moves.get(place)?;
+        let told = self.look_up(&known.child);
+        self.moves.narrow(place, &told);
+        self.moves.get(place)
+    }
+
+    /// Tells the gate how far the search is, if it follows that and has heard of an item.
+    pub(crate) fn tell(&mut self) {
+        let gate = self.peers.gate;
+        if gate.follows() && self.peers.announcer.has_begun() {
+            let root = self.known_of_root();
+            let settled = self.settled();
+            gate.goes_on(&root, settled);
+        }
     }
 
     /// How many of the root's moves need no further search.
@@ -199,14 +224,11 @@ impl<'w, C: Cells> Worker<'w, C> {
         }
     }
 
-    /// Bounds of the root: by the floor, and by what the table and this worker's own searches tell of the boards after
-    /// its moves.
-    pub(crate) fn known_of_root(&mut self) -> Solved {
+    // Bounds of the root: by the floor, and by what the table and this worker's own searches tell of the boards after
+    // its moves.
+    fn known_of_root(&mut self) -> Solved {
         for place in 0..self.moves.len() {
-            if let Some(root_move) = self.moves.get(place) {
-                let told = self.look_up(&root_move.child);
-                self.moves.narrow(place, &told);
-            }
+            self.heard(place);
         }
         self.root().joined(&self.moves.backed_up())
     }

@@ -3,10 +3,11 @@
 use super::crews::BOARDS;
 use super::fixtures::{answer_of, board_of};
 use super::gate::Hearing;
+use super::scoring::check_heard;
 use super::{A, B, C};
 use oth_book::{Added, Book};
 use oth_pool::{Gate, Open, scores, solve};
-use oth_rules::samples::board;
+use oth_rules::samples::{board, least_moves_from};
 use oth_rules::{Board, Scoring, Square};
 use oth_search::{Answer, Kind, NoCells, Solved, solve_alone};
 use std::alloc::Global;
@@ -211,4 +212,36 @@ fn one_worker_begins_with_the_bounds_of_the_book(rt: HostRuntime) {
         assert!(rt; told_below(&rt, &alone, Some(&book)) == 0);
     }
     assert!(rt; without > 0);
+}
+
+// The book of bounds of the boards after the first two moves of the root, which leave their values open.
+fn book_of_two_bounds(alloc: Global, root: &Board) -> Option<Book> {
+    let mut book = Book::new(alloc, Scoring::Winner);
+    let mut left = 2;
+    for number in 0..64 {
+        let Some(child) = root.play(Square::numbered(number)) else {
+            continue;
+        };
+        if left == 0 {
+            break;
+        }
+        left -= 1;
+        let value = Solved::of_answer(&solve_alone(&child, Scoring::Winner).ok()?);
+        book.add_bounds(&value.widen(-64, value.interval.upper)?)
+            .ok()?;
+    }
+    Some(book)
+}
+
+#[test]
+fn the_gate_hears_the_items_of_boards_of_which_the_book_has_bounds(rt: HostRuntime) {
+    let Some(root) = least_moves_from(board_of(&rt, BOARDS[0]), 10) else {
+        panic!(rt; "no line")
+    };
+    let Some(book) = book_of_two_bounds(rt.alloc(), &root) else {
+        panic!(rt; "no book")
+    };
+    for workers in [1, 2, 16] {
+        check_heard(&rt, &root, workers, 64, Some(&book));
+    }
 }

@@ -1,11 +1,14 @@
 //! What a gate hears, and that two workers work at once.
 
+mod announcing;
+mod following;
+mod noting;
+
 use super::crews::BOARDS;
-use super::fixtures::{answer_of, board_of};
+use super::fixtures::board_of;
 use super::{A, B, C, CORNERS};
 use oth_pool::{Frontier, Gate, solve};
 use oth_rules::{Board, Scoring};
-use oth_search::Solved;
 use std::alloc::Global;
 use std::process::Abort;
 use std::sync::atomic::{AtomicU64, Ordering};
@@ -98,15 +101,52 @@ fn the_gate_hears_each_item_once_from_one_worker(rt: HostRuntime) {
     assert!(rt; gate.heard_once(12));
 }
 
-// How many searches began and ended, and the sum of the items' numbers.
+// How many searches began and ended, the sum of the items' numbers, and of how many boards there were how many items.
 #[derive(Drop)]
-struct Counting {
+pub(super) struct Counting {
     begun: AtomicU64,
     ended: AtomicU64,
     numbers: AtomicU64,
+    boards: AtomicU64,
+    promised: AtomicU64,
+}
+
+impl Counting {
+    pub(super) fn new() -> Self {
+        Counting {
+            begun: AtomicU64::new(0),
+            ended: AtomicU64::new(0),
+            numbers: AtomicU64::new(0),
+            boards: AtomicU64::new(0),
+            promised: AtomicU64::new(0),
+        }
+    }
+
+    // Whether it heard of this number of boards, and of each of their items, by number and sum, once.
+    pub(super) fn heard_all(&self, boards: u64, items: u64, numbers: u64) -> bool {
+        self.boards.load(Ordering::SeqCst) == boards
+            && self.promised.load(Ordering::SeqCst) == items
+            && self.begun.load(Ordering::SeqCst) == items
+            && self.ended.load(Ordering::SeqCst) == items
+            && self.numbers.load(Ordering::SeqCst) == numbers
+    }
+}
+
+// The number of items of the board, and the sum of their numbers.
+pub(super) fn items_of(board: &Board) -> (u64, u64) {
+    if board.empties() > 30 {
+        return (0, 0);
+    }
+    let items = u64::from(Frontier::of(board, 2).len());
+    (items, items.saturating_mul(items.saturating_sub(1)) / 2)
 }
 
 impl Gate for Counting {
+    fn begins(&self, board: &Board) {
+        self.boards.fetch_add(1, Ordering::SeqCst);
+        self.promised.fetch_add(items_of(board).0, Ordering::SeqCst);
+    }
+
     fn before(&self, task: u32) {
         self.begun.fetch_add(1, Ordering::SeqCst);
         self.numbers.fetch_add(u64::from(task), Ordering::SeqCst);
@@ -120,17 +160,10 @@ impl Gate for Counting {
 #[test]
 fn one_worker_announces_as_many_items_as_the_frontier_has(rt: HostRuntime) {
     for words in [A, B, C, CORNERS, BOARDS[0]] {
-        let gate = Counting {
-            begun: AtomicU64::new(0),
-            ended: AtomicU64::new(0),
-            numbers: AtomicU64::new(0),
-        };
-        let board = board_of(&rt, words);
-        let items = u64::from(Frontier::of(&board, 2).len());
+        let gate = Counting::new();
+        let (items, numbers) = items_of(&board_of(&rt, words));
         assert!(rt; alone(&rt, rt.alloc(), words, &gate).is_some());
-        assert!(rt; gate.begun.load(Ordering::SeqCst) == items);
-        assert!(rt; gate.ended.load(Ordering::SeqCst) == items);
-        assert!(rt; gate.numbers.load(Ordering::SeqCst) == items * items.saturating_sub(1) / 2);
+        assert!(rt; gate.heard_all(1, items, numbers));
     }
 }
 
@@ -177,142 +210,30 @@ impl Gate for Meeting {
 }
 
 #[test]
-fn two_workers_work_at_once(rt: HostRuntime) {
-    for cells in [0, 64] {
-        let gate = Meeting {
-            hearing: Hearing::new(),
-            given_up: AtomicU64::new(0),
-        };
-        let found = by_two(&rt, rt.alloc(), C, cells, &gate);
-        assert!(rt; found == Some((64, 0x81)), "{cells} cells");
-        assert!(rt; gate.hearing.heard_once(2), "{cells} cells");
-        assert!(rt; gate.given_up.load(Ordering::SeqCst) == 0, "{cells} cells");
-    }
+fn two_workers_begin_the_two_items_at_once(rt: HostRuntime) {
+    let gate = Meeting {
+        hearing: Hearing::new(),
+        given_up: AtomicU64::new(0),
+    };
+    let found = by_two(&rt, rt.alloc(), C, 0, &gate);
+    assert!(rt; found == Some((64, 0x81)));
+    assert!(rt; gate.hearing.heard_once(2));
+    assert!(rt; gate.given_up.load(Ordering::SeqCst) == 0);
 }
 
-// Hears how far a search is, and when its items are announced.
+// Each item waits a while until as many searches as wanted have begun.
 #[derive(Drop)]
-struct Following {
-    // How often it was told what is known, and how often when the first item and the last one were announced.
-    told: AtomicU64,
-    at_first: AtomicU64,
-    at_last: AtomicU64,
-    // How many items ended since which nothing was told.
-    idle: AtomicU64,
-    // The most moves that were told to be settled, and the last bounds, each plus 64.
-    settled: AtomicU64,
-    lower: AtomicU64,
-    upper: AtomicU64,
-}
-
-impl Following {
-    fn new() -> Self {
-        Following {
-            told: AtomicU64::new(0),
-            at_first: AtomicU64::new(u64::MAX),
-            at_last: AtomicU64::new(0),
-            idle: AtomicU64::new(0),
-            settled: AtomicU64::new(0),
-            lower: AtomicU64::new(0),
-            upper: AtomicU64::new(0),
-        }
-    }
-}
-
-impl Gate for Following {
-    fn before(&self, _task: u32) {
-        let told = self.told.load(Ordering::SeqCst);
-        self.at_first.fetch_min(told, Ordering::SeqCst);
-        self.at_last.fetch_max(told, Ordering::SeqCst);
-    }
-
-    fn after(&self, _task: u32) {
-        if self.told.load(Ordering::SeqCst) <= self.at_last.load(Ordering::SeqCst) {
-            self.idle.fetch_add(1, Ordering::SeqCst);
-        }
-    }
-
-    fn follows(&self) -> bool {
-        true
-    }
-
-    fn goes_on(&self, root: &Solved, settled: u64) {
-        self.told.fetch_add(1, Ordering::SeqCst);
-        self.settled.fetch_max(settled, Ordering::SeqCst);
-        let lower = (root.interval.lower as i16 + 64) as u64;
-        let upper = (root.interval.upper as i16 + 64) as u64;
-        self.lower.fetch_max(lower, Ordering::SeqCst);
-        self.upper.store(upper, Ordering::SeqCst);
-    }
-}
-
-// The answer's score plus 64, where `workers` workers answer as one alone does.
-fn followed<R: Threads + Sync + AllocGlobal + Abort>(
-    rt: &R,
-    board: &Board,
-    workers: u8,
-    cells: u32,
-    gate: &Following,
-) -> u64 {
-    let alone = answer_of(rt, board, Scoring::Winner);
-    let score = alone.score;
-    let alloc = rt.alloc();
-    let found = solve(
-        rt,
-        alloc,
-        board,
-        workers,
-        cells,
-        gate,
-        None,
-        Scoring::Winner,
-    );
-    assert!(rt; found == Ok(alone));
-    (score.max(-64) as i16 + 64) as u64
-}
-
-#[test]
-fn one_worker_announces_each_move_and_then_searches_it(rt: HostRuntime) {
-    let board = board_of(&rt, BOARDS[1]);
-    let moves = u64::from(board.moves().count_ones());
-    for cells in [0, 4096] {
-        let gate = Following::new();
-        let score = followed(&rt, &board, 1, cells, &gate);
-        assert!(rt; gate.at_first.load(Ordering::SeqCst) == 0);
-        assert!(rt; gate.at_last.load(Ordering::SeqCst).saturating_add(1) >= moves);
-        assert!(rt; gate.idle.load(Ordering::SeqCst) == 0);
-        assert!(rt; gate.settled.load(Ordering::SeqCst) == moves);
-        assert!(rt; gate.lower.load(Ordering::SeqCst) == score);
-        assert!(rt; gate.upper.load(Ordering::SeqCst) == score);
-    }
-}
-
-#[test]
-fn workers_tell_how_far_they_are(rt: HostRuntime) {
-    let board = board_of(&rt, BOARDS[1]);
-    let moves = u64::from(board.moves().count_ones());
-    for cells in [0, 4096] {
-        let gate = Following::new();
-        let score = followed(&rt, &board, 4, cells, &gate);
-        assert!(rt; gate.at_first.load(Ordering::SeqCst) == 0);
-        assert!(rt; gate.settled.load(Ordering::SeqCst) <= moves);
-        assert!(rt; gate.lower.load(Ordering::SeqCst) == score);
-        assert!(rt; gate.upper.load(Ordering::SeqCst) >= score);
-    }
-}
-
-// Each item waits a while until three searches have begun.
-#[derive(Drop)]
-struct MeetingOfThree {
+struct Crowding {
+    wanted: u64,
     begun: AtomicU64,
     given_up: AtomicU64,
 }
 
-impl Gate for MeetingOfThree {
+impl Gate for Crowding {
     fn before(&self, _task: u32) {
         self.begun.fetch_add(1, Ordering::SeqCst);
         for _ in 0..10_000_000 {
-            if self.begun.load(Ordering::SeqCst) >= 3 {
+            if self.begun.load(Ordering::SeqCst) >= self.wanted {
                 return;
             }
             thread::yield_now();
@@ -323,17 +244,37 @@ impl Gate for MeetingOfThree {
     fn after(&self, _task: u32) {}
 }
 
-#[test]
-fn three_workers_work_at_once(rt: HostRuntime) {
-    let board = board_of(&rt, BOARDS[1]);
-    for cells in [0, 4096] {
-        let gate = MeetingOfThree {
+// As many of `workers` workers as wanted begin an item each before any of these is searched.
+fn check_at_once<R: Threads + Sync + AllocGlobal + Abort>(rt: &R, workers: u8, wanted: u64) {
+    let board = board_of(rt, BOARDS[1]);
+    for cells in [0, 64, 4096] {
+        let gate = Crowding {
+            wanted,
             begun: AtomicU64::new(0),
             given_up: AtomicU64::new(0),
         };
         let alloc = rt.alloc();
-        let found = solve(&rt, alloc, &board, 4, cells, &gate, None, Scoring::Winner);
+        let found = solve(
+            rt,
+            alloc,
+            &board,
+            workers,
+            cells,
+            &gate,
+            None,
+            Scoring::Winner,
+        );
         assert!(rt; found.is_ok());
         assert!(rt; gate.given_up.load(Ordering::SeqCst) == 0, "{cells} cells");
     }
+}
+
+#[test]
+fn two_workers_work_at_once(rt: HostRuntime) {
+    check_at_once(&rt, 2, 2);
+}
+
+#[test]
+fn three_workers_work_at_once(rt: HostRuntime) {
+    check_at_once(&rt, 4, 3);
 }

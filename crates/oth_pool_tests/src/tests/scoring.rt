@@ -2,10 +2,12 @@
 
 use super::crews::BOARDS;
 use super::fixtures::board_of;
+use super::gate::{Counting, items_of};
 use super::{A, B, C, CORNERS, answered};
+use oth_book::Book;
 use oth_pool::{Gate, Open, SolveError, scores};
-use oth_rules::samples::{after_least_moves, board};
-use oth_rules::{Board, Scoring};
+use oth_rules::samples::{after_least_moves, board, least_moves_from};
+use oth_rules::{Board, Scoring, Square};
 use oth_search::{Solved, solve_alone};
 use std::process::Abort;
 use std::sync::atomic::{AtomicU64, Ordering};
@@ -166,4 +168,66 @@ fn crews_score_a_board_apart_and_together(rt: HostRuntime) {
     assert!(rt; root.moves().count_ones() == 6);
     check_scores(&rt, &root, 2, 4_096, Scoring::Discs);
     check_scores(&rt, &root, 16, 4_096, Scoring::Winner);
+}
+
+// Fails unless the gate of `scores` hears of each board after a move that has items, and of each of its items once.
+pub(super) fn check_heard<R: Threads + Sync + AllocGlobal + Abort>(
+    rt: &R,
+    root: &Board,
+    workers: u8,
+    cells: u32,
+    book: Option<&Book>,
+) {
+    let gate = Counting::new();
+    let alloc = rt.alloc();
+    let found = scores(
+        rt,
+        alloc,
+        root,
+        workers,
+        cells,
+        &gate,
+        book,
+        Scoring::Winner,
+    );
+    assert!(rt; found.is_ok());
+    let (mut boards, mut all, mut sum) = (0u64, 0u64, 0u64);
+    for number in 0..64 {
+        let Some(child) = root.play(Square::numbered(number)) else {
+            continue;
+        };
+        if child.is_over() {
+            continue;
+        }
+        let (items, numbers) = items_of(&child);
+        boards = boards.saturating_add(1);
+        all = all.saturating_add(items);
+        sum = sum.saturating_add(numbers);
+    }
+    assert!(rt;
+        gate.heard_all(boards, all, sum),
+        "{workers} workers, {cells} cells"
+    );
+}
+
+#[test]
+fn the_gate_hears_each_item_below_each_move_once(rt: HostRuntime) {
+    for empties in 9..=11 {
+        let Some(root) = least_moves_from(board_of(&rt, BOARDS[0]), empties) else {
+            panic!(rt; "no line")
+        };
+        for workers in [1, 2, 16] {
+            check_heard(&rt, &root, workers, 0, None);
+            check_heard(&rt, &root, workers, 4_096, None);
+        }
+    }
+}
+
+// Two threads take the boards after the moves from one queue, a thousand times.
+#[test]
+fn each_board_is_taken_by_one_of_two_workers(rt: HostRuntime) {
+    let root = board_of(&rt, CORNERS);
+    for _ in 0..1_000 {
+        check_heard(&rt, &root, 2, 0, None);
+    }
 }

@@ -42,12 +42,22 @@ impl<'t> TableView<'t> {
     // Whether the table has the board after this move of the root. While a worker writes its cell there is nothing to
     // see, so it is looked at for a while, which is short beside a search.
     pub(super) fn has(&self, square: Square) -> bool {
-        let Some(child) = self.root.play(square) else {
-            return false;
-        };
-        for _ in 0..1_000 {
+        match self.root.play(square) {
+            Some(child) => self.is_there(&child, 1_000),
+            None => false,
+        }
+    }
+
+    // Whether the table has this board.
+    pub(super) fn has_board(&self, board: &Board) -> bool {
+        self.is_there(board, 10)
+    }
+
+    // Whether one of `looks` looks finds the board.
+    fn is_there(&self, board: &Board, looks: u32) -> bool {
+        for _ in 0..looks {
             if let Some(mut cells) = self.cells.try_lock() {
-                if has_entry(&mut *cells, &child) {
+                if has_entry(&mut *cells, board) {
                     return true;
                 }
             }

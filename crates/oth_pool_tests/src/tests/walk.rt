@@ -2,12 +2,13 @@
 
 use super::crews::BOARDS;
 use super::fixtures::{answer_of, board_of, floor_of};
+use super::{C, CORNERS};
 use oth_pieces::Frontier;
 use oth_rules::{Scoring, Square};
-use oth_search::{NoCells, RootMoves, Solved, order};
+use oth_search::{Interval, NoCells, RootMoves, Solved, order};
 use oth_walk::{
-    HintSeat, Hints, MoveOrder, Open, RootBound, Search, Shape, Sharing, Worker, search_item,
-    settle_all,
+    Announced, Announcer, HintSeat, Hints, MoveOrder, Open, RootBound, Search, Seats, Shape,
+    Sharing, Worker, search_item, settle_all,
 };
 use std::process::Abort;
 use std::test::Fail;
@@ -44,21 +45,25 @@ fn check_settled<R: AllocGlobal + Abort>(rt: &R, words: [u64; 2], sharing: Shari
         },
         ..Search::of(&moves, &frontier, sharing)
     };
-    let mut worker = Worker::of(
-        &shared,
-        rt.alloc(),
-        NoCells,
-        RootBound::of(&floor, seat),
-        HintSeat::none(),
-    );
+    let announced = Announced::of(&root, Some(&frontier), &Open);
+    let seats = Seats {
+        root_bound: RootBound::of(&floor, seat),
+        hints: HintSeat::none(),
+        announcer: Announcer::of(&announced),
+    };
+    let mut worker = Worker::of(&shared, rt.alloc(), NoCells, seats, &Open);
     if sharing.is_over_table() {
         let Some(item) = frontier.entry(0) else {
             panic!(rt; "no item")
         };
-        search_item(&shared, 0, &item, &Open, &mut worker);
+        search_item(&shared, 0, &item, &mut worker);
     }
-    settle_all(&Open, &mut worker);
+    settle_all(&mut worker);
     assert!(rt; worker.settled() == moves.len() as u64);
+    for root_move in worker.moves.as_slice() {
+        let Interval { lower, upper } = root_move.child.interval;
+        assert!(rt; lower == upper || lower > answer.score.wrapping_neg());
+    }
     assert!(rt; worker.floor() == answer.score);
     assert!(rt; worker.root().interval.lower == answer.score);
 }
@@ -74,6 +79,15 @@ fn one_worker_settles_each_move(rt: HostRuntime) {
 fn one_worker_settles_each_move_that_fell_short_of_its_guess(rt: HostRuntime) {
     for words in &LOSING {
         check_settled(&rt, *words, Sharing::OverTable);
+    }
+}
+
+// Boards of two and four best moves: none is settled before it is told from those that are worse.
+#[test]
+fn one_worker_settles_moves_that_are_as_good_as_the_best(rt: HostRuntime) {
+    for words in [C, CORNERS] {
+        check_settled(&rt, words, Sharing::Apart);
+        check_settled(&rt, words, Sharing::OverTable);
     }
 }
 

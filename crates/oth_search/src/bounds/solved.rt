@@ -213,7 +213,7 @@ impl Solved {
     }
 
     /// As `passed` where the mover must pass, else this board and its bounds.
-    pub(crate) fn awake(&self) -> Solved
+    pub fn awake(&self) -> Solved
         ensures scoring { result.scoring ≡ self.now.scoring }
     {
         if !self.board.can_move() && self.board.pass().can_move() {

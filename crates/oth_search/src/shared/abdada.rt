@@ -250,7 +250,7 @@ fn visit<C: Cells, H: Company<C>>(
     company.begin(&child);
     let asked = Solved::unknown(child, node.scoring);
     let solved = narrow(&asked, node.window.turned(), plies, cells, company);
-    company.end(&child);
+    company.end(&solved);
     node.searched |= square.word();
     if node.window.is_reached(-upper_of(&solved)) {
         company.prefer(&node.board, square);

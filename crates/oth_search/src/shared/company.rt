@@ -2,7 +2,7 @@
 
 ghost use Rattle.std.specs.Prelude.{◌≡◌};
 
-use crate::bounds::{Cells, NullWindow};
+use crate::bounds::{Cells, NullWindow, Solved};
 use crate::ordering::order;
 use arrayvec::ArrayVec;
 use oth_rules::{Board, Square};
@@ -27,8 +27,8 @@ pub trait Company<C: Cells> {
     /// A search of the board begins.
     fn begin(&mut self, _board: &Board) {}
 
-    /// That search has ended.
-    fn end(&mut self, _board: &Board) {}
+    /// That search has ended, and found these bounds of the board.
+    fn end(&mut self, _found: &Solved) {}
 
     /// The moves of the board are about to be searched with this window. Returns how many such searches were under way
     /// before.

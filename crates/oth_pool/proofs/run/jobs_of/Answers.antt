@@ -9,8 +9,8 @@ use Rattle.oth_pool.proofs.run.jobs_of.Goals as goal
 pub loop-hand-preserved : goal.loop-hand-preserved
 loop-hand-preserved g c =
     let inv = c.loop-hand.invariant in
-    let f : Job g.row.C.Denot → Hand = λ j. j.work.hand in
-    let H : Job g.row.C.Denot → Type 0 = λ j. Holds c.args.search.now.frontier.now c.args.search.now.scoring j.work in
+    let f : Job g.row.C.Denot g.row.G.Denot → Hand = λ j. j.work.hand in
+    let H : Job g.row.C.Denot g.row.G.Denot → Type 0 = λ j. Holds c.args.search.now.frontier.now c.args.search.now.scoring j.work in
     let pushed = c.push_reserved.ensures in
     let one_less = c.in-Some-pop.ensures.len in (
       ap (map f) pushed.items ∙ (map-append f c.loop-hand.jobs.items _ ∙ ap (λ l. l ++ c.in-Some.hand ∷ []) inv.0),

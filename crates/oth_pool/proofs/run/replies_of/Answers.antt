@@ -11,10 +11,10 @@ use Rattle.oth_pool.proofs.run.replies_of.Goals as goal
 
 pub loop-job-preserved : goal.loop-job-preserved
 loop-job-preserved g c = λ items scoring each.
-    let jobs : List (Job g.row.C.Denot) = c.args.jobs.now in
+    let jobs : List (Job g.row.C.Denot g.row.G.Denot) = c.args.jobs.now in
     let i : ℕ = c.loop-job.job-index in
-    let j : Job g.row.C.Denot = c.job-item.result in
-    let H : Job g.row.C.Denot → Type 0 = λ k. Holds items scoring k.work in
+    let j : Job g.row.C.Denot g.row.G.Denot = c.job-item.result in
+    let H : Job g.row.C.Denot g.row.G.Denot → Type 0 = λ k. Holds items scoring k.work in
     let holds : H j = subst H (sym c.job-item.is) (each i j c.loop-job-test.true) in
     let was = c.loop-job.invariant items scoring each in
     let old : List Reply = c.loop-job.replies.items in
@@ -27,9 +27,9 @@ loop-job-preserved g c = λ items scoring each.
           let o = holds.once x in
           let v = ap (λ l. times x (numbers_of l)) c.as_slice.ensures.value in
           let b = was.1 x in
-          let e = ap (λ (l : List (Job g.row.C.Denot)). times_by x (map (λ (k : Job g.row.C.Denot). k.work) l)) longer ∙ times_more x (take i jobs) j in
+          let e = ap (λ (l : List (Job g.row.C.Denot g.row.G.Denot)). times_by x (map (λ (k : Job g.row.C.Denot g.row.G.Denot). k.work) l)) longer ∙ times_more x (take i jobs) j in
           let a = numbers_append x old more in
-          let most : ℕ = times_by x (map (λ (k : Job g.row.C.Denot). k.work) (take (i + 1) jobs)) in
+          let most : ℕ = times_by x (map (λ (k : Job g.row.C.Denot g.row.G.Denot). k.work) (take (i + 1) jobs)) in
           either_way (λ l. times x (numbers_of l) ≤ most) _ _ old more c.extend_from_slice.ensures.items (omega arith) (omega arith),
     )
 
@@ -39,5 +39,6 @@ returns-clause-replies g c = λ items scoring each. (c.loop-job.invariant items 
 pub returns-clause-once : goal.returns-clause-once
 returns-clause-once g c = λ items scoring each x.
     let b = (c.loop-job.invariant items scoring each).1 x in
-    let whole = ap (λ (l : List (Job g.row.C.Denot)). times_by x (map (λ (k : Job g.row.C.Denot). k.work) l)) (take_all c.loop-job.job-index c.args.jobs.now c.loop-job-test.false) in
+    let J : Type 0 = Job g.row.C.Denot g.row.G.Denot in
+    let whole = ap (λ (l : List J). times_by x (map (λ (k : J). k.work) l)) (take_all c.loop-job.job-index c.args.jobs.now c.loop-job-test.false) in
     omega arith

@@ -4,17 +4,23 @@ use oth_rules::Board;
 use oth_search::Solved;
 
 /// Hears of the search of each item of the root's frontier, whoever searches it: `before` and `after`, each once. The
-/// first search of the item lies between the two, or that of its whole move of the root; where true bounds tell enough
-/// of the move when the item is drawn, the item is only looked up. A search that opens an item again isn't announced,
-/// nor is a guess of the root's score, which settles nothing.
+/// first search of the item lies between the two. Items that no search needs, since the bounds that other items gave
+/// settle their move of the root, come last, with nothing between the two calls. A search that opens an item again
+/// isn't announced, nor is a guess of the root's score, which settles nothing.
 ///
-/// No answer depends on what a gate does. The other calls do nothing by default.
+/// Who is about to search an item while another thread is in `before` of it waits a little, but not for a gate that
+/// takes long. No answer depends on what a gate does. The other calls do nothing by default.
 pub trait Gate: Sync {
     /// The search of the item of this number is about to begin, in the calling thread.
     fn before(&self, task: u32);
 
     /// The search of the item of this number has ended, in the same thread.
     fn after(&self, task: u32);
+
+    /// The search of this board, after a forced pass where there is one, is about to begin. The items of which this
+    /// thread hears next, or the threads that it starts, are those two plies below it: boards that are searched side by
+    /// side have items of the same numbers.
+    fn begins(&self, _board: &Board) {}
 
     /// The answer of this board is the next one that is wanted. A run calls this, in its own thread, for each board of
     /// a line before its answer is found or waited for; `solve` does not.
