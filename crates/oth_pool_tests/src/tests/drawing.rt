@@ -83,33 +83,35 @@ fn crews_share_one_cell_where_they_search_together(rt: HostRuntime) {
     }
 }
 
-// Looks for the boards after the root's moves, when the first item is announced and when it has been searched.
+// Looks for the boards after the root's moves when the first item is announced, and for the first item whose search
+// ends when it has ended.
 #[derive(Drop)]
 struct Watching<'t> {
     view: TableView<'t>,
-    // How many calls there were, and how many boards the first two found.
-    calls: AtomicU64,
-    first: AtomicU64,
-    second: AtomicU64,
-}
-
-impl<'t> Watching<'t> {
-    fn watch(&self) {
-        match self.calls.fetch_add(1, Ordering::SeqCst) {
-            0 => self.first.store(self.view.known(), Ordering::SeqCst),
-            1 => self.second.store(self.view.known(), Ordering::SeqCst),
-            _ => {}
-        }
-    }
+    frontier: &'t Frontier,
+    begun: AtomicU64,
+    ended: AtomicU64,
+    // How many boards after moves were there at first, and whether the item was there then.
+    moves: AtomicU64,
+    item: AtomicU64,
 }
 
 impl<'t> Gate for Watching<'t> {
     fn before(&self, _task: u32) {
-        self.watch();
+        if self.begun.fetch_add(1, Ordering::SeqCst) == 0 {
+            self.moves.store(self.view.known(), Ordering::SeqCst);
+        }
     }
 
-    fn after(&self, _task: u32) {
-        self.watch();
+    fn after(&self, task: u32) {
+        if self.ended.fetch_add(1, Ordering::SeqCst) != 0 {
+            return;
+        }
+        if let Some(board) = self.frontier.item(task) {
+            if self.view.has_board(&board) {
+                self.item.store(1, Ordering::SeqCst);
+            }
+        }
     }
 }
 
@@ -122,9 +124,11 @@ fn nothing_is_searched_before_the_first_item_is_announced(rt: HostRuntime) -> Re
     let mut access = Some(TableCells::of(&table, own));
     let gate = Watching {
         view: TableView::of(rt.alloc(), &mut access, root),
-        calls: AtomicU64::new(0),
-        first: AtomicU64::new(64),
-        second: AtomicU64::new(64),
+        frontier: &frontier,
+        begun: AtomicU64::new(0),
+        ended: AtomicU64::new(0),
+        moves: AtomicU64::new(64),
+        item: AtomicU64::new(0),
     };
     let alloc = rt.alloc();
     let found = run_workers(
@@ -138,9 +142,8 @@ fn nothing_is_searched_before_the_first_item_is_announced(rt: HostRuntime) -> Re
         &gate,
     );
     assert!(rt; found.drawn.left.is_empty());
-    assert!(rt; gate.first.load(Ordering::SeqCst) == 0);
-    let second = gate.second.load(Ordering::SeqCst);
-    assert!(rt; 0 < second && second < 64);
+    assert!(rt; gate.moves.load(Ordering::SeqCst) == 0);
+    assert!(rt; gate.item.load(Ordering::SeqCst) == 1);
     Ok(())
 }
 
