@@ -26,12 +26,12 @@ analysed settings last n number line command is =
 
 -- any line but that of a game
 pub short_of : (l : Line) → ((game : BegunGame) → l ≡ line.Analyse game → ⊥) → IsShort l
-short_of (line.Solve kept) no = tt
-short_of (line.Scores kept) no = tt
-short_of (line.Moves kept) no = tt
-short_of (line.Transcript kept) no = tt
-short_of (line.Play kept) no = tt
-short_of (line.Analyse game) no = no game refl
+short_of (line.Solve kept) other = tt
+short_of (line.Scores kept) other = tt
+short_of (line.Moves kept) other = tt
+short_of (line.Transcript kept) other = tt
+short_of (line.Play kept) other = tt
+short_of (line.Analyse game) other = other game refl
 
 module _ (told : Discs → List ℕ) (line : List ℕ) where
   at_reading : (r : Result Position LineFault) → reading line ≡ r → board_reply told (solvable_reading line) ≡ board_reply told (if_solvable r)
