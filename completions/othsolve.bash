@@ -8,6 +8,7 @@ scores --workers --cells --scoring FILES
 moves FILES
 transcript FILES
 play FILES
+analyse --workers --cells --scoring --last FILES
 book-verify FILE
 book-add --workers --cells FILE
 '
@@ -17,6 +18,7 @@ _othsolve_values() {
     case $1 in
         --workers) _othsolve_words "$2" "$(echo {1..16})" ;;
         --cells) _othsolve_words "$2" '0 1 2 4 8 16 32 64 128 256 512 1024 2048 4096 8192 16384 32768 65536 131072 262144' ;;
+        --last) _othsolve_words "$2" "$(echo {1..30})" ;;
         --scoring) _othsolve_words "$2" 'winner discs' ;;
         --book) _othsolve_files "$2" ;;
         *) return 1 ;;

@@ -8,6 +8,7 @@ local -a commands=(
     'moves:write all legal moves of each board line'
     'transcript:write the board line that each transcript leads to'
     'play:write the board line that the moves behind each board line lead to'
+    'analyse:write the last moves of each game beside the best ones'
     'book-verify:verify every entry of a book'
     'book-add:write a book with the answers to the board lines of standard input added'
 )
@@ -17,6 +18,7 @@ local -a search=(
     '--cells=[cells of 32 bytes of the table that they share]:cells:(0 1 2 4 8 16 32 64 128 256 512 1024 2048 4096 8192 16384 32768 65536 131072 262144)'
 )
 local -a scoring=('--scoring=[what a finished game is worth]:scoring:((winner\:"empty squares go to the winner" discs\:"the difference of the discs alone"))')
+local -a last=('--last=[tell the moves made from N empty squares on]:squares:({1..30})')
 local -a book=('--book=[a book that is asked first]:book:_files')
 local -a files=('*:lines:_files')
 local -a help=('(- *)'{-h,--help}'[print help]')
@@ -32,6 +34,7 @@ case $state in
             moves) _arguments $help $files ;;
             transcript) _arguments $help $files ;;
             play) _arguments $help $files ;;
+            analyse) _arguments $help $search $scoring $last $files ;;
             book-verify) _arguments $help '1:book:_files' ;;
             book-add) _arguments $help $search '1:book:_files' ;;
             help) _describe command commands ;;

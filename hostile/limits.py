@@ -110,6 +110,7 @@ def walks(program, fine):
             "moves": (["moves"], given),
             "transcript": (["transcript"], b"f5d6c3d3c4\n" * BOARDS),
             "play": (["play"], b"---------------------------OX------XO--------------------------- X f5d6c3d3c4\n" * BOARDS),
+            "analyse": (["analyse"], b"--OXOOO-OOOOOOOOOOOOOOOOOOOOOOOOOOOOOOOOOOOOOOOOOOOOOOOOOOOOOOOO X h1b1\n" * BOARDS),
             "book-verify": (["book-verify", book], b""),
             "book-add": (["book-add", book], board_lines(SEED + 1, BOARDS, EMPTIES)),
         }

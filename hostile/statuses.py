@@ -19,7 +19,7 @@ MEGABYTE = 1 << 20
 LITTLE = 64
 AT_ONCE = 5
 FAULTY_WORDS = re.compile(rb"^error: .+\n")
-COMMANDS = ("solve", "scores", "moves", "transcript", "play", "book-verify", "book-add")
+COMMANDS = ("solve", "scores", "moves", "transcript", "play", "analyse", "book-verify", "book-add")
 
 
 class Case:
@@ -62,6 +62,8 @@ def done(folder):
     yield Case("moves", ["moves"], lines, wrote=b"d3 c4 f5 e6\nh8\nend\n", said=b"")
     yield Case("transcript", ["transcript"], b"\n", wrote=f"{START}\n".encode(), said=b"")
     yield Case("play", ["play"], f"{START} f5d6c3d3c4\n{START}".encode(), wrote=f"{FIVE_MOVES}\n{START}\n".encode(), said=b"")
+    wrote = b"1 58 X h1 -50 -50 h1\n1 59 O pass +50 +50 pass\n1 59 X b1 -50 -50 b1\n1 lost X 0 O 0\n2 lost X 0 O 0\n"
+    yield Case("analyse", ["analyse"], f"{EDGE} h1b1\nf5d6\n".encode(), wrote=wrote, said=b"")
     yield Case("a last line without byte 10", ["solve"], FULL_BOARD.encode(), wrote=b"+64 end\n", said=b"")
     for words in (["--help"], ["-h"], ["help"]):
         yield Case(f"help by {words[0]}", words, wrote=helps(*COMMANDS), said=b"")

@@ -4,7 +4,7 @@ use Rattle.std.specs.Prelude.{option_map, unwrap_or}
 use Rattle.std.specs.List.{flat_map}
 use Rattle.std.specs.Io.KnownBytes.{prepend_known}
 use Rattle.std.proofs.lemmas.List.Concat.{flat_map-append}
-use Rattle.oth_run.specs.Report.{Cut, after_end, cut, ended_report, last_line, last_report, lines_of, onto_first, report, with_end}
+use Rattle.oth_run.specs.Report.{Cut, after_end, cut, ended_report, last_line, last_report, line_number, lines_of, next_number, onto_first, report, report_from, with_end}
 use Rattle.oth_main.specs.Joined.{ended, joined}
 
 abbrev put : Bool → ℕ → Cut → Cut
@@ -53,30 +53,40 @@ apart text rest =
 -- ---- reports
 
 module _ (reply : List ℕ → List ℕ) where
-  report_lines : (input : List ℕ) → report reply input ≡ flat_map (with_end reply) (lines_of input)
-  unfolding report ended_report
-  report_lines input = go (cut input).rest ∙ sym (flat_map-append (with_end reply) (cut input).lines (last_line (cut input).rest))
-    where
-      go : (rest : List ℕ) → flat_map (with_end reply) (cut input).lines ++ last_report reply rest
-          ≡ flat_map (with_end reply) (cut input).lines ++ flat_map (with_end reply) (last_line rest)
-      go [] = refl
-      go (b ∷ bs) = ap (λ l. flat_map (with_end reply) (cut input).lines ++ l) (sym (append-nil (with_end reply (b ∷ bs))))
+  -- the reply doesn't look at the number of its line
+  abbrev told : List ℕ → List ℕ
+  told line = with_end (λ number. reply) 1 line
 
-  report_apart : (text rest : List ℕ) → report reply (ended false text ++ rest) ≡ report reply text ++ report reply rest
+  unnumbered : (n : ℕ) (lines : List (List ℕ)) → report_from (λ number. reply) n lines ≡ flat_map told lines
+  unnumbered n [] = refl
+  unnumbered n (line ∷ lines) = ap (λ t. told line ++ t) (unnumbered (next_number n) lines)
+
+  report_lines : (input : List ℕ) → report (λ number. reply) input ≡ flat_map told (lines_of input)
+  unfolding report ended_report
+  report_lines input =
+      ap (λ t. t ++ last_report (λ number. reply) (line_number input) (cut input).rest) (unnumbered 1 (cut input).lines)
+      ∙ go (cut input).rest ∙ sym (flat_map-append told (cut input).lines (last_line (cut input).rest))
+    where
+      go : (rest : List ℕ) → flat_map told (cut input).lines ++ last_report (λ number. reply) (line_number input) rest
+          ≡ flat_map told (cut input).lines ++ flat_map told (last_line rest)
+      go [] = refl
+      go (b ∷ bs) = ap (λ l. flat_map told (cut input).lines ++ l) (sym (append-nil (told (b ∷ bs))))
+
+  report_apart : (text rest : List ℕ) → report (λ number. reply) (ended false text ++ rest) ≡ report (λ number. reply) text ++ report (λ number. reply) rest
   report_apart text rest =
       report_lines (ended false text ++ rest)
-      ∙ ap (flat_map (with_end reply)) (apart text rest)
-      ∙ flat_map-append (with_end reply) (lines_of text) (lines_of rest)
+      ∙ ap (flat_map told) (apart text rest)
+      ∙ flat_map-append told (lines_of text) (lines_of rest)
       ∙ sym (ap₂ ◌++◌ (report_lines text) (report_lines rest))
 
   -- the report of several sources is the report of each
   pub reports : (first : List ℕ) (others : List (List ℕ))
-      → option_map (report reply) (joined false (Some first) (map (λ text. Some text) others)) ≡ Some (flat_map (report reply) (first ∷ others))
+      → option_map (report (λ number. reply)) (joined false (Some first) (map (λ text. Some text) others)) ≡ Some (flat_map (report (λ number. reply)) (first ∷ others))
   unfolding joined
-  reports first [] = ap Some (sym (append-nil (report reply first)))
+  reports first [] = ap Some (sym (append-nil (report (λ number. reply) first)))
   reports first (text ∷ texts) = go (joined false (Some text) (map (λ t. Some t) texts)) (reports text texts)
     where
-      go : (o : Option (List ℕ)) → option_map (report reply) o ≡ Some (flat_map (report reply) (text ∷ texts))
-          → option_map (report reply) (prepend_known (ended false first) o) ≡ Some (report reply first ++ flat_map (report reply) (text ∷ texts))
+      go : (o : Option (List ℕ)) → option_map (report (λ number. reply)) o ≡ Some (flat_map (report (λ number. reply)) (text ∷ texts))
+          → option_map (report (λ number. reply)) (prepend_known (ended false first) o) ≡ Some (report (λ number. reply) first ++ flat_map (report (λ number. reply)) (text ∷ texts))
       go None is = absurd (true≢false (sym (ap is_some is)))
-      go (Some r) is = ap Some (report_apart first r ∙ ap (λ l. report reply first ++ l) (ap (λ o. unwrap_or o []) is))
+      go (Some r) is = ap Some (report_apart first r ∙ ap (λ l. report (λ number. reply) first ++ l) (ap (λ o. unwrap_or o []) is))

@@ -9,7 +9,7 @@ use Rattle.oth_main.specs.declared.book_file.BookRefusal.{BookRefusal}
 use Rattle.oth_main.specs.declared.book_file.BookRefusal.TheVariants.{Text, Claim}
 use Rattle.oth_run.specs.Run.{number_of}
 use Rattle.oth_words.specs.declared.settings.Command.{Command}
-use Rattle.oth_words.specs.declared.settings.Command.TheVariants.{Solve, Scores, Moves, Transcript, Play}
+use Rattle.oth_words.specs.declared.settings.Command.TheVariants.{Solve, Scores, Moves, Transcript, Play, Analyse}
 use Rattle.oth_run.specs.declared.fault.RunFault.{RunFault}
 
 abbrev pub run_error : RunFault → List ℕ
@@ -31,4 +31,5 @@ awaited Solve = codes "othsolve: reading boards from the terminal; end with Ctrl
 awaited Scores = codes "othsolve: reading boards from the terminal; end with Ctrl-D"
 awaited Moves = codes "othsolve: reading boards from the terminal; end with Ctrl-D"
 awaited Transcript = codes "othsolve: reading games from the terminal; end with Ctrl-D"
+awaited (Analyse last) = codes "othsolve: reading games from the terminal; end with Ctrl-D"
 awaited Play = codes "othsolve: reading boards with moves from the terminal; end with Ctrl-D"

@@ -119,10 +119,11 @@ impl<R: Source + Drop> Source for Joined<R> {
 }
 
 /// Laws: the lines of a source that another one follows, and of what follows, are the lines of both, each by
-/// themselves; and the report of several sources, whose bytes are known, is the report of each, one after the other.
+/// themselves; and the report of several sources, whose bytes are known, is the report of each, one after the other,
+/// where a reply doesn't look at the number of its line.
 pub fn sources_share_no_line()
     ensures lines { (text rest : List ℕ) → lines_of (ended false text ++ rest) ≡ lines_of text ++ lines_of rest }
     ensures report { (reply : List ℕ → List ℕ) (first : List ℕ) (others : List (List ℕ))
-        → option_map (report reply) (joined false (Some first) (map (λ text. Some text) others))
-        ≡ Some (flat_map (report reply) (first ∷ others)) }
+        → option_map (report (λ number. reply)) (joined false (Some first) (map (λ text. Some text) others))
+        ≡ Some (flat_map (report (λ number. reply)) (first ∷ others)) }
 {}

@@ -145,7 +145,7 @@ fn awaited_line(command: Command) -> Message
         Command::Solve | Command::Scores | Command::Moves => {
             Message::of(b"othsolve: reading boards from the terminal; end with Ctrl-D")
         }
-        Command::Transcript => {
+        Command::Transcript | Command::Analyse(_) => {
             Message::of(b"othsolve: reading games from the terminal; end with Ctrl-D")
         }
         Command::Play => {

@@ -4,6 +4,7 @@
 mod batches;
 mod books;
 mod devices;
+mod games;
 mod gates;
 mod joined;
 mod reasons;
@@ -43,7 +44,7 @@ struct Walked {
     result: Result<(), RunFault>,
     reads: u64,
     writes: u64,
-    writer: ByteSink<256>,
+    writer: ByteSink<512>,
 }
 
 // A run with a reader that gives one byte a call and fails after some, and a writer that takes one byte a call and

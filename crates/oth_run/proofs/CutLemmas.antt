@@ -1,8 +1,7 @@
 -- Cutting an input byte by byte, from the left.
 use Rattle.std.proofs.Common.{◌≡◌, ◌==◌, ◌≢◌, ℕ, List, [], ◌∷◌, ◌++◌, Bool, true, false, cond, Option, Err, refl, sym, ap, ◌∙◌, subst, append_assoc, append-nil}
 use Rattle.std.specs.Prelude.{All}
-use Rattle.std.specs.List.{AllByRecursion, flat_map}
-use Rattle.std.proofs.lemmas.List.{flat_map_more}
+use Rattle.std.specs.List.{AllByRecursion}
 use Rattle.std.proofs.lemmas.List.Elements.{recursion_from_All}
 use Rattle.std.proofs.lemmas.Bool.{ne_eqb}
 use Rattle.std.specs.Io.KnownBytes.{Appends}
@@ -15,7 +14,7 @@ use Rattle.oth_run.specs.declared.fault.RunFault.{RunFault}
 use Rattle.oth_run.specs.declared.fault.RunFault.TheVariants.{Read, Write, Workers, Cells}
 use Rattle.oth_run.specs.Gathered.{IsGathered}
 use Rattle.oth_run.specs.Reply.{reply}
-use Rattle.oth_run.specs.Report.{Cut, after_end, cut, ended_report, last_report, onto_first, report, with_end}
+use Rattle.oth_run.specs.Report.{Cut, after_end, cut, ended_report, last_report, line_number, next_number, number_behind, onto_first, report, report_from, with_end}
 use Rattle.oth_run.specs.Halfway.{IsUpTo, WritesEnded}
 use Rattle.oth_run.specs.Run.{AreLawful, RefusesBy, Writes}
 use Rattle.oth_run.proofs.GatherLemmas.{beginning_within}
@@ -50,19 +49,31 @@ cut_end xs b is = cut_push xs b ∙ ap (λ q. push q (cut xs) b) is
 cut_more : (xs : List ℕ) (b : ℕ) → (b == 10) ≡ false → cut (xs ++ b ∷ []) ≡ record { lines = (cut xs).lines; rest = (cut xs).rest ++ b ∷ [] }
 cut_more xs b is = cut_push xs b ∙ ap (λ q. push q (cut xs) b) is
 
-module _ (reply : List ℕ → List ℕ) where
+-- ---- numbers of lines
+
+number_more : (n : ℕ) (lines : List (List ℕ)) (line : List ℕ) → number_behind n (lines ++ line ∷ []) ≡ next_number (number_behind n lines)
+number_more n [] line = refl
+number_more n (l ∷ lines) line = number_more (next_number n) lines line
+
+module _ (reply : ℕ → List ℕ → List ℕ) where
+  report_more : (n : ℕ) (lines : List (List ℕ)) (line : List ℕ) → report_from reply n (lines ++ line ∷ []) ≡ report_from reply n lines ++ with_end reply (number_behind n lines) line
+  report_more n [] line = append-nil (with_end reply n line)
+  report_more n (l ∷ lines) line =
+      ap (λ t. with_end reply n l ++ t) (report_more (next_number n) lines line)
+      ∙ sym (append_assoc (with_end reply n l) (report_from reply (next_number n) lines) (with_end reply (number_behind (next_number n) lines) line))
+
   -- a byte 10 adds the report of the line that has begun
-  pub ended_report_end : (xs : List ℕ) (b : ℕ) → (b == 10) ≡ true → ended_report reply (xs ++ b ∷ []) ≡ ended_report reply xs ++ with_end reply (cut xs).rest
+  pub ended_report_end : (xs : List ℕ) (b : ℕ) → (b == 10) ≡ true → ended_report reply (xs ++ b ∷ []) ≡ ended_report reply xs ++ with_end reply (line_number xs) (cut xs).rest
   unfolding ended_report
-  ended_report_end xs b is = ap (λ (c : Cut). flat_map (with_end reply) c.lines) (cut_end xs b is) ∙ sym (flat_map_more (with_end reply) [] (cut xs).lines (cut xs).rest)
+  ended_report_end xs b is = ap (λ (c : Cut). report_from reply 1 c.lines) (cut_end xs b is) ∙ report_more 1 (cut xs).lines (cut xs).rest
 
   -- another byte adds none
   pub ended_report_more : (xs : List ℕ) (b : ℕ) → (b == 10) ≡ false → ended_report reply (xs ++ b ∷ []) ≡ ended_report reply xs
   unfolding ended_report
-  ended_report_more xs b is = ap (λ (c : Cut). flat_map (with_end reply) c.lines) (cut_more xs b is)
+  ended_report_more xs b is = ap (λ (c : Cut). report_from reply 1 c.lines) (cut_more xs b is)
 
   ended_begins_one : (xs : List ℕ) (b : ℕ) (q : Bool) → (b == 10) ≡ q → IsBeginning (ended_report reply xs) (ended_report reply (xs ++ b ∷ []))
-  ended_begins_one xs b true is = (with_end reply (cut xs).rest, ended_report_end xs b is)
+  ended_begins_one xs b true is = (with_end reply (line_number xs) (cut xs).rest, ended_report_end xs b is)
   ended_begins_one xs b false is = ([], ended_report_more xs b is ∙ sym (append-nil _))
 
   begins_trans : (xs ys zs : List ℕ) → IsBeginning xs ys → IsBeginning ys zs → IsBeginning xs zs
@@ -91,47 +102,57 @@ cut_plain xs (y ∷ ys) all =
 pub cut_part : (xs part : List ℕ) → HasNoEnd part → cut (xs ++ part) ≡ record { lines = (cut xs).lines; rest = (cut xs).rest ++ part }
 cut_part xs part none = cut_plain xs part (recursion_from_All (λ b. b ≢ 10) part none)
 
-module _ (reply : List ℕ → List ℕ) where
+number_part : (xs part : List ℕ) → HasNoEnd part → line_number (xs ++ part) ≡ line_number xs
+number_part xs part none = ap (λ (c : Cut). number_behind 1 c.lines) (cut_part xs part none)
+
+number_line : (xs part : List ℕ) → HasNoEnd part → line_number (xs ++ (part ++ 10 ∷ [])) ≡ next_number (line_number xs)
+number_line xs part none =
+    ap line_number (sym (append_assoc xs part (10 ∷ []))) ∙ ap (λ (c : Cut). number_behind 1 c.lines) (cut_end (xs ++ part) 10 refl)
+    ∙ number_more 1 (cut (xs ++ part)).lines (cut (xs ++ part)).rest ∙ ap next_number (number_part xs part none)
+
+module _ (reply : ℕ → List ℕ → List ℕ) where
   ended_report_part : (xs part : List ℕ) → HasNoEnd part → ended_report reply (xs ++ part) ≡ ended_report reply xs
   unfolding ended_report
-  ended_report_part xs part none = ap (λ (c : Cut). flat_map (with_end reply) c.lines) (cut_part xs part none)
+  ended_report_part xs part none = ap (λ (c : Cut). report_from reply 1 c.lines) (cut_part xs part none)
 
   -- the last part of a line and its end add its report
-  ended_report_line : (xs part : List ℕ) → HasNoEnd part → ended_report reply (xs ++ (part ++ 10 ∷ [])) ≡ ended_report reply xs ++ with_end reply ((cut xs).rest ++ part)
+  ended_report_line : (xs part : List ℕ) → HasNoEnd part → ended_report reply (xs ++ (part ++ 10 ∷ [])) ≡ ended_report reply xs ++ with_end reply (line_number xs) ((cut xs).rest ++ part)
   ended_report_line xs part none =
       ap (ended_report reply) (sym (append_assoc xs part (10 ∷ []))) ∙ ended_report_end reply (xs ++ part) 10 refl
-      ∙ ap (λ l. l ++ with_end reply (cut (xs ++ part)).rest) (ended_report_part xs part none)
-      ∙ ap (λ (c : Cut). ended_report reply xs ++ with_end reply c.rest) (cut_part xs part none)
+      ∙ ap (λ l. l ++ with_end reply (line_number (xs ++ part)) (cut (xs ++ part)).rest) (ended_report_part xs part none)
+      ∙ ap (λ n. ended_report reply xs ++ with_end reply n (cut (xs ++ part)).rest) (number_part xs part none)
+      ∙ ap (λ (c : Cut). ended_report reply xs ++ with_end reply (line_number xs) c.rest) (cut_part xs part none)
 
   rest_line : (xs part : List ℕ) → (cut (xs ++ (part ++ 10 ∷ []))).rest ≡ []
   rest_line xs part = ap (λ l. (cut l).rest) (sym (append_assoc xs part (10 ∷ []))) ∙ ap (λ (c : Cut). c.rest) (cut_end (xs ++ part) 10 refl)
 
   module _ (before : Option (List ℕ)) (xs part : List ℕ) (none : HasNoEnd part) where
     -- the line goes on
-    pub up_to_part : (holds holds' : List ℕ → Type 0) (a : Option (List ℕ)) (waiting : List ℕ) → IsUpTo reply holds before a waiting xs
-        → holds' ((cut xs).rest ++ part) → IsUpTo reply holds' before a waiting (xs ++ part)
+    pub up_to_part : (holds holds' : ℕ → List ℕ → Type 0) (a : Option (List ℕ)) (waiting : List ℕ) → IsUpTo reply holds before a waiting xs
+        → holds' (line_number xs) ((cut xs).rest ++ part) → IsUpTo reply holds' before a waiting (xs ++ part)
     up_to_part holds holds' a waiting so_far more = record {
-      line = subst holds' (sym (ap (λ (c : Cut). c.rest) (cut_part xs part none))) more;
+      line = subst (holds' (line_number (xs ++ part))) (sym (ap (λ (c : Cut). c.rest) (cut_part xs part none)))
+          (subst (λ n. holds' n ((cut xs).rest ++ part)) (sym (number_part xs part none)) more);
       gathered = subst (IsGathered before a waiting) (sym (ended_report_part xs part none)) so_far.gathered;
     }
 
     -- the line ends, and its report is gathered
-    pub up_to_line : (holds : List ℕ → Type 0) (a : Option (List ℕ)) (waiting : List ℕ)
-        → IsGathered before a waiting (ended_report reply xs ++ with_end reply ((cut xs).rest ++ part)) → holds [] → IsUpTo reply holds before a waiting (xs ++ (part ++ 10 ∷ []))
+    pub up_to_line : (holds : ℕ → List ℕ → Type 0) (a : Option (List ℕ)) (waiting : List ℕ)
+        → IsGathered before a waiting (ended_report reply xs ++ with_end reply (line_number xs) ((cut xs).rest ++ part)) → holds (next_number (line_number xs)) [] → IsUpTo reply holds before a waiting (xs ++ (part ++ 10 ∷ []))
     up_to_line holds a waiting gathered empty = record {
-      line = subst holds (sym (rest_line xs part)) empty;
+      line = subst (holds (line_number (xs ++ (part ++ 10 ∷ [])))) (sym (rest_line xs part)) (subst (λ n. holds n []) (sym (number_line xs part none)) empty);
       gathered = subst (IsGathered before a waiting) (sym (ended_report_line xs part none)) gathered;
     }
 
     -- its report is written in part
-    pub part_of_line : (a : Option (List ℕ)) → AppendsBeginning before a (ended_report reply xs ++ with_end reply ((cut xs).rest ++ part))
+    pub part_of_line : (a : Option (List ℕ)) → AppendsBeginning before a (ended_report reply xs ++ with_end reply (line_number xs) ((cut xs).rest ++ part))
         → AppendsBeginning before a (ended_report reply (xs ++ (part ++ 10 ∷ [])))
     part_of_line a written = subst (AppendsBeginning before a) (sym (ended_report_line xs part none)) written
 
 -- ---- a loop over the lines of further bytes
 
 -- what is written of the lines so far begins the report
-pub stops_within : (reply : List ℕ → List ℕ) (before a : Option (List ℕ)) (input bytes front line others : List ℕ) → bytes ≡ (front ++ line) ++ others
+pub stops_within : (reply : ℕ → List ℕ → List ℕ) (before a : Option (List ℕ)) (input bytes front line others : List ℕ) → bytes ≡ (front ++ line) ++ others
     → AppendsBeginning before a (ended_report reply ((input ++ front) ++ line)) → AppendsBeginning before a (ended_report reply (input ++ bytes))
 stops_within reply before a input bytes front line others same part =
     let joined : ((input ++ front) ++ line) ++ others ≡ input ++ bytes =
@@ -139,49 +160,49 @@ stops_within reply before a input bytes front line others same part =
     beginning_within before a _ _ part (subst (λ l. IsBeginning (ended_report reply ((input ++ front) ++ line)) (ended_report reply l)) joined (ended_begins reply ((input ++ front) ++ line) others))
 
 -- the report of a last line that is not empty
-pub last-some : (reply : List ℕ → List ℕ) (text : List ℕ) (b : Bool) → b ≡ is_nil text → b ≡ false → last_report reply text ≡ with_end reply text
-last-some reply [] b is isnt = absurd (let bad : true ≡ false = sym is ∙ isnt in cc)
-last-some reply (x ∷ xs) b is isnt = refl
+pub last-some : (reply : ℕ → List ℕ → List ℕ) (n : ℕ) (text : List ℕ) (b : Bool) → b ≡ is_nil text → b ≡ false → last_report reply n text ≡ with_end reply n text
+last-some reply n [] b is isnt = absurd (let bad : true ≡ false = sym is ∙ isnt in cc)
+last-some reply n (x ∷ xs) b is isnt = refl
 
 -- ---- a run
 
 -- nothing is read and gathered yet
-pub up_to_none : (reply : List ℕ → List ℕ) (holds : List ℕ → Type 0) (a : Option (List ℕ)) → holds [] → IsUpTo reply holds a a [] []
+pub up_to_none : (reply : ℕ → List ℕ → List ℕ) (holds : ℕ → List ℕ → Type 0) (a : Option (List ℕ)) → holds 1 [] → IsUpTo reply holds a a [] []
 unfolding cut ended_report
 up_to_none reply holds a empty = record { line = empty; gathered = ([], Appends-nil a, refl) }
 
 -- nothing waits
-pub up_to_waiting : (reply : List ℕ → List ℕ) (holds : List ℕ → Type 0) (before a : Option (List ℕ)) (waiting input : List ℕ) → waiting ≡ [] → IsUpTo reply holds before a [] input
+pub up_to_waiting : (reply : ℕ → List ℕ → List ℕ) (holds : ℕ → List ℕ → Type 0) (before a : Option (List ℕ)) (waiting input : List ℕ) → waiting ≡ [] → IsUpTo reply holds before a [] input
     → IsUpTo reply holds before a waiting input
 up_to_waiting reply holds before a waiting input none so_far = subst (λ w. IsUpTo reply holds before a w input) (sym none) so_far
 
-pub up_to_no_waiting : (reply : List ℕ → List ℕ) (holds : List ℕ → Type 0) (before a : Option (List ℕ)) (waiting input : List ℕ) → waiting ≡ [] → IsUpTo reply holds before a waiting input
+pub up_to_no_waiting : (reply : ℕ → List ℕ → List ℕ) (holds : ℕ → List ℕ → Type 0) (before a : Option (List ℕ)) (waiting input : List ℕ) → waiting ≡ [] → IsUpTo reply holds before a waiting input
     → IsUpTo reply holds before a [] input
 up_to_no_waiting reply holds before a waiting input none so_far = subst (λ w. IsUpTo reply holds before a w input) none so_far
 
 -- what was gathered is written
-pub up_to_written : (reply : List ℕ → List ℕ) (holds : List ℕ → Type 0) (before a b : Option (List ℕ)) (waiting waiting' input : List ℕ) → IsUpTo reply holds before a waiting input
+pub up_to_written : (reply : ℕ → List ℕ → List ℕ) (holds : ℕ → List ℕ → Type 0) (before a b : Option (List ℕ)) (waiting waiting' input : List ℕ) → IsUpTo reply holds before a waiting input
     → Appends before b (ended_report reply input) → waiting' ≡ [] → IsUpTo reply holds before b waiting' input
 up_to_written reply holds before a b waiting waiting' input so_far written none =
     record { line = so_far.line; gathered = (ended_report reply input, written, sym (ap (λ l. ended_report reply input ++ l) none ∙ append-nil _)) }
 
 -- the whole report, of the lines that ended and the last one
-pub written_report : (reply : List ℕ → List ℕ) (before now : Option (List ℕ)) (input : List ℕ) → Appends before now (ended_report reply input ++ last_report reply (cut input).rest)
+pub written_report : (reply : ℕ → List ℕ → List ℕ) (before now : Option (List ℕ)) (input : List ℕ) → Appends before now (ended_report reply input ++ last_report reply (line_number input) (cut input).rest)
     → Appends before now (report reply input)
 unfolding report
 written_report reply before now input written = written
 
 -- a beginning of it
-pub written_beginning : (reply : List ℕ → List ℕ) (before now : Option (List ℕ)) (input : List ℕ) → AppendsBeginning before now (ended_report reply input ++ last_report reply (cut input).rest)
+pub written_beginning : (reply : ℕ → List ℕ → List ℕ) (before now : Option (List ℕ)) (input : List ℕ) → AppendsBeginning before now (ended_report reply input ++ last_report reply (line_number input) (cut input).rest)
     → AppendsBeginning before now (report reply input)
 unfolding report
 written_beginning reply before now input part = part
 
 -- the report of the lines that ended begins the whole one
-pub ended_begins_report : (reply : List ℕ → List ℕ) (before b : Option (List ℕ)) (input : List ℕ) → AppendsBeginning before b (ended_report reply input)
+pub ended_begins_report : (reply : ℕ → List ℕ → List ℕ) (before b : Option (List ℕ)) (input : List ℕ) → AppendsBeginning before b (ended_report reply input)
     → AppendsBeginning before b (report reply input)
 unfolding report
-ended_begins_report reply before b input part = beginning_within before b _ _ part (last_report reply (cut input).rest, refl)
+ended_begins_report reply before b input part = beginning_within before b _ _ part (last_report reply (line_number input) (cut input).rest, refl)
 
 -- a run that is refused wrote nothing
 pub refused_writes : (settings : Settings) (fault : RunFault) → (AreLawful settings → ⊥) → RefusesBy {T = Settings} settings.workers settings.cells (Err fault)

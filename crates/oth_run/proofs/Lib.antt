@@ -1,3 +1,4 @@
 pub mod CutLemmas
 pub mod GatherLemmas
 pub mod ReplyLemmas
+pub mod GameLemmas

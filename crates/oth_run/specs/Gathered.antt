@@ -2,6 +2,7 @@
 --     IsGathered before sink waiting text      of the text a front was written, and the rest waits
 --     Gathers      a call adds the text
 --     WritesOut, StopsInWaiting      a call writes what waits, and what is left where the sink fails
+--     StopsInText      what is left where it fails while a text is added
 use Rattle.std.specs.Prelude.{◌≡◌, ℕ, List, ◌++◌, Option}
 use Rattle.std.specs.Io.KnownBytes.{Appends}
 use Rattle.oth_text.specs.Device.{AppendsBeginning}
@@ -24,3 +25,7 @@ WritesOut sink sink' waiting = (before : Option (List ℕ)) (done : List ℕ) �
 abbrev pub StopsInWaiting : Option (List ℕ) → Option (List ℕ) → List ℕ → Type 0
 StopsInWaiting sink sink' waiting =
     (before : Option (List ℕ)) (done : List ℕ) → IsGathered before sink waiting done → AppendsBeginning before sink' done
+
+abbrev pub StopsInText : Option (List ℕ) → Option (List ℕ) → List ℕ → List ℕ → Type 0
+StopsInText sink sink' waiting text = (before : Option (List ℕ)) (done : List ℕ)
+    → IsGathered before sink waiting done → AppendsBeginning before sink' (done ++ text)

@@ -1,7 +1,7 @@
 -- A run halfway. A sink held the bytes `before` when the run began and holds `sink`, or `sink'` after a call.
 --     IsUpTo, IsAt      the reports of the lines that ended are gathered, and the engine holds the line that has begun
 --     Takes, StopsWithin      what a call makes of further bytes of the input, and what is left where the sink fails
---     Answers, Ends, StopsInside      what a call makes of the line that has begun, of which `told line` is written, and what is left
+--     Answers, Ends, StopsInside      what a call makes of the line that has begun, of which `told number line` is written, and what is left
 --     WritesEnded      a run over the lines that a byte 10 ends, by how it ended
 use Rattle.std.specs.Prelude.{ℕ, List, [], ◌++◌, Option, Result, Ok, Err}
 use Rattle.std.specs.Io.KnownBytes.{Appends}
@@ -13,11 +13,11 @@ use Rattle.oth_run.specs.declared.fault.RunFault.TheVariants.{Read, Write, Worke
 use Rattle.oth_run.specs.Gathered.{IsGathered}
 use Rattle.oth_run.specs.Line.{Holds}
 use Rattle.oth_run.specs.Reply.{reply}
-use Rattle.oth_run.specs.Report.{cut, ended_report}
+use Rattle.oth_run.specs.Report.{cut, ended_report, line_number}
 
-pub record IsUpTo (reply : List ℕ → List ℕ) (holds : List ℕ → Type 0)
+pub record IsUpTo (reply : ℕ → List ℕ → List ℕ) (holds : ℕ → List ℕ → Type 0)
     (before sink : Option (List ℕ)) (waiting input : List ℕ) : Type 0 where
-  pub line : holds (cut input).rest
+  pub line : holds (line_number input) (cut input).rest
   pub gathered : IsGathered before sink waiting (ended_report reply input)
 
 abbrev pub IsAt : Settings → Engine → Option (List ℕ) → Option (List ℕ) → List ℕ → Type 0
@@ -32,18 +32,18 @@ abbrev pub StopsWithin : Settings → Engine → Option (List ℕ) → Option (L
 StopsWithin settings old sink sink' bytes = (before : Option (List ℕ)) (input : List ℕ)
     → IsAt settings old before sink input → AppendsBeginning before sink' (ended_report (reply settings) (input ++ bytes))
 
-module _ (told : List ℕ → List ℕ) where
+module _ (told : ℕ → List ℕ → List ℕ) where
   abbrev pub Answers : Settings → Engine → Engine → Option (List ℕ) → Option (List ℕ) → Type 0
-  Answers settings old new sink sink' = (before : Option (List ℕ)) (done line : List ℕ) → Holds settings.command old.line line
-      → IsGathered before sink old.waiting.bytes.items done → IsGathered before sink' new.waiting.bytes.items (done ++ told line)
+  Answers settings old new sink sink' = (before : Option (List ℕ)) (done line : List ℕ) (number : ℕ) → Holds settings.command old.line number line
+      → IsGathered before sink old.waiting.bytes.items done → IsGathered before sink' new.waiting.bytes.items (done ++ told number line)
 
   abbrev pub Ends : Settings → Engine → Option (List ℕ) → Option (List ℕ) → Type 0
-  Ends settings old sink sink' = (before : Option (List ℕ)) (done line : List ℕ) → Holds settings.command old.line line
-      → IsGathered before sink old.waiting.bytes.items done → Appends before sink' (done ++ told line)
+  Ends settings old sink sink' = (before : Option (List ℕ)) (done line : List ℕ) (number : ℕ) → Holds settings.command old.line number line
+      → IsGathered before sink old.waiting.bytes.items done → Appends before sink' (done ++ told number line)
 
   abbrev pub StopsInside : Settings → Engine → Option (List ℕ) → Option (List ℕ) → Type 0
-  StopsInside settings old sink sink' = (before : Option (List ℕ)) (done line : List ℕ) → Holds settings.command old.line line
-      → IsGathered before sink old.waiting.bytes.items done → AppendsBeginning before sink' (done ++ told line)
+  StopsInside settings old sink sink' = (before : Option (List ℕ)) (done line : List ℕ) (number : ℕ) → Holds settings.command old.line number line
+      → IsGathered before sink old.waiting.bytes.items done → AppendsBeginning before sink' (done ++ told number line)
 
 abbrev pub WritesEnded : Settings → Engine → Option (List ℕ) → Option (List ℕ) → Result (Unit {0}) RunFault → List ℕ → Type 0
 WritesEnded settings engine before sink (Ok done) input = IsUpTo (reply settings) (Holds settings.command engine.line) before sink [] input

@@ -12,7 +12,7 @@ use Rattle.oth_run.specs.declared.fault.RunFault.{RunFault}
 use Rattle.oth_run.specs.declared.fault.RunFault.TheVariants.{Read, Write, Workers, Cells}
 use Rattle.oth_run.specs.Report.{ended_report, report}
 
-abbrev pub Writes : (List ℕ → List ℕ) → Result (Unit {0}) RunFault → List ℕ → List ℕ → Type 0
+abbrev pub Writes : (ℕ → List ℕ → List ℕ) → Result (Unit {0}) RunFault → List ℕ → List ℕ → Type 0
 Writes reply (Ok done) input written = written ≡ report reply input
 Writes reply (Err Read) input written = written ≡ ended_report reply input
 Writes reply (Err Write) input written = IsBeginning written (report reply input)

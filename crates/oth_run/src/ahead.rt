@@ -82,7 +82,7 @@ pub(crate) fn asked_by(command: Command) -> Option<Asked> {
     match command {
         Command::Solve => Some(Asked::Answer),
         Command::Scores => Some(Asked::Scores),
-        Command::Moves | Command::Transcript | Command::Play => None,
+        Command::Moves | Command::Transcript | Command::Play | Command::Analyse(_) => None,
     }
 }
 

@@ -5,7 +5,7 @@ ghost use Rattle.std.specs.Io.KnownBytes.{Consumes, IsAtEnd};
 ghost use Rattle.oth_run.specs.Halfway.{Answers, Ends, StopsInside, StopsWithin, Takes, WritesEnded};
 ghost use Rattle.oth_run.specs.Line.{Holds};
 ghost use Rattle.oth_run.specs.Reply.{reply};
-ghost use Rattle.oth_run.specs.Report.{last_report, with_end};
+ghost use Rattle.oth_run.specs.Report.{last_report, next_number, with_end};
 ghost use Rattle.oth_run.specs.Run.{FailsBy};
 
 use crate::ahead::jobs_of;
@@ -33,7 +33,7 @@ pub struct Engine {
 impl Engine {
     /// Nothing was read yet.
     pub fn new(command: Command) -> Self
-        ensures line { Holds command result.line [] }
+        ensures line { Holds command result.line 1 [] }
         ensures waiting { result.waiting.bytes.items ≡ [] }
     {
         Engine {
@@ -49,8 +49,9 @@ impl Engine {
         jobs: &Jobs<'_, T, G>,
         writer: &mut W,
     ) -> Result<(), Failed>
-        ensures line { OnOk result ((line : List ℕ) → Holds solver.now.settings.command self.old.line line
-            → Holds solver.now.settings.command self.new.line []) }
+        ensures line { OnOk result ((number : ℕ) (line : List ℕ)
+            → Holds solver.now.settings.command self.old.line number line
+            → Holds solver.now.settings.command self.new.line (next_number number) []) }
         ensures ok { OnOk result (Answers (with_end (reply solver.now.settings)) solver.now.settings self.old self.new
             (W.contents writer.old) (W.contents writer.new)) }
         ensures err { OnErr result (StopsInside (with_end (reply solver.now.settings)) solver.now.settings self.old
@@ -58,8 +59,7 @@ impl Engine {
         ensures works { OnOk result (W.failed writer.new ≡ W.failed writer.old) }
         ensures fails { OnErr result (W.failed writer.new ≡ true) }
     {
-        let answer = self.line.reply(solver, jobs);
-        self.waiting.push_text(writer, answer.as_slice())?;
+        self.line.tell(solver, jobs, &mut self.waiting, writer)?;
         self.waiting.push_text(writer, b"\n")?;
         self.line.clear();
         Ok(())
@@ -179,7 +179,7 @@ impl Engine {
     ) -> Result<(), RunFault>
         requires reader { R.failed reader.old ≡ false }
         requires writer { W.failed writer.old ≡ false }
-        requires line { Holds solver.now.settings.command self.old.line [] }
+        requires line { Holds solver.now.settings.command self.old.line 1 [] }
         requires waiting { self.old.waiting.bytes.items ≡ [] }
         ensures bytes { (input : List ℕ) × Consumes (R.remaining reader.old) (R.remaining reader.new) input
             × WritesEnded solver.now.settings self.new (W.contents writer.old) (W.contents writer.new) result input }

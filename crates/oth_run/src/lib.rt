@@ -5,7 +5,7 @@
 //! (`buffer`), with the line that has begun (`line`: a line of any length in fixed space, read in parts by the
 //! readers of `oth_text`, and its reply) and the bytes that wait to be written (`waiting`, at most 16,384). What
 //! waits is written before each read, and before and after each line whose answer may take time. `lines` cuts bytes
-//! into lines. `checking` has settings that were tested, `Lawful`, so the pool's refusals of workers and of cells are
+//! into lines. `game` has the line of a game that is analysed, whose reply has several lines. `checking` has settings that were tested, `Lawful`, so the pool's refusals of workers and of cells are
 //! shown not to come, and no function of the engine asks for more.
 //!
 //! `Solver` (`solver`) is what boards are solved with, and how. Where `solve` or `scores` has more than one worker,
@@ -21,6 +21,7 @@ mod buffer;
 mod checking;
 mod engine;
 mod fault;
+mod game;
 mod line;
 mod lines;
 mod running;

@@ -1,24 +1,28 @@
 //! The line that has begun, and what a line is answered with.
 
-ghost use Rattle.std.specs.Prelude.{◌≡◌, ◌≤◌, ◌++◌, ℕ, List, [], length};
+ghost use Rattle.std.specs.Prelude.{◌≡◌, ◌≤◌, ◌++◌, ℕ, List, [], length, true, OnOk, OnErr};
 ghost use Rattle.oth_text.specs.BoardLine.{KeepsLine, reading, solvable_reading};
 ghost use Rattle.oth_text.specs.Game.{KeepsGame, game_reading};
 ghost use Rattle.oth_text.specs.Transcript.{StandsFor, is_nil, transcript_reading};
 ghost use Rattle.oth_words.specs.declared.settings.Command.{Command as CommandGiven};
-ghost use Rattle.oth_run.specs.Line.{Holds};
+ghost use Rattle.oth_run.specs.Gathered.{Gathers, StopsInText};
+ghost use Rattle.oth_run.specs.Line.{Holds, IsShort};
+ghost use Rattle.oth_run.specs.Report.{next_number};
 ghost use Rattle.oth_run.specs.Reply.{board_reply, play_reply, reply, transcript_reply};
 ghost use Rattle.oth_text.specs.Ranking.{scores_line_of};
 ghost use Rattle.oth_text.specs.Report.{moves_line_of, report_line_of};
 
+use crate::game::BegunGame;
 use crate::solver::Solver;
 use crate::tuning::{MOST_EMPTIES_AT_ONCE, MOST_EMPTIES_SCORED_AT_ONCE};
+use crate::waiting::Waiting;
 use arrayvec::ArrayVec;
 use oth_batch::Jobs;
 use oth_pool::Gate;
 use oth_search::TooManyEmpties;
 use oth_text::{
-    BoardReader, GameReader, LineFault, SCORES_LINE_LEN, TranscriptReader, fault_line,
-    game_fault_line, moves_line, report_line, transcript_fault_line, write_board,
+    BoardReader, Failed, GameReader, LineFault, SCORES_LINE_LEN, Sink, TranscriptReader,
+    fault_line, game_fault_line, moves_line, report_line, transcript_fault_line, write_board,
 };
 use oth_words::Command;
 use std::sync::Wait;
@@ -35,12 +39,13 @@ pub enum Line {
     Moves(BoardReader),
     Transcript(TranscriptReader),
     Play(GameReader),
+    Analyse(BegunGame),
 }
 
 impl Line {
     /// A line with no byte yet.
     pub fn new(command: Command) -> Self
-        ensures { Holds command result [] }
+        ensures { Holds command result 1 [] }
     {
         match command {
             Command::Solve => Line::Solve(BoardReader::new()),
@@ -48,12 +53,14 @@ impl Line {
             Command::Moves => Line::Moves(BoardReader::new()),
             Command::Transcript => Line::Transcript(TranscriptReader::new()),
             Command::Play => Line::Play(GameReader::new()),
+            Command::Analyse(last) => Line::Analyse(BegunGame::new(last)),
         }
     }
 
     /// Begins another line.
     pub fn clear(&mut self)
-        ensures { (command : CommandGiven) (line : List ℕ) → Holds command self.old line → Holds command self.new [] }
+        ensures { (command : CommandGiven) (number : ℕ) (line : List ℕ) → Holds command self.old number line
+            → Holds command self.new (next_number number) [] }
     {
         match self {
             Line::Solve(reader) => reader.clear(),
@@ -61,13 +68,14 @@ impl Line {
             Line::Moves(reader) => reader.clear(),
             Line::Transcript(reader) => reader.clear(),
             Line::Play(reader) => reader.clear(),
+            Line::Analyse(game) => game.clear(),
         }
     }
 
     /// Takes the next bytes of the line.
     pub fn push(&mut self, bytes: &[u8])
-        ensures { (command : CommandGiven) (line : List ℕ) → Holds command self.old line
-            → Holds command self.new (line ++ bytes.now) }
+        ensures { (command : CommandGiven) (number : ℕ) (line : List ℕ) → Holds command self.old number line
+            → Holds command self.new number (line ++ bytes.now) }
     {
         match self {
             Line::Solve(reader) => reader.push(bytes),
@@ -75,12 +83,14 @@ impl Line {
             Line::Moves(reader) => reader.push(bytes),
             Line::Transcript(reader) => reader.push(bytes),
             Line::Play(reader) => reader.push(bytes),
+            Line::Analyse(game) => game.push(bytes),
         }
     }
 
     /// Whether the line has no byte.
     pub fn is_empty(&self) -> bool
-        ensures { (command : CommandGiven) (line : List ℕ) → Holds command self.now line → result ≡ is_nil line }
+        ensures { (command : CommandGiven) (number : ℕ) (line : List ℕ) → Holds command self.now number line
+            → result ≡ is_nil line }
     {
         match self {
             Line::Solve(reader) => reader.is_empty(),
@@ -88,6 +98,7 @@ impl Line {
             Line::Moves(reader) => reader.is_empty(),
             Line::Transcript(reader) => reader.is_empty(),
             Line::Play(reader) => reader.is_empty(),
+            Line::Analyse(game) => game.is_empty(),
         }
     }
 
@@ -99,17 +110,45 @@ impl Line {
             Line::Scores(reader) => is_shared
                 || has_more_empties(reader, MOST_EMPTIES_SCORED_AT_ONCE),
             Line::Moves(_) | Line::Transcript(_) | Line::Play(_) => false,
+            Line::Analyse(_) => true,
         }
     }
 
-    /// What is written of the line, without byte 10. What is found of a board that is one of the jobs is awaited.
-    pub fn reply<T: Wait + Threads + Sync, G: Gate>(
+    /// Adds what is written of the line to what waits, without its last byte 10. What is found of a board that is one of
+    /// the jobs is awaited.
+    pub fn tell<T: Wait + Threads + Sync, W: Sink, G: Gate>(
+        &self,
+        solver: &Solver<'_, T, G>,
+        jobs: &Jobs<'_, T, G>,
+        waiting: &mut Waiting,
+        writer: &mut W,
+    ) -> Result<(), Failed>
+        ensures ok { OnOk result ((number : ℕ) (line : List ℕ)
+            → Holds solver.now.settings.command self.now number line
+            → Gathers (W.contents writer.old) (W.contents writer.new) waiting.old.bytes.items waiting.new.bytes.items
+            (reply solver.now.settings number line)) }
+        ensures err { OnErr result ((number : ℕ) (line : List ℕ)
+            → Holds solver.now.settings.command self.now number line
+            → StopsInText (W.contents writer.old) (W.contents writer.new) waiting.old.bytes.items
+            (reply solver.now.settings number line)) }
+        ensures works { OnOk result (W.failed writer.new ≡ W.failed writer.old) }
+        ensures fails { OnErr result (W.failed writer.new ≡ true) }
+    {
+        if let Line::Analyse(game) = self {
+            return game.tell(solver, waiting, writer);
+        }
+        waiting.push_text(writer, self.reply(solver, jobs).as_slice())
+    }
+
+    // What is written of the line, if that is one line, without byte 10.
+    fn reply<T: Wait + Threads + Sync, G: Gate>(
         &self,
         solver: &Solver<'_, T, G>,
         jobs: &Jobs<'_, T, G>,
     ) -> ArrayVec<u8, REPLY_LEN>
-        ensures { (line : List ℕ) → Holds solver.now.settings.command self.now line
-            → result.items ≡ reply solver.now.settings line }
+        ensures { (number : ℕ) (line : List ℕ) → IsShort self.now
+            → Holds solver.now.settings.command self.now number line
+            → result.items ≡ reply solver.now.settings number line }
     {
         match self {
             Line::Solve(reader) => solve_reply(reader, solver, jobs),
@@ -117,6 +156,7 @@ impl Line {
             Line::Moves(reader) => moves_reply(reader),
             Line::Transcript(reader) => transcript_reply(reader),
             Line::Play(reader) => play_reply(reader),
+            Line::Analyse(_) => ArrayVec::new(),
         }
     }
 }

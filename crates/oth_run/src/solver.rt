@@ -1,7 +1,8 @@
 //! What boards are solved with.
 
-ghost use Rattle.std.specs.Prelude.{◌≡◌, ◌<◌, ◌↔◌, IsErr, IfOk, IfErr};
+ghost use Rattle.std.specs.Prelude.{◌≡◌, ◌≤◌, ◌<◌, ◌↔◌, IsErr, IfOk, IfErr};
 ghost use Rattle.oth_rules.specs.Position.{empty_count};
+ghost use Rattle.oth_text.specs.Analysis.{HasFewEmpties};
 ghost use Rattle.oth_text.specs.Ranking.{scores_line_of};
 
 use crate::checking::Lawful;
@@ -9,9 +10,9 @@ use arrayvec::ArrayVec;
 use oth_batch::{Asked, Batch, Jobs, workers_for};
 use oth_book::Book;
 use oth_pool::{Gate, scores, solve};
-use oth_rules::Board;
-use oth_search::{Answer, MOST_EMPTIES, Scores, TooManyEmpties};
-use oth_text::{SCORES_LINE_LEN, scores_line};
+use oth_rules::{Board, Square};
+use oth_search::{Answer, MOST_EMPTIES, Scores, Solved, TooManyEmpties};
+use oth_text::{JudgedTurn, SCORES_LINE_LEN, Turn, scores_line};
 use oth_words::Settings;
 use std::alloc::Global;
 use std::sync::Wait;
@@ -40,16 +41,73 @@ impl<'s, T: Threads + Sync, G: Gate> Solver<'s, T, G> {
         ensures board { IfOk result (λ a. a.board ≡ board.now) }
         ensures scoring { IfOk result (λ a. a.scoring ≡ self.now.settings.scoring) }
     {
+        self.answer_by(board, self.book)
+    }
+
+    // As `answer_of`, by this book.
+    fn answer_by(&self, board: &Board, book: Option<&Book>) -> Result<Answer, TooManyEmpties>
+        ensures refused { IsErr result ↔ (30 < empty_count board.now) }
+        ensures counted { IfErr result (λ e. e.empties ≡ empty_count board.now) }
+        ensures board { IfOk result (λ a. a.board ≡ board.now) }
+        ensures scoring { IfOk result (λ a. a.scoring ≡ self.now.settings.scoring) }
+    {
         let asked = self.settings.get();
         let workers = workers_for(Asked::Answer, board, asked.workers);
         let (cells, scoring) = (asked.cells, asked.scoring);
-        let (rt, alloc, gate, book) = (self.rt, self.alloc, self.gate, self.book);
+        let (rt, alloc, gate) = (self.rt, self.alloc, self.gate);
         match solve(rt, alloc, board, workers, cells, gate, book, scoring) {
             Ok(answer) => Ok(answer),
             Err(_) => Err(TooManyEmpties {
                 empties: board.empties(),
             }),
         }
+    }
+
+    /// The answers of the boards before and after these turns, as a book, found from the last turn to the first: what
+    /// the board after a move is worth is at least the value of the one before it, which its search begins with. A board
+    /// for which there is no memory is left out.
+    pub fn known_of(&self, turns: &[Turn]) -> Book {
+        let mut known = Book::new(self.alloc, self.settings.get().scoring);
+        for at in 0..turns.len() {
+            self.learn(&turns[turns.len() - 1 - at], &mut known);
+        }
+        known
+    }
+
+    // Solves the boards after and before the turn by what is known, and adds them to that.
+    fn learn(&self, turn: &Turn, known: &mut Book) {
+        if let Ok(after) = self.answer_by(&turn.after, Some(&*known)) {
+            let _ = known.add(&after);
+            if let Some(square) = turn.played {
+                learn_least(known, &turn.before.board, square, &after);
+            }
+        }
+        if let Ok(before) = self.answer_by(&turn.before.board, Some(&*known)) {
+            let _ = known.add(&before);
+        }
+    }
+
+    // The answer of a board that a search takes.
+    fn answer_of_few(&self, board: &Board, known: &Book) -> Answer
+        requires { empty_count board.now ≤ 30 }
+        ensures board { result.board ≡ board.now }
+        ensures scoring { result.scoring ≡ self.now.settings.scoring }
+    {
+        match self.answer_by(board, Some(known)) {
+            Ok(answer) => answer,
+            Err(_) => unreachable!(),
+        }
+    }
+
+    /// The turn with what it is worth, by this book.
+    pub fn judged(&self, turn: &Turn, known: &Book) -> JudgedTurn
+        requires { HasFewEmpties turn.now }
+        ensures turn { result.turn ≡ turn.now }
+        ensures scoring { result.answer.scoring ≡ self.now.settings.scoring }
+    {
+        let answer = self.answer_of_few(&turn.before.board, known);
+        let after = self.answer_of_few(&turn.after, known);
+        JudgedTurn::of(*turn, answer, &after)
     }
 
     // The scores of a board's moves, by as many workers as pay for one board.
@@ -142,5 +200,12 @@ impl<'s, T: Wait + Threads + Sync, G: Gate> Solver<'s, T, G> {
             Some(scores) if scores.answer.scoring == scoring => Ok(scores_line(scores)),
             _ => Ok(scores_line(&self.scores_of(board)?)),
         }
+    }
+}
+
+// Adds to what is known that the board is worth at least what the move to this square is, after which this is the answer.
+fn learn_least(known: &mut Book, board: &Board, square: Square, after: &Answer) {
+    if let Ok(least) = Solved::lift(board, square, &Solved::of_answer(after)) {
+        let _ = known.add_bounds(&least);
     }
 }

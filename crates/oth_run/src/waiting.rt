@@ -1,7 +1,7 @@
 //! Bytes that wait to be written, so that a sink is called a few times for many lines.
 
-ghost use Rattle.std.specs.Prelude.{◌≡◌, ◌≤◌, [], length, true, OnOk, OnErr};
-ghost use Rattle.oth_run.specs.Gathered.{Gathers, KeepsGathered, StopsInWaiting, WritesOut};
+ghost use Rattle.std.specs.Prelude.{◌≡◌, ◌≤◌, [], ◌∷◌, ◌++◌, length, true, OnOk, OnErr};
+ghost use Rattle.oth_run.specs.Gathered.{Gathers, KeepsGathered, StopsInText, StopsInWaiting, WritesOut};
 
 use crate::tuning::WAITING_LEN;
 use arrayvec::ArrayVec;
@@ -37,6 +37,21 @@ impl Waiting {
             self.write_to(writer)?;
         }
         self.bytes.try_extend_from_slice(text).unwrap();
+        Ok(())
+    }
+
+    /// Adds the text and byte 10, as `push_text` does.
+    pub fn push_line<W: Sink>(&mut self, writer: &mut W, text: &[u8]) -> Result<(), Failed>
+        requires { length text.now ≤ WAITING_LEN }
+        ensures ok { OnOk result (Gathers (W.contents writer.old) (W.contents writer.new)
+            self.old.bytes.items self.new.bytes.items (text.now ++ 10 ∷ [])) }
+        ensures err { OnErr result (StopsInText (W.contents writer.old) (W.contents writer.new)
+            self.old.bytes.items (text.now ++ 10 ∷ [])) }
+        ensures works { OnOk result (W.failed writer.new ≡ W.failed writer.old) }
+        ensures fails { OnErr result (W.failed writer.new ≡ true) }
+    {
+        self.push_text(writer, text)?;
+        self.push_text(writer, b"\n")?;
         Ok(())
     }
 

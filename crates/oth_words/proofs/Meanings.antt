@@ -12,10 +12,10 @@ use Rattle.clap.specs.Words.{App, HasMatchesOf, Row, Text, fault_of, is_simple_a
 use Rattle.clap.proofs.WalkLemmas.{one_text-rows}
 use Rattle.clap.specs.declared.parser.matches.Found.{Found}
 use Rattle.clap.specs.declared.parser.matches.ArgMatches.{ArgMatches}
-use Rattle.oth_words.specs.CommandLine.{HasNumbers, IsNumber, IsUnread, Meaning, Means, MeansRun, ScoringWords, add, othsolve, run, scoring_word, verify}
+use Rattle.oth_words.specs.CommandLine.{HasLast, HasNumbers, IsNumber, IsUnread, Meaning, Means, MeansRun, ScoringWords, add, othsolve, run, scoring_word, verify}
 use Rattle.oth_words.specs.declared.settings.Settings.{Settings}
 use Rattle.oth_words.specs.declared.settings.Command.{Command}
-use Rattle.oth_words.specs.declared.settings.Command.TheVariants.{Solve, Scores, Moves, Transcript, Play}
+use Rattle.oth_words.specs.declared.settings.Command.TheVariants.{Solve, Scores, Moves, Transcript, Play, Analyse}
 
 -- two texts with different bytes at a place
 differ : (a b : Text) (k : ℕ) → a ≡ b → slice_index a k ≡ slice_index b k
@@ -34,6 +34,7 @@ solve_means rows (run s book files) m = go s.command m.0
     go Moves m = absurd (let bad : 115 ≡ 109 = differ _ _ 0 m.0 in omega arith)
     go Transcript m = absurd (let bad : 115 ≡ 116 = differ _ _ 0 m.0 in omega arith)
     go Play m = absurd (let bad : 115 ≡ 112 = differ _ _ 0 m.0 in omega arith)
+    go (Analyse last) m = absurd (let bad : 115 ≡ 97 = differ _ _ 0 m.0 in omega arith)
 
 pub scores_means : (rows : List Row) (m : Meaning) → Means (Some (codes "scores", rows)) m
     → (s : Settings) × HasNumbers rows s × (first_of (codes "scoring") rows ≡ Some (scoring_word s.scoring))
@@ -48,6 +49,22 @@ scores_means rows (run s book files) m = go s.command m.0
     go Moves m = absurd (let bad : 115 ≡ 109 = differ _ _ 0 m.0 in omega arith)
     go Transcript m = absurd (let bad : 115 ≡ 116 = differ _ _ 0 m.0 in omega arith)
     go Play m = absurd (let bad : 115 ≡ 112 = differ _ _ 0 m.0 in omega arith)
+    go (Analyse last) m = absurd (let bad : 115 ≡ 97 = differ _ _ 0 m.0 in omega arith)
+
+pub analyse_means : (rows : List Row) (m : Meaning) → Means (Some (codes "analyse", rows)) m
+    → (s : Settings) × HasNumbers rows s × (first_of (codes "scoring") rows ≡ Some (scoring_word s.scoring)) × ((last : ℕ) × HasLast rows last)
+analyse_means rows (verify file) m = absurd (let bad : 97 ≡ 98 = differ _ _ 0 m.0 in omega arith)
+analyse_means rows (add s file) m = absurd (let bad : 97 ≡ 98 = differ _ _ 0 m.0 in omega arith)
+analyse_means rows (run s book files) m = go s.command m.0
+  where
+    go : (t : Command) → MeansRun t (codes "analyse", rows) s book
+        → (s : Settings) × HasNumbers rows s × (first_of (codes "scoring") rows ≡ Some (scoring_word s.scoring)) × ((last : ℕ) × HasLast rows last)
+    go (Analyse last) m = (s, m.1, m.2, (last, m.4))
+    go Solve m = absurd (let bad : 97 ≡ 115 = differ _ _ 0 m.0 in omega arith)
+    go Scores m = absurd (let bad : 97 ≡ 115 = differ _ _ 0 m.0 in omega arith)
+    go Moves m = absurd (let bad : 97 ≡ 109 = differ _ _ 0 m.0 in omega arith)
+    go Transcript m = absurd (let bad : 97 ≡ 116 = differ _ _ 0 m.0 in omega arith)
+    go Play m = absurd (let bad : 97 ≡ 112 = differ _ _ 0 m.0 in omega arith)
 
 -- the word of a command that reports lines doesn't begin as those of the book
 reports : (t : Command) (sub : Text × List Row) (s : Settings) (book : Option Text) → MeansRun t sub s book → slice_index sub.0 0 ≡ 98 → ⊥
@@ -55,6 +72,7 @@ reports Solve sub s book m b = let other : slice_index sub.0 0 ≡ 115 = differ 
 reports Scores sub s book m b = let other : slice_index sub.0 0 ≡ 115 = differ _ _ 0 m.0 in omega arith
 reports Moves sub s book m b = let other : slice_index sub.0 0 ≡ 109 = differ _ _ 0 m.0 in omega arith
 reports Transcript sub s book m b = let other : slice_index sub.0 0 ≡ 116 = differ _ _ 0 m.0 in omega arith
+reports (Analyse last) sub s book m b = let other : slice_index sub.0 0 ≡ 97 = differ _ _ 0 m.0 in omega arith
 reports Play sub s book m b = let other : slice_index sub.0 0 ≡ 112 = differ _ _ 0 m.0 in omega arith
 
 pub verify_means : (rows : List Row) (m : Meaning) → Means (Some (codes "book-verify", rows)) m → (file : Text) × (first_of (codes "file") rows ≡ Some file)

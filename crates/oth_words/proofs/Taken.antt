@@ -17,13 +17,13 @@ use Rattle.clap.specs.declared.builder.value_parser.ValueParser.TheVariants as p
 use Rattle.oth_words.proofs.RowsPass.{HasText}
 use Rattle.oth_words.proofs.Levels.{IsOrdinary, enters, number_of, text_of}
 use Rattle.oth_words.proofs.WalkKeeps.{Each, MayEnter}
-use Rattle.oth_words.specs.CommandLine.{AreScorings, HasNumbers, IsNumber, Meaning, Means, ScoringWords, add, add_app, files_of}
-use Rattle.oth_words.specs.CommandLine.{othsolve, plain_app, program, run, scores_app, scoring_word, solve_app, verify, verify_app}
+use Rattle.oth_words.specs.CommandLine.{AreScorings, HasLast, HasNumbers, IsNumber, Meaning, Means, ScoringWords, add, add_app, files_of}
+use Rattle.oth_words.specs.CommandLine.{analyse_app, othsolve, plain_app, program, run, scores_app, scoring_word, solve_app, verify, verify_app}
 use Rattle.oth_rules.specs.declared.scoring.Scoring.{Scoring}
 use Rattle.oth_rules.specs.declared.scoring.Scoring.TheVariants.{Winner, Discs}
 use Rattle.oth_words.specs.declared.settings.Settings.{Settings}
 use Rattle.oth_words.specs.declared.settings.Command.{Command}
-use Rattle.oth_words.specs.declared.settings.Command.TheVariants.{Solve, Scores, Moves, Transcript, Play}
+use Rattle.oth_words.specs.declared.settings.Command.TheVariants.{Solve, Scores, Moves, Transcript, Play, Analyse}
 
 -- ---- values
 
@@ -157,6 +157,46 @@ module _ (scorings : ScoringWords) (are : AreScorings scorings) where
         ),
       )
 
+module _ (scorings : ScoringWords) (are : AreScorings scorings) where
+  abbrev analyse_shape : Shape
+  analyse_shape = built_sub (analyse_app scorings)
+
+  analyse_ordinary : Each (IsOrdinary analyse_shape.rules) analyse_shape.rules
+  analyse_ordinary = (
+    (refl, inl (refl, refl)),
+    (
+      (refl, inl (refl, refl)),
+      (
+        (refl, inl (refl, refl)),
+        (
+          (refl, inl (refl, refl)),
+          ((refl, inr (inl (refl, refl))), ((refl, inr (inr refl)), tt)),
+        ),
+      ),
+    ),
+  )
+
+  analyse_taken : (words : List Text) → level_passes analyse_shape [] nothing_held words false ≡ true → MeansSome (rows_at analyse_shape words)
+  analyse_taken words e =
+      let rows = (rows_at analyse_shape words).1 in
+      let text = text_of analyse_shape words e analyse_ordinary in
+      let scoring_is = text (built_rule analyse_shape (codes "scoring")) refl (inl tt) in
+      let scoring = scoring_text scorings are scoring_is.text scoring_is.passes in
+      let last = number_text (built_rule analyse_shape (codes "last")) 1 30 rows refl (text (built_rule analyse_shape (codes "last")) refl (inl tt)) in
+      let numbers = numbers_taken (Analyse last.0) scoring.0 rows (text (built_rule analyse_shape (codes "workers")) refl (inl tt)) (text (built_rule analyse_shape (codes "cells")) refl (inl tt)) in (
+        run (record { command = Analyse last.0; workers = numbers.0.workers; cells = numbers.0.cells; scoring = scoring.0 }) None (files_of rows),
+        (
+          (
+            refl,
+            record { workers = numbers.1.workers; cells = numbers.1.cells; some_workers = numbers.1.some_workers; most_workers = numbers.1.most_workers; most_cells = numbers.1.most_cells },
+            scoring_is.first ∙ ap Some scoring.1,
+            refl,
+            record { number = last.1; some = last.2; most = last.3 },
+          ),
+          refl,
+        ),
+      )
+
 verify_ordinary : Each (IsOrdinary (built_sub verify_app).rules) (built_sub verify_app).rules
 verify_ordinary = ((refl, inl (refl, refl)), ((refl, inr (inr refl)), tt))
 
@@ -207,10 +247,13 @@ module _ (scorings : ScoringWords) (are : AreScorings scorings) where
               (
                 λ hit e. (run (plain_settings Play) None (files_of (rows_at (built_sub (plain_app (codes "play"))) p.1).1), ((refl, (refl, refl, refl), refl), refl)),
                 (
-                  λ hit e. verify_taken p.1 e,
+                  λ hit e. analyse_taken scorings are p.1 e,
                   (
-                    λ hit e. add_taken p.1 e,
-                    (λ hit e. absurd (help_refused p.0 (or_false _ hit) may), tt),
+                    λ hit e. verify_taken p.1 e,
+                    (
+                      λ hit e. add_taken p.1 e,
+                      (λ hit e. absurd (help_refused p.0 (or_false _ hit) may), tt),
+                    ),
                   ),
                 ),
               ),

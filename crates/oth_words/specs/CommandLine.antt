@@ -22,7 +22,7 @@ use Rattle.oth_rules.specs.declared.scoring.Scoring.{Scoring}
 use Rattle.oth_rules.specs.declared.scoring.Scoring.TheVariants.{Winner, Discs}
 use Rattle.oth_words.specs.declared.settings.Settings.{Settings}
 use Rattle.oth_words.specs.declared.settings.Command.{Command}
-use Rattle.oth_words.specs.declared.settings.Command.TheVariants.{Solve, Scores, Moves, Transcript, Play}
+use Rattle.oth_words.specs.declared.settings.Command.TheVariants.{Solve, Scores, Moves, Transcript, Play, Analyse}
 use Rattle.oth_words.specs.declared.settings.Words.{Words}
 use Rattle.oth_words.specs.declared.settings.Words.TheVariants.{Run, Verify, Add}
 
@@ -49,6 +49,9 @@ workers_rule = number_option (codes "workers") 1 16 (codes "1")
 
 abbrev pub cells_rule : Rule
 cells_rule = number_option (codes "cells") 0 262144 (codes "65536")
+
+abbrev pub last_rule : Rule
+last_rule = number_option (codes "last") 1 30 (codes "20")
 
 -- references to the words of the two scorings
 abbrev pub ScoringWords : Type 0
@@ -87,6 +90,9 @@ solve_app scorings = with_rule (with_rule (searcher_app (new_app (codes "solve")
 abbrev pub scores_app : ScoringWords → App
 scores_app scorings = with_rule (searcher_app (new_app (codes "scores")) scorings) files_rule
 
+abbrev pub analyse_app : ScoringWords → App
+analyse_app scorings = with_rule (with_rule (searcher_app (new_app (codes "analyse")) scorings) last_rule) files_rule
+
 -- a subcommand without options
 abbrev pub plain_app : Text → App
 plain_app name = with_rule (new_app name) files_rule
@@ -104,15 +110,17 @@ titled = let a = new_app (codes "othsolve") in record a { top = record a.top { h
 abbrev pub program : App
 program = record titled { top = record titled.top { subcommand_required = true } }
 
--- the command with its seven subcommands
+-- the command with its eight subcommands
 unfoldable pub othsolve : ScoringWords → App
 othsolve scorings =
-    with_subcommand (with_subcommand (with_subcommand (with_subcommand (with_subcommand (with_subcommand (with_subcommand program
+    with_subcommand (with_subcommand (with_subcommand (with_subcommand (with_subcommand (with_subcommand (with_subcommand (with_subcommand
+    program
     (solve_app scorings).top)
     (scores_app scorings).top)
     (plain_app (codes "moves")).top)
     (plain_app (codes "transcript")).top)
     (plain_app (codes "play")).top)
+    (analyse_app scorings).top)
     verify_app.top)
     add_app.top
 
@@ -144,6 +152,12 @@ pub record HasNumbers (rows : List Row) (s : Settings) : Type 0 where
   pub most_workers : s.workers ≤ 16
   pub most_cells : s.cells ≤ 262144
 
+-- the option gives the number
+pub record HasLast (rows : List Row) (last : ℕ) : Type 0 where
+  pub number : IsNumber (one_of (codes "last") rows) last
+  pub some : 1 ≤ last
+  pub most : last ≤ 30
+
 abbrev pub scoring_word : Scoring → Text
 scoring_word Winner = codes "winner"
 scoring_word Discs = codes "discs"
@@ -160,6 +174,8 @@ MeansRun Scores sub s book = (sub.0 ≡ codes "scores") × HasNumbers sub.1 s
 MeansRun Moves sub s book = (sub.0 ≡ codes "moves") × IsPlain s × (book ≡ None)
 MeansRun Transcript sub s book = (sub.0 ≡ codes "transcript") × IsPlain s × (book ≡ None)
 MeansRun Play sub s book = (sub.0 ≡ codes "play") × IsPlain s × (book ≡ None)
+MeansRun (Analyse last) sub s book = (sub.0 ≡ codes "analyse") × HasNumbers sub.1 s
+    × (first_of (codes "scoring") sub.1 ≡ Some (scoring_word s.scoring)) × (book ≡ None) × HasLast sub.1 last
 
 -- the words that are no options, in their order
 abbrev pub files_of : List Row → List Text

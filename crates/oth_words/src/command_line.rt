@@ -6,10 +6,10 @@ ghost use Rattle.clap.specs.Words.{app_of, first_of, found_of, kind_of, new_app,
 ghost use Rattle.clap.specs.Words.{subcommand_of, subcommand_rows_of, takes};
 ghost use Rattle.clap.specs.declared.builder.command.Command.TheViews.{out-Command};
 ghost use Rattle.clap.specs.declared.builder.texts.Texts.TheVariants.{One};
-ghost use Rattle.oth_words.specs.CommandLine.{AreScorings, HasNumbers, IsCalled, IsNumber, IsPlain, IsReading};
+ghost use Rattle.oth_words.specs.CommandLine.{AreScorings, HasLast, HasNumbers, IsCalled, IsNumber, IsPlain, IsReading};
 ghost use Rattle.oth_words.specs.CommandLine.{Meaning, Means};
 ghost use Rattle.oth_words.specs.CommandLine.{ScoringWords, add_app, book_rule, cells_rule, file_rule, files_of};
-ghost use Rattle.oth_words.specs.CommandLine.{files_rule, meaning_of, plain_app};
+ghost use Rattle.oth_words.specs.CommandLine.{analyse_app, files_rule, last_rule, meaning_of, plain_app};
 ghost use Rattle.oth_words.specs.CommandLine.{option_rule, othsolve, run, scores_app, scoring_rule, scoring_word};
 ghost use Rattle.oth_words.specs.CommandLine.{searcher_app, solve_app, titled, verify_app, workers_rule};
 ghost use Rattle.oth_words.specs.Plans.{listed, plan_meaning};
@@ -143,6 +143,26 @@ pairs of bytes are counted from 1:
     error 24 at K  the game is over before pair K
     error 23 at K  the move of pair K is illegal";
 
+const ANALYSE_ABOUT: &str = "Writes the last moves of each game beside the best ones";
+
+const ANALYSE_USAGE: &str = "othsolve analyse [OPTIONS] [FILE]...";
+
+const ANALYSE_NOTES: &str = "\
+Games are read a line each, from standard input or from files: othsolve analyse games.txt
+A line that begins with X, O or - is a board line, alone or with a space and moves, as in play; every
+other line is a transcript.
+
+    --OXOOO-OOOOOOOOOOOOOOOOOOOOOOOOOOOOOOOOOOOOOOOOOOOOOOOOOOOOOOOO X h1b1
+    1 58 X h1 -50 -50 h1
+    1 59 O pass +50 +50 pass
+    1 59 X b1 -50 -50 b1
+    1 lost X 0 O 0
+
+The columns: the number of the line, that of the disc, who moves, the move, its score for that side,
+the best score, and all best moves. A pass has the number of the next disc. The last line of a game
+has the discs that each side lost by these moves. A fault stands behind the moves before it, by the
+number of the line and the words of transcript or play (see transcript --help, play --help).";
+
 const VERIFY_NOTES: &str = "\
 Each entry is solved anew, by as many threads as there are processors, at most 16. Prints 'book ok N'
 with the number of entries and ends with status 0, or ends with status 3 and one of these on standard
@@ -214,6 +234,18 @@ fn cells_option<'a>(alloc: Global) -> Arg<'a>
             "Cells of 32 bytes of the table that they share: 0, or a power of two up to 262144. \
              Without any, large boards take longer; more than the default save little time",
         )
+}
+
+// The option `--last N`.
+fn last_option<'a>(alloc: Global) -> Arg<'a>
+    ensures rule { rule_of result ≡ last_rule }
+    ensures value { IsCalled result.val_names (codes "N") }
+    ensures local { result.global ≡ false }
+{
+    option(alloc, "last", "N")
+        .value_parser(value_parser!(u8).range(1..=30))
+        .default_value("20")
+        .help("Tell the moves that are made from N empty squares on, 1 to 30")
 }
 
 // The option `--scoring`, with its two words.
@@ -332,6 +364,23 @@ fn scores_command<'a>(alloc: Global, scorings: &'a [&'a str]) -> Result<App<'a>,
     with_search_options(alloc, scores, scorings)?.arg(files_argument(alloc))
 }
 
+// The subcommand `analyse` with its options.
+fn analyse_command<'a>(alloc: Global, scorings: &'a [&'a str]) -> Result<App<'a>, AllocError>
+    ensures app { IfOk result (λ c. app_of c ≡ analyse_app scorings.entry) }
+    ensures local { IfOk result (λ c. (out-Command c).has_globals ≡ false) }
+{
+    let analyse = titled_command(
+        alloc,
+        "analyse",
+        ANALYSE_ABOUT,
+        ANALYSE_USAGE,
+        ANALYSE_NOTES,
+    );
+    with_search_options(alloc, analyse, scorings)?
+        .arg(last_option(alloc))?
+        .arg(files_argument(alloc))
+}
+
 // A subcommand without options, of this name and with this help.
 fn plain_command<'a>(
     alloc: Global,
@@ -401,6 +450,7 @@ fn command<'a>(alloc: Global, scorings: &'a [&'a str]) -> Result<App<'a>, AllocE
             TRANSCRIPT_NOTES,
         )?)?
         .subcommand(plain_command(alloc, "play", PLAY_ABOUT, PLAY_USAGE, PLAY_NOTES)?)?
+        .subcommand(analyse_command(alloc, scorings)?)?
         .subcommand(verify_command(alloc)?)?
         .subcommand(add_command(alloc)?)
 }
@@ -485,6 +535,27 @@ fn scores_plan<'m, 'a>(matches: &'m ArgMatches<'a>) -> Option<Plan<'m, 'a>>
     Some(Plan::Run(settings, None, files(matches)))
 }
 
+// The value of `--last`.
+fn last(matches: &ArgMatches<'_>) -> Option<u8>
+    ensures { MatchOption result
+        ((n : ℕ) → HasLast (rows_of (found_of matches.now)) n → ⊥)
+        (λ n. HasLast (rows_of (found_of matches.now)) n) }
+{
+    let last = number(matches, "last", 1, 30)?;
+    Some(last as u8)
+}
+
+// What `analyse` stands for.
+fn analyse_plan<'m, 'a>(matches: &'m ArgMatches<'a>) -> Option<Plan<'m, 'a>>
+    ensures { MatchOption result
+        ((m : Meaning) → Means (Some (codes "analyse", rows_of (found_of matches.now))) m → ⊥)
+        (λ p. Means (Some (codes "analyse", rows_of (found_of matches.now))) (plan_meaning p)) }
+{
+    let command = Command::Analyse(last(matches)?);
+    let settings = search_settings(matches, command, scoring(matches)?)?;
+    Some(Plan::Run(settings, None, files(matches)))
+}
+
 // What `book-verify` stands for.
 fn verify_plan<'m, 'a>(matches: &'m ArgMatches<'a>) -> Option<Plan<'m, 'a>>
     ensures { MatchOption result
@@ -530,6 +601,7 @@ fn plan<'m, 'a>(name: &str, matches: &'m ArgMatches<'a>) -> Option<Plan<'m, 'a>>
         "moves" => Some(plain(matches, Command::Moves)),
         "transcript" => Some(plain(matches, Command::Transcript)),
         "play" => Some(plain(matches, Command::Play)),
+        "analyse" => analyse_plan(matches),
         "book-verify" => verify_plan(matches),
         "book-add" => add_plan(matches),
         _ => None,
@@ -616,12 +688,13 @@ fn read_with<'a>(
 /// - `solve [--workers N] [--cells N] [--scoring winner|discs] [--book FILE] [FILE]..`
 /// - `scores [--workers N] [--cells N] [--scoring winner|discs] [FILE]..`
 /// - `moves [FILE]..`, `transcript [FILE]..`, `play [FILE]..`: by one worker, without a table
+/// - `analyse [--workers N] [--cells N] [--scoring winner|discs] [--last N] [FILE]..`
 /// - `book-verify FILE`
 /// - `book-add [--workers N] [--cells N] FILE`: it solves under `winner`
 ///
 /// The names of `[FILE]..` come in the order of the words, each as often as it stands there; what begins with `-` is
 /// one only behind `--`, but for `-` itself. There are 1 to 16 workers, or 1 by default, and 0 to 262,144 cells, or
-/// 65,536. The default scoring is `winner`. The subcommand and each value are those that clap's exact meaning gives for
+/// 65,536. `--last` is 1 to 30, or 20 by default. The default scoring is `winner`. The subcommand and each value are those that clap's exact meaning gives for
 /// the words. Where that meaning takes the words, out of memory is the only error. Where clap finds a fault in the
 /// words, the error is of that fault's kind,
 /// or out of memory. A call for help or for the version is such a fault, with the text as clap writes it.

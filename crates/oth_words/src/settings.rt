@@ -15,6 +15,9 @@ pub enum Command {
     Transcript,
     /// Of a board line and the moves that are played on it the board line of the position that they lead to.
     Play,
+    /// Of a transcript, or of a board line and the moves that are played on it, each move that is made where at most this
+    /// many squares are empty, and at most 30, beside the best ones, and the discs that each side lost.
+    Analyse(u8),
 }
 
 /// The cells of the table where no number is asked for.
@@ -29,7 +32,7 @@ pub struct Settings {
     pub workers: u8,
     /// The cells of the table that they share: 0 for none, or a power of two of at most 262,144.
     pub cells: u32,
-    /// How a finished game is counted. `Solve` and `Scores` alone heed it.
+    /// How a finished game is counted. `Solve`, `Scores` and `Analyse` alone heed it.
     pub scoring: Scoring,
 }
 

@@ -279,6 +279,7 @@ fn lines_from_a_terminal_are_awaited(rt: HostRuntime) {
         (Command::Moves, "boards"),
         (Command::Transcript, "games"),
         (Command::Play, "boards with moves"),
+        (Command::Analyse(20), "games"),
     ];
     for (command, lines) in rows {
         let mut errors = Errors::new(ByteSink::<128>::new(NO_FAILURE), false);

@@ -117,6 +117,32 @@ fn scores_has_defaults_and_takes_values(rt: HostRuntime) {
 }
 
 #[test]
+fn analyse_has_defaults_and_takes_values(rt: HostRuntime) {
+    let words = ["othsolve", "analyse"];
+    let wanted = Settings {
+        command: Command::Analyse(20),
+        ..DEFAULTS
+    };
+    assert!(rt; run_of(rt.alloc(), words.as_slice()) == Some(wanted));
+    let words = [
+        "othsolve",
+        "analyse",
+        "--last",
+        "30",
+        "--workers=4",
+        "--scoring",
+        "discs",
+    ];
+    let wanted = Settings {
+        command: Command::Analyse(30),
+        workers: 4,
+        scoring: Scoring::Discs,
+        ..DEFAULTS
+    };
+    assert!(rt; run_of(rt.alloc(), words.as_slice()) == Some(wanted));
+}
+
+#[test]
 fn the_plain_commands_take_no_options(rt: HostRuntime) {
     let commands = [
         ("moves", Command::Moves),
@@ -135,7 +161,7 @@ fn the_plain_commands_take_no_options(rt: HostRuntime) {
 
 #[test]
 fn files_come_in_the_order_of_the_words(rt: HostRuntime) {
-    let commands = ["solve", "scores", "moves", "transcript", "play"];
+    let commands = ["solve", "scores", "moves", "transcript", "play", "analyse"];
     for command in commands {
         let words = ["othsolve", command, "b.txt", "-", "a.txt", "b.txt"];
         let wanted = ["b.txt", "-", "a.txt", "b.txt"];

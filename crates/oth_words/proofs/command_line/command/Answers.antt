@@ -16,5 +16,6 @@ returns c =
     let third = c.in_ok-subcommand-3.ensures.shape c.in_ok-plain_command.ensures.local ∙ ap₂ with_subcommand second (ap top c.in_ok-plain_command.ensures.app) in
     let fourth = c.in_ok-subcommand-4.ensures.shape c.in_ok-plain_command-2.ensures.local ∙ ap₂ with_subcommand third (ap top c.in_ok-plain_command-2.ensures.app) in
     let fifth = c.in_ok-subcommand-5.ensures.shape c.in_ok-plain_command-3.ensures.local ∙ ap₂ with_subcommand fourth (ap top c.in_ok-plain_command-3.ensures.app) in
-    let sixth = c.in_ok-subcommand-6.ensures.shape c.in_ok-verify_command.ensures.local ∙ ap₂ with_subcommand fifth (ap top c.in_ok-verify_command.ensures.app) in
-    IfOk-weaker c.subcommand-7.result _ _ (λ r added. added.shape c.in_ok-add_command.ensures.local ∙ ap₂ with_subcommand sixth (ap top c.in_ok-add_command.ensures.app)) c.subcommand-7.ensures
+    let sixth = c.in_ok-subcommand-6.ensures.shape c.in_ok-analyse_command.ensures.local ∙ ap₂ with_subcommand fifth (ap top c.in_ok-analyse_command.ensures.app) in
+    let seventh = c.in_ok-subcommand-7.ensures.shape c.in_ok-verify_command.ensures.local ∙ ap₂ with_subcommand sixth (ap top c.in_ok-verify_command.ensures.app) in
+    IfOk-weaker c.subcommand-8.result _ _ (λ r added. added.shape c.in_ok-add_command.ensures.local ∙ ap₂ with_subcommand seventh (ap top c.in_ok-add_command.ensures.app)) c.subcommand-8.ensures

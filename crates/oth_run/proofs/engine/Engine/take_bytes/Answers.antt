@@ -33,5 +33,5 @@ returns-clause-ok g c = λ before input start.
     let done = c.loop-line.invariant.done in
     let so_far = done.2 before input start in
     let part = up_to_part (reply c.args.solver.now.settings) before _ _ c.in_default.ensures.none _ (Holds c.args.solver.now.settings.command c.push.new.self) _ _ so_far
-    (c.push.ensures c.args.solver.now.settings.command _ so_far.line) in
+    (c.push.ensures c.args.solver.now.settings.command _ _ so_far.line) in
     rw (append_assoc input done.0 _, ← done.1) at part

@@ -3,7 +3,7 @@ use Rattle.oth_text.specs.Sides.{start}
 use Rattle.oth_run.proofs.line.Line.is_empty.Goals as goal
 
 pub returns-in-Transcript : goal.returns-in-Transcript
-returns-in-Transcript c = λ command line holds.
+returns-in-Transcript c = λ command number line holds.
     let kept = rw c.in-Transcript.is at holds in
     c.is_empty-in-Transcript.ensures start line kept.1
 

@@ -1,0 +1,140 @@
+//! A game that is analysed.
+
+ghost use Rattle.std.specs.Prelude.{◌≡◌, ◌≤◌, ◌++◌, ℕ, List, [], All, length, IfOk, OnOk, OnErr, true};
+ghost use Rattle.std.specs.List.{flat_map};
+ghost use Rattle.oth_text.specs.Analysis.{HasFewEmpties, KeepsAnalysed, analysis_of, fault_of, fault_part, lost_by};
+ghost use Rattle.oth_text.specs.Analysis.{turn_part};
+ghost use Rattle.oth_text.specs.Transcript.{is_nil};
+ghost use Rattle.oth_text.specs.declared.position.Side.TheVariants.{Black, White};
+ghost use Rattle.oth_run.specs.Gathered.{Gathers, StopsInText};
+ghost use Rattle.oth_run.specs.Report.{next_number};
+
+use crate::solver::Solver;
+use crate::waiting::Waiting;
+use oth_pool::Gate;
+use oth_text::{AnalysisReader, Failed, Losses, Sink, Turn, game_line, lost_line, turn_line};
+use std::thread::Threads;
+
+/// The line of a game that has begun, to be analysed from `last` empty squares on.
+#[derive(Drop)]
+pub struct BegunGame {
+    reader: AnalysisReader,
+    last: u8,
+    /// The number of the line, from 1; it stays at the greatest number.
+    number: u64,
+}
+
+impl BegunGame {
+    /// The first line, with no byte yet.
+    pub fn new(last: u8) -> Self
+        ensures reader { KeepsAnalysed result.reader [] }
+        ensures last { result.last ≡ last }
+        ensures number { result.number ≡ 1 }
+    {
+        BegunGame {
+            reader: AnalysisReader::new(),
+            last,
+            number: 1,
+        }
+    }
+
+    /// Begins the next line.
+    pub fn clear(&mut self)
+        ensures reader { KeepsAnalysed self.new.reader [] }
+        ensures last { self.new.last ≡ self.old.last }
+        ensures number { self.new.number ≡ next_number self.old.number }
+    {
+        self.reader.clear();
+        self.number = self.number.saturating_add(1);
+    }
+
+    /// Takes the next bytes of the line.
+    pub fn push(&mut self, bytes: &[u8])
+        ensures reader { (line : List ℕ) → KeepsAnalysed self.old.reader line
+            → KeepsAnalysed self.new.reader (line ++ bytes.now) }
+        ensures last { self.new.last ≡ self.old.last }
+        ensures number { self.new.number ≡ self.old.number }
+    {
+        self.reader.push(bytes);
+    }
+
+    /// Whether the line has no byte.
+    pub fn is_empty(&self) -> bool
+        ensures { (line : List ℕ) → KeepsAnalysed self.now.reader line → result ≡ is_nil line }
+    {
+        self.reader.is_empty()
+    }
+
+    /// Adds the analysis of the game to what waits, without its last byte 10.
+    pub fn tell<T: Threads + Sync, W: Sink, G: Gate>(
+        &self,
+        solver: &Solver<'_, T, G>,
+        waiting: &mut Waiting,
+        writer: &mut W,
+    ) -> Result<(), Failed>
+        ensures ok { OnOk result ((line : List ℕ) → KeepsAnalysed self.now.reader line
+            → Gathers (W.contents writer.old) (W.contents writer.new) waiting.old.bytes.items waiting.new.bytes.items
+            (analysis_of self.now.number solver.now.settings.scoring self.now.last line)) }
+        ensures err { OnErr result ((line : List ℕ) → KeepsAnalysed self.now.reader line
+            → StopsInText (W.contents writer.old) (W.contents writer.new) waiting.old.bytes.items
+            (analysis_of self.now.number solver.now.settings.scoring self.now.last line)) }
+        ensures works { OnOk result (W.failed writer.new ≡ W.failed writer.old) }
+        ensures fails { OnErr result (W.failed writer.new ≡ true) }
+    {
+        let turns = self.reader.turns(self.last);
+        let lost = self.tell_turns(turns.as_slice(), solver, waiting, writer)?;
+        self.tell_fault(waiting, writer)?;
+        waiting.push_text(writer, lost_line(self.number, &lost).as_slice())
+    }
+
+    // Adds the lines of the turns, and gives what both sides lost by them.
+    fn tell_turns<T: Threads + Sync, W: Sink, G: Gate>(
+        &self,
+        turns: &[Turn],
+        solver: &Solver<'_, T, G>,
+        waiting: &mut Waiting,
+        writer: &mut W,
+    ) -> Result<Losses, Failed>
+        requires few { All HasFewEmpties turns.now }
+        requires count { length turns.now ≤ 64 }
+        ensures ok { OnOk result (Gathers (W.contents writer.old) (W.contents writer.new)
+            waiting.old.bytes.items waiting.new.bytes.items
+            (flat_map (turn_part self.now.number solver.now.settings.scoring) turns.now)) }
+        ensures lost { IfOk result (λ lost. (lost.black ≡ lost_by Black solver.now.settings.scoring turns.now)
+            × (lost.white ≡ lost_by White solver.now.settings.scoring turns.now)) }
+        ensures err { OnErr result (StopsInText (W.contents writer.old) (W.contents writer.new)
+            waiting.old.bytes.items
+            (flat_map (turn_part self.now.number solver.now.settings.scoring) turns.now)) }
+        ensures works { OnOk result (W.failed writer.new ≡ W.failed writer.old) }
+        ensures fails { OnErr result (W.failed writer.new ≡ true) }
+    {
+        let known = solver.known_of(turns);
+        let mut lost = Losses { black: 0, white: 0 };
+        for turn in turns {
+            let judged = solver.judged(turn, &known);
+            lost.add(&judged);
+            waiting.push_line(writer, turn_line(self.number, &judged).as_slice())?;
+        }
+        Ok(lost)
+    }
+
+    // Adds the line of the game's fault, if it has one.
+    fn tell_fault<W: Sink>(&self, waiting: &mut Waiting, writer: &mut W) -> Result<(), Failed>
+        ensures ok { OnOk result ((line : List ℕ) → KeepsAnalysed self.now.reader line
+            → Gathers (W.contents writer.old) (W.contents writer.new) waiting.old.bytes.items waiting.new.bytes.items
+            (fault_part self.now.number (fault_of line))) }
+        ensures err { OnErr result ((line : List ℕ) → KeepsAnalysed self.now.reader line
+            → StopsInText (W.contents writer.old) (W.contents writer.new) waiting.old.bytes.items
+            (fault_part self.now.number (fault_of line))) }
+        ensures works { OnOk result (W.failed writer.new ≡ W.failed writer.old) }
+        ensures fails { OnErr result (W.failed writer.new ≡ true) }
+    {
+        match self.reader.fault() {
+            Some(fault) => waiting.push_line(
+                writer,
+                game_line(self.number, fault.as_slice()).as_slice(),
+            ),
+            None => Ok(()),
+        }
+    }
+}
