@@ -138,7 +138,8 @@ module _ (reply : ℕ → List ℕ → List ℕ) where
 
     -- the line ends, and its report is gathered
     pub up_to_line : (holds : ℕ → List ℕ → Type 0) (a : Option (List ℕ)) (waiting : List ℕ)
-        → IsGathered before a waiting (ended_report reply xs ++ with_end reply (line_number xs) ((cut xs).rest ++ part)) → holds (next_number (line_number xs)) [] → IsUpTo reply holds before a waiting (xs ++ (part ++ 10 ∷ []))
+        → IsGathered before a waiting (ended_report reply xs ++ with_end reply (line_number xs) ((cut xs).rest ++ part))
+        → holds (next_number (line_number xs)) [] → IsUpTo reply holds before a waiting (xs ++ (part ++ 10 ∷ []))
     up_to_line holds a waiting gathered empty = record {
       line = subst (holds (line_number (xs ++ (part ++ 10 ∷ [])))) (sym (rest_line xs part)) (subst (λ n. holds n []) (sym (number_line xs part none)) empty);
       gathered = subst (IsGathered before a waiting) (sym (ended_report_line xs part none)) gathered;
@@ -187,13 +188,15 @@ up_to_written reply holds before a b waiting waiting' input so_far written none 
     record { line = so_far.line; gathered = (ended_report reply input, written, sym (ap (λ l. ended_report reply input ++ l) none ∙ append-nil _)) }
 
 -- the whole report, of the lines that ended and the last one
-pub written_report : (reply : ℕ → List ℕ → List ℕ) (before now : Option (List ℕ)) (input : List ℕ) → Appends before now (ended_report reply input ++ last_report reply (line_number input) (cut input).rest)
+pub written_report : (reply : ℕ → List ℕ → List ℕ) (before now : Option (List ℕ)) (input : List ℕ)
+    → Appends before now (ended_report reply input ++ last_report reply (line_number input) (cut input).rest)
     → Appends before now (report reply input)
 unfolding report
 written_report reply before now input written = written
 
 -- a beginning of it
-pub written_beginning : (reply : ℕ → List ℕ → List ℕ) (before now : Option (List ℕ)) (input : List ℕ) → AppendsBeginning before now (ended_report reply input ++ last_report reply (line_number input) (cut input).rest)
+pub written_beginning : (reply : ℕ → List ℕ → List ℕ) (before now : Option (List ℕ)) (input : List ℕ)
+    → AppendsBeginning before now (ended_report reply input ++ last_report reply (line_number input) (cut input).rest)
     → AppendsBeginning before now (report reply input)
 unfolding report
 written_beginning reply before now input part = part

@@ -1,7 +1,7 @@
 -- A run halfway. A sink held the bytes `before` when the run began and holds `sink`, or `sink'` after a call.
 --     IsUpTo, IsAt      the reports of the lines that ended are gathered, and the engine holds the line that has begun
 --     Takes, StopsWithin      what a call makes of further bytes of the input, and what is left where the sink fails
---     Answers, Ends, StopsInside      what a call makes of the line that has begun, of which `told number line` is written, and what is left
+--     Answers, Ends, StopsInside      what a call makes of the line that has begun, of which `told number line` is written
 --     WritesEnded      a run over the lines that a byte 10 ends, by how it ended
 use Rattle.std.specs.Prelude.{ℕ, List, [], ◌++◌, Option, Result, Ok, Err}
 use Rattle.std.specs.Io.KnownBytes.{Appends}
@@ -34,7 +34,8 @@ StopsWithin settings old sink sink' bytes = (before : Option (List ℕ)) (input 
 
 module _ (told : ℕ → List ℕ → List ℕ) where
   abbrev pub Answers : Settings → Engine → Engine → Option (List ℕ) → Option (List ℕ) → Type 0
-  Answers settings old new sink sink' = (before : Option (List ℕ)) (done line : List ℕ) (number : ℕ) → Holds settings.command old.line number line
+  Answers settings old new sink sink' = (before : Option (List ℕ)) (done line : List ℕ) (number : ℕ)
+      → Holds settings.command old.line number line
       → IsGathered before sink old.waiting.bytes.items done → IsGathered before sink' new.waiting.bytes.items (done ++ told number line)
 
   abbrev pub Ends : Settings → Engine → Option (List ℕ) → Option (List ℕ) → Type 0
@@ -42,7 +43,8 @@ module _ (told : ℕ → List ℕ → List ℕ) where
       → IsGathered before sink old.waiting.bytes.items done → Appends before sink' (done ++ told number line)
 
   abbrev pub StopsInside : Settings → Engine → Option (List ℕ) → Option (List ℕ) → Type 0
-  StopsInside settings old sink sink' = (before : Option (List ℕ)) (done line : List ℕ) (number : ℕ) → Holds settings.command old.line number line
+  StopsInside settings old sink sink' = (before : Option (List ℕ)) (done line : List ℕ) (number : ℕ)
+      → Holds settings.command old.line number line
       → IsGathered before sink old.waiting.bytes.items done → AppendsBeginning before sink' (done ++ told number line)
 
 abbrev pub WritesEnded : Settings → Engine → Option (List ℕ) → Option (List ℕ) → Result (Unit {0}) RunFault → List ℕ → Type 0

@@ -1,8 +1,8 @@
 -- What is written of a line.
 --     board_reply told reading      what is told of the board that was read, or the line's first fault
---     reply settings number line      of a board of at most 30 empty squares for `Solve` the value under the scoring and all best moves, and for
---         `Scores` the score of every move; for `Moves` all legal moves of a board; for `Transcript` and `Play` the board line of the
---         position that is reached; or the first fault of the line; for `Analyse` the analysis of a game, whose line has this number
+--     reply settings number line      of a board of at most 30 empty squares for `Solve` the value under the scoring and all best moves,
+--         and for `Scores` the score of every move; for `Moves` all legal moves of a board; for `Transcript` and `Play` the board line of
+--         the position that is reached; or the first fault of the line; for `Analyse` the analysis of a game, whose line has this number
 use Rattle.std.specs.Prelude.{ℕ, List, Result, Ok, Err}
 use Rattle.oth_rules.specs.declared.scoring.Scoring.{Scoring}
 use Rattle.oth_rules.specs.Position.{Position as Discs}

@@ -2,11 +2,12 @@
 //! `tuning` affect speed only: the report depends on the command, the scoring and the input alone.
 //!
 //! `running` has the run over all of an input: `Engine` (`engine`) goes through it in chunks of at most 65,536 bytes
-//! (`buffer`), with the line that has begun (`line`: a line of any length in fixed space, read in parts by the
-//! readers of `oth_text`, and its reply) and the bytes that wait to be written (`waiting`, at most 16,384). What
-//! waits is written before each read, and before and after each line whose answer may take time. `lines` cuts bytes
-//! into lines. `game` has the line of a game that is analysed, whose reply has several lines. `checking` has settings that were tested, `Lawful`, so the pool's refusals of workers and of cells are
-//! shown not to come, and no function of the engine asks for more.
+//! (`buffer`), with the line that has begun (`line`: a line of any length in fixed space, read in parts by the readers
+//! of `oth_text`, and its reply) and the bytes that wait to be written (`waiting`, at most 16,384). What waits is
+//! written before each read, and before and after each line whose answer may take time. `lines` cuts bytes into lines.
+//! `game` has the line of a game that is analysed, whose reply has several lines. `checking` has settings that were
+//! tested, `Lawful`, so the pool's refusals of workers and of cells are shown not to come, and no function of the
+//! engine asks for more.
 //!
 //! `Solver` (`solver`) is what boards are solved with, and how. Where `solve` or `scores` has more than one worker,
 //! the boards of the whole lines in the chunk are the jobs of other workers (`ahead`) while the engine answers these

@@ -114,8 +114,8 @@ impl Line {
         }
     }
 
-    /// Adds what is written of the line to what waits, without its last byte 10. What is found of a board that is one of
-    /// the jobs is awaited.
+    /// Adds what is written of the line to what waits, without its last byte 10. What is found of a board that is one
+    /// of the jobs is awaited.
     pub fn tell<T: Wait + Threads + Sync, W: Sink, G: Gate>(
         &self,
         solver: &Solver<'_, T, G>,

@@ -64,8 +64,8 @@ impl<'s, T: Threads + Sync, G: Gate> Solver<'s, T, G> {
     }
 
     /// The answers of the boards before and after these turns, as a book, found from the last turn to the first: what
-    /// the board after a move is worth is at least the value of the one before it, which its search begins with. A board
-    /// for which there is no memory is left out.
+    /// the board after a move is worth is at least the value of the one before it, which its search begins with. A
+    /// board for which there is no memory is left out.
     pub fn known_of(&self, turns: &[Turn]) -> Book {
         let mut known = Book::new(self.alloc, self.settings.get().scoring);
         for at in 0..turns.len() {
@@ -203,7 +203,8 @@ impl<'s, T: Wait + Threads + Sync, G: Gate> Solver<'s, T, G> {
     }
 }
 
-// Adds to what is known that the board is worth at least what the move to this square is, after which this is the answer.
+// Adds to what is known that the board is worth at least what the move to this square is, after which this is the
+// answer.
 fn learn_least(known: &mut Book, board: &Board, square: Square, after: &Answer) {
     if let Ok(least) = Solved::lift(board, square, &Solved::of_answer(after)) {
         let _ = known.add_bounds(&least);

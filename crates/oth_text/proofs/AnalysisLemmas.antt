@@ -1,6 +1,7 @@
 -- The turns of a game, and the lines of them.
 use Rattle.std.proofs.Common.{◌≡◌, ◌+◌, ◌*◌, ◌<◌, ◌≤◌, ◌++◌, ◌∷◌, [], ◌∙◌, ◌==◌, ℕ, zero, suc, ℤ, List, Bool, true, false, ◌&&◌, Option, Some, None, Result, Ok, Err}
-use Rattle.std.proofs.Common.{length, take, drop, filter, get_or, slice_index_or, refl, sym, ap, arith, append_assoc, append-nil, subst, nat_le, if◌then◌else◌, inl, inr, ap₂, pos, negsuc, ◌-ℤ◌, ◌≤ℤ◌, to_z, of_z, w8, w16, unsigned_abs}
+use Rattle.std.proofs.Common.{length, take, drop, filter, get_or, slice_index_or, refl, sym, ap, arith, append_assoc, append-nil, subst, nat_le, if◌then◌else◌, inl, inr}
+use Rattle.std.proofs.Common.{ap₂, pos, negsuc, ◌-ℤ◌, ◌≤ℤ◌, to_z, of_z, w8, w16, unsigned_abs}
 use Rattle.std.proofs.lemmas.Bool.{cases_lt, and_parts, le-leb, leb-true, lt-leb}
 use Rattle.std.proofs.lemmas.Int.{ints}
 use Rattle.std.proofs.lemmas.List.{drop-take, get_or-take, take-take}

@@ -5,7 +5,7 @@ use Rattle.std.proofs.lemmas.List.{take_all, take_min, take-append-le, length-ta
 use Rattle.std.proofs.Math.Seq.{take-append-add}
 use Rattle.oth_text.specs.BoardLine.{KeepsLine, first_fault, if_solvable, reading, solvable_reading}
 
--- the front of a line, at most so many bytes, and further bytes
+-- the front of a line, up to a number of bytes, and further bytes
 pub kept_more : (most : ℕ) (kept line bytes : List ℕ) (room count : ℕ) → kept ≡ take most line → room + length kept ≡ most → count ≡ min room (length bytes)
     → kept ++ take count bytes ≡ take most (line ++ bytes)
 kept_more most kept line bytes room count keeps all is = elim (cases_lt most (length line)) [

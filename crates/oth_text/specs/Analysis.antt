@@ -7,7 +7,8 @@
 --     turn_line n g t      the number of the line, that of the disc, who moves, the move, its score, and what `solve` reports of the board
 --     lost_by side g turns      the discs that a side's turns are worth less than the best ones
 --     analysis_of n g last line      a line for each turn that is told, one for the game's fault, and one for what was lost
-use Rattle.std.specs.Prelude.{ℕ, ℤ, ◌+◌, ◌-◌, ◌-ℤ◌, neg_ℤ, ◌≤◌, nat_le, ◌&&◌, Bool, if◌then◌else◌, List, [], ◌∷◌, ◌++◌, take, Option, Some, None}
+use Rattle.std.specs.Prelude.{ℕ, ℤ, ◌+◌, ◌-◌, ◌-ℤ◌, neg_ℤ, ◌≤◌, nat_le, ◌&&◌, Bool, if◌then◌else◌, List, [], ◌∷◌, ◌++◌, take}
+use Rattle.std.specs.Prelude.{Option, Some, None}
 use Rattle.std.specs.Prelude.{Result, Ok, Err, filter, codes, decimal, slice_index_or, unsigned_abs, ◌≡◌}
 use Rattle.std.specs.List.{flat_map}
 use Rattle.oth_rules.specs.Position.{empty_count, pass}
@@ -47,8 +48,8 @@ abbrev pub moved : Position → ℕ → Position
 moved p s = record { board = after p.board s; mover = opponent p.mover }
 
 abbrev pub unless_faulty : Option TranscriptFault → List Turn → List Turn
-unless_faulty (Some fault) turns = []
-unless_faulty None turns = turns
+unless_faulty (Some fault) told = []
+unless_faulty None told = told
 
 unfoldable pub turns : Position → List ℕ → List Turn
 turns p [] = []

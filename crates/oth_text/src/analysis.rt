@@ -104,8 +104,8 @@ impl Losses {
     }
 }
 
-/// The number of the game's line, that of the disc, who moves, the move or `pass`, its score, and the report line of the
-/// board before, with one space between two columns.
+/// The number of the game's line, that of the disc, who moves, the move or `pass`, its score, and the report line of
+/// the board before, with one space between two columns.
 pub fn turn_line(number: u64, judged: &JudgedTurn) -> ArrayVec<u8, TURN_LINE_LEN>
     ensures text { result.items ≡ turn_line number judged.now.answer.scoring judged.now.turn }
     ensures one_line { IsOneLine result.items }

@@ -3,10 +3,12 @@
 //! The first byte tells which. The front of a line, 195 bytes, has every legal move, since each takes an empty square;
 //! the readers of both forms go on to the end, for the fault.
 
-ghost use Rattle.std.specs.Prelude.{◌≡◌, ◌+◌, ◌≤◌, ◌<◌, ℕ, List, [], ◌∷◌, ◌++◌, Some, None, Ok, All, IfSome, filter, MatchOption};
+ghost use Rattle.std.specs.Prelude.{◌≡◌, ◌+◌, ◌≤◌, ◌<◌, ℕ, List, [], ◌∷◌, ◌++◌, Some, None, Ok, All, IfSome};
+ghost use Rattle.std.specs.Prelude.{filter, MatchOption};
 ghost use Rattle.oth_rules.specs.Position.{empty_count};
 ghost use Rattle.arrayvec.specs.ArrayVec.{array_vec_len};
-ghost use Rattle.oth_text.specs.Analysis.{HasFewEmpties, KeepsAnalysed, begins_board, fault_of, is_told, pass_turns, told_turns};
+ghost use Rattle.oth_text.specs.Analysis.{HasFewEmpties, KeepsAnalysed, begins_board, fault_of, is_told};
+ghost use Rattle.oth_text.specs.Analysis.{pass_turns, told_turns};
 ghost use Rattle.oth_text.specs.Analysis.{turns_from};
 ghost use Rattle.oth_text.specs.BoardLine.{is_cell};
 ghost use Rattle.oth_text.specs.OneLine.{IsOneLine};
@@ -95,8 +97,8 @@ impl AnalysisReader {
         }
     }
 
-    /// The turns of the game that are told: its legal moves, up to the first fault, and its passes, where at most `last`
-    /// and at most 30 squares are empty before.
+    /// The turns of the game that are told: its legal moves, up to the first fault, and its passes, where at most
+    /// `last` and at most 30 squares are empty before.
     pub fn turns(&self, last: u8) -> Turns
         ensures turns { (line : List ℕ) → KeepsAnalysed self.now line → result.items ≡ told_turns last line }
         ensures few { All HasFewEmpties result.items }

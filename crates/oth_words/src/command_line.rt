@@ -694,10 +694,10 @@ fn read_with<'a>(
 ///
 /// The names of `[FILE]..` come in the order of the words, each as often as it stands there; what begins with `-` is
 /// one only behind `--`, but for `-` itself. There are 1 to 16 workers, or 1 by default, and 0 to 262,144 cells, or
-/// 65,536. `--last` is 1 to 30, or 20 by default. The default scoring is `winner`. The subcommand and each value are those that clap's exact meaning gives for
-/// the words. Where that meaning takes the words, out of memory is the only error. Where clap finds a fault in the
-/// words, the error is of that fault's kind,
-/// or out of memory. A call for help or for the version is such a fault, with the text as clap writes it.
+/// 65,536. `--last` is 1 to 30, or 20 by default. The default scoring is `winner`. The subcommand and each value are
+/// those that clap's exact meaning gives for the words. Where that meaning takes the words, out of memory is the only
+/// error. Where clap finds a fault in the words, the error is of that fault's kind, or out of memory. A call for help
+/// or for the version is such a fault, with the text as clap writes it.
 pub fn read_words(alloc: Global, words: &[&str]) -> Result<Words, Error>
     ensures { (scorings : ScoringWords) × AreScorings scorings
         × IsReading (othsolve scorings) (map (λ w. w.now) words.entry.now) result }

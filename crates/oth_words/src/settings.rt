@@ -15,8 +15,8 @@ pub enum Command {
     Transcript,
     /// Of a board line and the moves that are played on it the board line of the position that they lead to.
     Play,
-    /// Of a transcript, or of a board line and the moves that are played on it, each move that is made where at most this
-    /// many squares are empty, and at most 30, beside the best ones, and the discs that each side lost.
+    /// Of a transcript, or of a board line and the moves that are played on it, each move that is made where at most
+    /// this many squares are empty, and at most 30, beside the best ones, and the discs that each side lost.
     Analyse(u8),
 }
 

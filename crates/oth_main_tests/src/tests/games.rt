@@ -10,23 +10,33 @@ use std::thread::Threads;
 // Games, and what `Analyse` writes of the moves from 8 empty squares on.
 const ANALYSED: [(&[u8], &[u8]); 15] = [
     (
-        b"f5f6c4f4g7b4f3h8e6f7e7d6c5f2c3d2b2a1g4e8g6b5e2g5a4d7e1b3a3e3g2c2h6f1b1h1f8h3h5g3h2d8g1a2d1c1c6b7c8h7h4a5d3c7b6a8a7g8b8a6\n",
-        b"1 53 X d3 +12 +12 d3\n1 54 O pass -12 -12 pass\n1 54 X c7 +4 +12 a8\n1 55 O b6 -4 -4 b6\n1 56 X a8 +0 +4 a7\n1 57 O a7 +0 +0 a7\n1 58 X g8 -6 +0 a6\n1 59 O b8 +6 +6 b8\n1 60 X a6 -6 -6 a6\n1 lost X 18 O 0\n",
+        b"f5f6c4f4g7b4f3h8e6f7e7d6c5f2c3d2b2a1g4e8g6b5e2g5a4d7e1b3a3e3g2c2h6f1b1h1f8h3h5g3h2d8g1a2d1c1c6b7c8\
+          h7h4a5d3c7b6a8a7g8b8a6\n",
+        b"1 53 X d3 +12 +12 d3\n1 54 O pass -12 -12 pass\n1 54 X c7 +4 +12 a8\n1 55 O b6 -4 -4 b6\n\
+          1 56 X a8 +0 +4 a7\n1 57 O a7 +0 +0 a7\n1 58 X g8 -6 +0 a6\n1 59 O b8 +6 +6 b8\n\
+          1 60 X a6 -6 -6 a6\n1 lost X 18 O 0\n",
     ),
     (
-        b"f5f6c4f4g7b4f3h8e6f7e7d6c5f2c3d2b2a1g4e8g6b5e2g5a4d7e1b3a3e3g2c2h6f1b1h1f8h3h5g3h2d8g1a2d1c1c6b7c8h7h4a5d3c7b6a\n",
-        b"1 53 X d3 +12 +12 d3\n1 54 O pass -12 -12 pass\n1 54 X c7 +4 +12 a8\n1 55 O b6 -4 -4 b6\n1 error 1\n1 lost X 8 O 0\n",
+        b"f5f6c4f4g7b4f3h8e6f7e7d6c5f2c3d2b2a1g4e8g6b5e2g5a4d7e1b3a3e3g2c2h6f1b1h1f8h3h5g3h2d8g1a2d1c1c6b7c8\
+          h7h4a5d3c7b6a\n",
+        b"1 53 X d3 +12 +12 d3\n1 54 O pass -12 -12 pass\n1 54 X c7 +4 +12 a8\n1 55 O b6 -4 -4 b6\n\
+          1 error 1\n1 lost X 8 O 0\n",
     ),
     (
-        b"f5f6c4f4g7b4f3h8e6f7e7d6c5f2c3d2b2a1g4e8g6b5e2g5a4d7e1b3a3e3g2c2h6f1b1h1f8h3h5g3h2d8g1a2d1c1c6b7c8h7h4a5d3a1c7b6a8a7g8b8a6\n",
+        b"f5f6c4f4g7b4f3h8e6f7e7d6c5f2c3d2b2a1g4e8g6b5e2g5a4d7e1b3a3e3g2c2h6f1b1h1f8h3h5g3h2d8g1a2d1c1c6b7c8\
+          h7h4a5d3a1c7b6a8a7g8b8a6\n",
         b"1 53 X d3 +12 +12 d3\n1 54 O pass -12 -12 pass\n1 error 3 at 54\n1 lost X 0 O 0\n",
     ),
     (
-        b"f5f6c4f4g7b4f3h8e6f7e7d6c5f2c3d2b2a1g4e8g6b5e2g5a4d7e1b3a3e3g2c2h6f1b1h1f8h3h5g3h2d8g1a2d1c1c6b7c8h7h4a5d3c7b6a8a7g8b8a6a1\n",
-        b"1 53 X d3 +12 +12 d3\n1 54 O pass -12 -12 pass\n1 54 X c7 +4 +12 a8\n1 55 O b6 -4 -4 b6\n1 56 X a8 +0 +4 a7\n1 57 O a7 +0 +0 a7\n1 58 X g8 -6 +0 a6\n1 59 O b8 +6 +6 b8\n1 60 X a6 -6 -6 a6\n1 error 4 at 61\n1 lost X 18 O 0\n",
+        b"f5f6c4f4g7b4f3h8e6f7e7d6c5f2c3d2b2a1g4e8g6b5e2g5a4d7e1b3a3e3g2c2h6f1b1h1f8h3h5g3h2d8g1a2d1c1c6b7c8\
+          h7h4a5d3c7b6a8a7g8b8a6a1\n",
+        b"1 53 X d3 +12 +12 d3\n1 54 O pass -12 -12 pass\n1 54 X c7 +4 +12 a8\n1 55 O b6 -4 -4 b6\n\
+          1 56 X a8 +0 +4 a7\n1 57 O a7 +0 +0 a7\n1 58 X g8 -6 +0 a6\n1 59 O b8 +6 +6 b8\n\
+          1 60 X a6 -6 -6 a6\n1 error 4 at 61\n1 lost X 18 O 0\n",
     ),
     (
-        b"f5f6c4f4g7b4f3h8e6f7e7d6c5f2c3d2b2a1g4e8g6b5e2g5a4d7e1b3a3e3g2c2h6f1b1h1f8h3h5g3h2d8g1a2d1c1c6b7c8h7h4a5d3c7i9\n",
+        b"f5f6c4f4g7b4f3h8e6f7e7d6c5f2c3d2b2a1g4e8g6b5e2g5a4d7e1b3a3e3g2c2h6f1b1h1f8h3h5g3h2d8g1a2d1c1c6b7c8\
+          h7h4a5d3c7i9\n",
         b"1 53 X d3 +12 +12 d3\n1 54 O pass -12 -12 pass\n1 54 X c7 +4 +12 a8\n1 error 2 at 55\n1 lost X 8 O 0\n",
     ),
     (b"\n", b"1 lost X 0 O 0\n"),
@@ -57,7 +67,11 @@ const ANALYSED: [(&[u8], &[u8]); 15] = [
     (b"-\n", b"1 error 1\n1 lost X 0 O 0\n"),
     (b"f5d6\n", b"1 lost X 0 O 0\n"),
     (
-        b"--OXOOO-OOOOOOOOOOOOOOOOOOOOOOOOOOOOOOOOOOOOOOOOOOOOOOOOOOOOOOOO X h1b1111111111111111111111111111111111111111111111111111111111111111111111111111111111111111111111111111111111111111111111111111111111111111111111111111111111111111111111111111111111111111111111111111111111111111111111111111111111111111111111111111111111111111111111111111111111111111111111111111111111111111111111111111111111111111111111111111111111111111111111111111111111111111111111111111111111111111\n",
+        b"--OXOOO-OOOOOOOOOOOOOOOOOOOOOOOOOOOOOOOOOOOOOOOOOOOOOOOOOOOOOOOO X h1b1111111111111111111111111111\
+          11111111111111111111111111111111111111111111111111111111111111111111111111111111111111111111111111\
+          11111111111111111111111111111111111111111111111111111111111111111111111111111111111111111111111111\
+          11111111111111111111111111111111111111111111111111111111111111111111111111111111111111111111111111\
+          111111111111111111111111111111111111111111111111111111111111111111111111111111\n",
         b"1 58 X h1 -50 -50 h1\n1 59 O pass +50 +50 pass\n1 59 X b1 -50 -50 b1\n1 error 21\n1 lost X 0 O 0\n",
     ),
 ];
@@ -65,23 +79,33 @@ const ANALYSED: [(&[u8], &[u8]); 15] = [
 // As `ANALYSED`, by discs.
 const ANALYSED_BY_DISCS: [(&[u8], &[u8]); 15] = [
     (
-        b"f5f6c4f4g7b4f3h8e6f7e7d6c5f2c3d2b2a1g4e8g6b5e2g5a4d7e1b3a3e3g2c2h6f1b1h1f8h3h5g3h2d8g1a2d1c1c6b7c8h7h4a5d3c7b6a8a7g8b8a6\n",
-        b"1 53 X d3 +12 +12 d3\n1 54 O pass -12 -12 pass\n1 54 X c7 +4 +12 a8\n1 55 O b6 -4 -4 b6\n1 56 X a8 +0 +4 a7\n1 57 O a7 +0 +0 a7\n1 58 X g8 -6 +0 a6\n1 59 O b8 +6 +6 b8\n1 60 X a6 -6 -6 a6\n1 lost X 18 O 0\n",
+        b"f5f6c4f4g7b4f3h8e6f7e7d6c5f2c3d2b2a1g4e8g6b5e2g5a4d7e1b3a3e3g2c2h6f1b1h1f8h3h5g3h2d8g1a2d1c1c6b7c8\
+          h7h4a5d3c7b6a8a7g8b8a6\n",
+        b"1 53 X d3 +12 +12 d3\n1 54 O pass -12 -12 pass\n1 54 X c7 +4 +12 a8\n1 55 O b6 -4 -4 b6\n\
+          1 56 X a8 +0 +4 a7\n1 57 O a7 +0 +0 a7\n1 58 X g8 -6 +0 a6\n1 59 O b8 +6 +6 b8\n\
+          1 60 X a6 -6 -6 a6\n1 lost X 18 O 0\n",
     ),
     (
-        b"f5f6c4f4g7b4f3h8e6f7e7d6c5f2c3d2b2a1g4e8g6b5e2g5a4d7e1b3a3e3g2c2h6f1b1h1f8h3h5g3h2d8g1a2d1c1c6b7c8h7h4a5d3c7b6a\n",
-        b"1 53 X d3 +12 +12 d3\n1 54 O pass -12 -12 pass\n1 54 X c7 +4 +12 a8\n1 55 O b6 -4 -4 b6\n1 error 1\n1 lost X 8 O 0\n",
+        b"f5f6c4f4g7b4f3h8e6f7e7d6c5f2c3d2b2a1g4e8g6b5e2g5a4d7e1b3a3e3g2c2h6f1b1h1f8h3h5g3h2d8g1a2d1c1c6b7c8\
+          h7h4a5d3c7b6a\n",
+        b"1 53 X d3 +12 +12 d3\n1 54 O pass -12 -12 pass\n1 54 X c7 +4 +12 a8\n1 55 O b6 -4 -4 b6\n\
+          1 error 1\n1 lost X 8 O 0\n",
     ),
     (
-        b"f5f6c4f4g7b4f3h8e6f7e7d6c5f2c3d2b2a1g4e8g6b5e2g5a4d7e1b3a3e3g2c2h6f1b1h1f8h3h5g3h2d8g1a2d1c1c6b7c8h7h4a5d3a1c7b6a8a7g8b8a6\n",
+        b"f5f6c4f4g7b4f3h8e6f7e7d6c5f2c3d2b2a1g4e8g6b5e2g5a4d7e1b3a3e3g2c2h6f1b1h1f8h3h5g3h2d8g1a2d1c1c6b7c8\
+          h7h4a5d3a1c7b6a8a7g8b8a6\n",
         b"1 53 X d3 +12 +12 d3\n1 54 O pass -12 -12 pass\n1 error 3 at 54\n1 lost X 0 O 0\n",
     ),
     (
-        b"f5f6c4f4g7b4f3h8e6f7e7d6c5f2c3d2b2a1g4e8g6b5e2g5a4d7e1b3a3e3g2c2h6f1b1h1f8h3h5g3h2d8g1a2d1c1c6b7c8h7h4a5d3c7b6a8a7g8b8a6a1\n",
-        b"1 53 X d3 +12 +12 d3\n1 54 O pass -12 -12 pass\n1 54 X c7 +4 +12 a8\n1 55 O b6 -4 -4 b6\n1 56 X a8 +0 +4 a7\n1 57 O a7 +0 +0 a7\n1 58 X g8 -6 +0 a6\n1 59 O b8 +6 +6 b8\n1 60 X a6 -6 -6 a6\n1 error 4 at 61\n1 lost X 18 O 0\n",
+        b"f5f6c4f4g7b4f3h8e6f7e7d6c5f2c3d2b2a1g4e8g6b5e2g5a4d7e1b3a3e3g2c2h6f1b1h1f8h3h5g3h2d8g1a2d1c1c6b7c8\
+          h7h4a5d3c7b6a8a7g8b8a6a1\n",
+        b"1 53 X d3 +12 +12 d3\n1 54 O pass -12 -12 pass\n1 54 X c7 +4 +12 a8\n1 55 O b6 -4 -4 b6\n\
+          1 56 X a8 +0 +4 a7\n1 57 O a7 +0 +0 a7\n1 58 X g8 -6 +0 a6\n1 59 O b8 +6 +6 b8\n\
+          1 60 X a6 -6 -6 a6\n1 error 4 at 61\n1 lost X 18 O 0\n",
     ),
     (
-        b"f5f6c4f4g7b4f3h8e6f7e7d6c5f2c3d2b2a1g4e8g6b5e2g5a4d7e1b3a3e3g2c2h6f1b1h1f8h3h5g3h2d8g1a2d1c1c6b7c8h7h4a5d3c7i9\n",
+        b"f5f6c4f4g7b4f3h8e6f7e7d6c5f2c3d2b2a1g4e8g6b5e2g5a4d7e1b3a3e3g2c2h6f1b1h1f8h3h5g3h2d8g1a2d1c1c6b7c8\
+          h7h4a5d3c7i9\n",
         b"1 53 X d3 +12 +12 d3\n1 54 O pass -12 -12 pass\n1 54 X c7 +4 +12 a8\n1 error 2 at 55\n1 lost X 8 O 0\n",
     ),
     (b"\n", b"1 lost X 0 O 0\n"),
@@ -112,7 +136,11 @@ const ANALYSED_BY_DISCS: [(&[u8], &[u8]); 15] = [
     (b"-\n", b"1 error 1\n1 lost X 0 O 0\n"),
     (b"f5d6\n", b"1 lost X 0 O 0\n"),
     (
-        b"--OXOOO-OOOOOOOOOOOOOOOOOOOOOOOOOOOOOOOOOOOOOOOOOOOOOOOOOOOOOOOO X h1b1111111111111111111111111111111111111111111111111111111111111111111111111111111111111111111111111111111111111111111111111111111111111111111111111111111111111111111111111111111111111111111111111111111111111111111111111111111111111111111111111111111111111111111111111111111111111111111111111111111111111111111111111111111111111111111111111111111111111111111111111111111111111111111111111111111111111111\n",
+        b"--OXOOO-OOOOOOOOOOOOOOOOOOOOOOOOOOOOOOOOOOOOOOOOOOOOOOOOOOOOOOOO X h1b1111111111111111111111111111\
+          11111111111111111111111111111111111111111111111111111111111111111111111111111111111111111111111111\
+          11111111111111111111111111111111111111111111111111111111111111111111111111111111111111111111111111\
+          11111111111111111111111111111111111111111111111111111111111111111111111111111111111111111111111111\
+          111111111111111111111111111111111111111111111111111111111111111111111111111111\n",
         b"1 58 X h1 -49 -49 h1\n1 59 O pass +49 +49 pass\n1 59 X b1 -49 -49 b1\n1 error 21\n1 lost X 0 O 0\n",
     ),
 ];

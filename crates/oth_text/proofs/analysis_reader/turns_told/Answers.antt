@@ -10,7 +10,8 @@ loop-rest-init c = record {
 }
 
 pub returns-in_default-clause-turns : goal.returns-in_default-clause-turns
-returns-in_default-clause-turns c = told-last c.args.last _ _ _ _ c.loop-rest.invariant.told (turns-stop c.loop-rest.position _ _ _ c.split_at.ensures.front c.loop-rest-test.true c.in_default.ensures.err)
+returns-in_default-clause-turns c = told-last c.args.last _ _ _ _ c.loop-rest.invariant.told
+    (turns-stop c.loop-rest.position _ _ _ c.split_at.ensures.front c.loop-rest-test.true c.in_default.ensures.err)
 
 pub push_told-requires : goal.push_told-requires
 push_told-requires c = record { room = λ few. let most = c.loop-rest.invariant.room.few (omega arith) in omega arith }
@@ -34,7 +35,8 @@ loop-rest-preserved c =
     record {
       told = told-more c.args.last _ _ _ _ p _ _ _ _ _ c.loop-rest.invariant.told step (c.push_told.ensures.told ∙ ap (λ ts. c.loop-rest.told.items ++ ts) turn) c.push_pass-in-loop-rest.ensures.told
           (ap₂ (λ b m. record { board = b; mover = m }) played.2 c.opponent.ensures) c.with_forced_pass-position-in-loop-rest.ensures.passed;
-      room = room-more _ _ _ _ _ c.loop-rest.invariant.room (ap (λ n. n + 1) c.with_forced_pass-position-in-loop-rest.ensures.empties ∙ c.in-Ok.ensures.fewer) c.push_told.ensures.len c.push_told.ensures.none
+      room = room-more _ _ _ _ _ c.loop-rest.invariant.room
+          (ap (λ n. n + 1) c.with_forced_pass-position-in-loop-rest.ensures.empties ∙ c.in-Ok.ensures.fewer) c.push_told.ensures.len c.push_told.ensures.none
           c.push_pass-in-loop-rest.ensures.len (rw (sym c.with_forced_pass-position-in-loop-rest.ensures.empties) at c.push_pass-in-loop-rest.ensures.none);
     }
 

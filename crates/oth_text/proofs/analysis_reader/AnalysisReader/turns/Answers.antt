@@ -4,7 +4,8 @@ use Rattle.oth_text.proofs.analysis_reader.AnalysisReader.turns.Goals as goal
 
 pub returns-then-not-begins_board-clause-turns : goal.returns-then-not-begins_board-clause-turns
 returns-then-not-begins_board-clause-turns c = λ line kept.
-    told-transcript c.args.last _ line _ _ (c.as_slice-front.ensures.value ∙ kept.front) (sym (c.begins_board.ensures line kept) ∙ c.if-not-begins_board.true) c.start.ensures c.turns_told.ensures.turns
+    told-transcript c.args.last _ line _ _ (c.as_slice-front.ensures.value ∙ kept.front)
+    (sym (c.begins_board.ensures line kept) ∙ c.if-not-begins_board.true) c.start.ensures c.turns_told.ensures.turns
 
 pub returns-in-Ok-clause-turns : goal.returns-in-Ok-clause-turns
 returns-in-Ok-clause-turns c = λ line kept.
