@@ -18,7 +18,7 @@ use std::thread;
 use std::thread::Threads;
 
 // Lets the first two items begin at once, which two workers draw. When the first search of each has ended, it looks
-// whether the table has the board after the item's move.
+// whether the table has the item's board, or the board after its move, where the other worker decided that meanwhile.
 #[derive(Drop)]
 struct Beginning<'t> {
     view: TableView<'t>,
@@ -79,7 +79,7 @@ impl<'t> Gate for Beginning<'t> {
             return;
         }
         if let Some(item) = self.frontier.entry(task) {
-            if self.view.has(item.square) {
+            if self.view.has_board(&item.board) || self.view.has(item.square) {
                 self.searched.fetch_add(1, Ordering::SeqCst);
             }
         }
