@@ -217,7 +217,7 @@ fn one_worker_begins_with_the_bounds_of_the_book(rt: HostRuntime) {
 // The book of bounds of the boards after the first two moves of the root, which leave their values open.
 fn book_of_two_bounds(alloc: Global, root: &Board) -> Option<Book> {
     let mut book = Book::new(alloc, Scoring::Winner);
-    let mut left = 2;
+    let mut left = 2u8;
     for number in 0..64 {
         let Some(child) = root.play(Square::numbered(number)) else {
             continue;
@@ -225,7 +225,7 @@ fn book_of_two_bounds(alloc: Global, root: &Board) -> Option<Book> {
         if left == 0 {
             break;
         }
-        left -= 1;
+        left = left.saturating_sub(1);
         let value = Solved::of_answer(&solve_alone(&child, Scoring::Winner).ok()?);
         book.add_bounds(&value.widen(-64, value.interval.upper)?)
             .ok()?;
