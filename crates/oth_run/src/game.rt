@@ -65,7 +65,9 @@ impl BegunGame {
         self.reader.is_empty()
     }
 
-    /// Adds the analysis of the game to what waits, without its last byte 10.
+    /// Adds the analysis of the game to what waits, without its last byte 10. Never inlined, so that its turns are not
+    /// on the stack while lines of other commands are answered.
+    #[inline(never)]
     pub fn tell<T: Threads + Sync, W: Sink, G: Gate>(
         &self,
         solver: &Solver<'_, T, G>,
