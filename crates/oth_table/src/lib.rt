@@ -1,6 +1,7 @@
 //! A transposition table that threads share without locks.
 //!
-//! `table` has the table, its seats and their calls; `cells` the `TableCells` that a search uses; `choice` a
+//! `table` has the table, its seats and their calls, `table/looking` and `table/putting` the look at a cell and the put
+//! in it; `cells` the `TableCells` that a search uses; `choice` a
 //! board's two cells and which of them takes a store; `rule` the rule and the kinds of step; `history` what views
 //! and events are made of; `laws` what follows from the contracts.
 //!

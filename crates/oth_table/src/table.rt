@@ -3,40 +3,26 @@
 //! models?, 2012).
 //!
 //! Version 0 was never written, an odd version is being written, and an even version above 0 is published; half of
-//! it says how often. A seat claims a cell by one compare-and-exchange of an even version `v` for `v + 1`. Only the
-//! seat with the claim may write the cell's three words, and it publishes them by storing `v + 2`: versions only
-//! grow, and at most one seat writes in a cell at a time.
-//!
-//! A look loads the version, the three words, and the version again. If both loads give one even version, nobody
-//! claimed the cell between them, so the three words are those of one publish: no look ever gives words of two
-//! stores. Else it answers `Busy`. A put under its claim loads the old words. If they are those of its own board,
-//! it keeps the greater lower and the lesser upper bound; else it keeps the given entry. A cell that was published
-//! as often as the table's wear allows is never claimed again, and is still looked at.
+//! it says how often. Versions only grow, and at most one seat writes in a cell at a time. `looking` has what a seat
+//! reads, `putting` what it writes.
 //!
 //! Six words stand in front of the cells, so that a board's two cells, its bucket, lie in one cache line of 64
 //! bytes where the memory of the table begins 16 bytes behind one, as glibc's large blocks do.
-ghost use Rattle.std.specs.Prelude.{◌≡◌, ℕ, MatchBool, Option, ◌+◌, ◌*◌, ◌/◌, ◌%◌, ◌^◌, ◌<◌, ◌≤◌, List, [], Some, IfOk};
-ghost use Rattle.std.specs.Prelude.{IfErr, ◌-◌};
-ghost use Rattle.oth_search.specs.Bounds.Entry.{Bounded, joined, words_of};
+ghost use Rattle.std.specs.Prelude.{◌≡◌, ◌+◌, ◌-◌, ◌^◌, ◌<◌, [], IfOk, IfErr};
 ghost use Rattle.oth_history.specs.History.{Since};
 ghost use Rattle.oth_table.specs.Cells.{first_word};
-ghost use Rattle.oth_table.specs.History.{author, Ends, IsLegal, publishes};
-ghost use Rattle.oth_table.specs.Steps.{glanced, read, checked, aimed, claimed, found_under, stored, published};
-ghost use Rattle.oth_table.specs.Steps.{IsSameSeat, IsReading, IsClaimed, Stays, Did, WentAway, Claims, WillKeep};
-ghost use Rattle.oth_table.specs.Steps.{MayReadClaimed, MayStore, MayPublish};
+ghost use Rattle.oth_table.specs.History.{author, IsLegal, publishes};
 ghost use Rattle.oth_table.specs.Sizes.{IsSize};
-ghost use Rattle.oth_table.specs.SharedTable.{IsWear, Refuses, Opens, IsSeatOf, IsSame, IsFoundBy};
-ghost use Rattle.oth_table.specs.SharedTable.{Looks, Puts, Makes, Meet};
-ghost use Rattle.oth_table.specs.declared.history.Stage.TheVariants.{Idle, Reading};
+ghost use Rattle.oth_table.specs.SharedTable.{IsWear, Refuses, Opens, IsSeatOf, IsSame, Makes, Meet};
+ghost use Rattle.oth_table.specs.declared.history.Stage.TheVariants.{Idle};
 ghost use Rattle.oth_table.specs.declared.table.TableError.TheVariants as refusal;
-ghost use Rattle.oth_table.specs.declared.history.Event.TheVariants as event;
-ghost use Rattle.oth_table.specs.declared.history.Why.TheVariants as why;
+
+mod looking;
+mod putting;
 
 use crate::history::{Limits, Terms, View};
 use crate::rule::{
-    Claim, CountPublishes, LoadVersionToLook, LoadVersionToMake, LoadVersionToPut, LoadWord,
-    LoadWordUnderClaim, OneHistory, Publish, ReloadVersion, SeeAll, SeeTold, SendSeen, SplitSeat,
-    StoreWordUnderClaim, TakeSeen,
+    CountPublishes, LoadVersionToMake, OneHistory, SeeAll, SeeTold, SendSeen, SplitSeat, TakeSeen,
 };
 use crate::size::is_size;
 use atomic_table::{Seat, Table};
@@ -303,231 +289,5 @@ impl SharedTable {
             .shared
             .load::<CountPublishes>(&mut seat.seat, word_at(cell, 0))
             / 2
-    }
-
-    /// The entry of a cell, or why there is none. `cell` is below `cells`. At most five atomic steps: it loads the
-    /// version, the three words of the entry, and the version again. It doesn't try twice.
-    pub fn look(&self, seat: &mut TableSeat, cell: u32) -> Look
-        requires seat { IsSeatOf self.now seat.old }
-        requires cell { cell < self.now.cells }
-        ensures seat { IsSame seat.old seat.new }
-        ensures place { Looks seat.old.terms seat.old.name seat.old.seen seat.new.seen cell result }
-        ensures scoring { IsFoundBy self.now.terms.scoring result }
-    {
-        self.look_by(&mut seat.seat, cell)
-    }
-
-    // A look by a seat at rest.
-    fn look_by(&self, seat: &mut Seat<Entry, View>, cell: u32) -> Look
-        requires table { (seat.old.table_id ≡ self.now.id) × (seat.old.me.0.terms ≡ self.now.terms) }
-        requires cell { cell < self.now.cells }
-        requires idle { seat.old.me.0.stage ≡ Idle }
-        ensures table { seat.new.table_id ≡ seat.old.table_id }
-        ensures same { IsSameSeat seat.old.me.0 seat.new.me.0 }
-        ensures idle { seat.new.me.0.stage ≡ Idle }
-        ensures place { let v = seat.old.me.0 in Looks v.terms v.name v.seen seat.new.me.0.seen cell result }
-    {
-        let version = self.glance(seat, cell);
-        if version == 0 {
-            return Look::Empty;
-        }
-        if version % 2 == 1 {
-            return Look::Busy;
-        }
-        let own = self.read(seat, cell, 0);
-        let opp = self.read(seat, cell, 1);
-        let bounds = self.read(seat, cell, 2);
-        if self.check(seat, cell) != version {
-            return Look::Busy;
-        }
-        Look::Whole(Entry::of_words([own, opp, bounds], self.scoring()))
-    }
-
-    // The first load of a look.
-    fn glance(&self, seat: &mut Seat<Entry, View>, cell: u32) -> u64
-        requires table { seat.old.table_id ≡ self.now.id }
-        requires cell { cell < self.now.cells }
-        requires idle { seat.old.me.0.stage ≡ Idle }
-        ensures table { seat.new.table_id ≡ seat.old.table_id }
-        ensures told { glanced cell seat.old.me.0 result seat.new.me.0 }
-    {
-        self.table
-            .shared
-            .load::<LoadVersionToLook>(seat, word_at(cell, 0))
-    }
-
-    // The load of the entry's word `i`.
-    fn read(&self, seat: &mut Seat<Entry, View>, cell: u32, i: usize) -> u64
-        requires table { seat.old.table_id ≡ self.now.id }
-        requires cell { cell < self.now.cells }
-        requires word { i < 3 }
-        requires reads { IsReading cell seat.old.me.0.stage }
-        ensures table { seat.new.table_id ≡ seat.old.table_id }
-        ensures told { read i seat.old.me.0 seat.old.me.0.stage result seat.new.me.0 }
-    {
-        self.table
-            .shared
-            .load::<LoadWord>(seat, word_at(cell, 1 + i))
-    }
-
-    // The second load of the version.
-    fn check(&self, seat: &mut Seat<Entry, View>, cell: u32) -> u64
-        requires table { seat.old.table_id ≡ self.now.id }
-        requires cell { cell < self.now.cells }
-        requires reads { IsReading cell seat.old.me.0.stage }
-        ensures table { seat.new.table_id ≡ seat.old.table_id }
-        ensures told { checked seat.old.me.0 seat.old.me.0.stage result seat.new.me.0 }
-    {
-        self.table
-            .shared
-            .load::<ReloadVersion>(seat, word_at(cell, 0))
-    }
-
-    /// Stores an entry in a cell. If the cell holds the same board, the greater lower and the lesser upper bound
-    /// are kept, else the given entry. `cell` is below `cells`, and the entry is under the table's scoring. `Skipped`
-    /// and `Worn` change no entry. At most nine atomic steps: it loads the version, claims the cell, loads the
-    /// three old words, stores the three new ones and publishes. It doesn't try twice.
-    pub fn put(&self, seat: &mut TableSeat, cell: u32, entry: &Entry) -> Put
-        requires seat { IsSeatOf self.now seat.old }
-        requires scoring { entry.now.scoring ≡ self.now.terms.scoring }
-        requires cell { cell < self.now.cells }
-        ensures seat { IsSame seat.old seat.new }
-        ensures place { Puts seat.old.terms seat.old.name seat.old.seen seat.new.seen cell entry.now result }
-    {
-        self.put_by(&mut seat.seat, cell, entry)
-    }
-
-    // A put by a seat at rest.
-    fn put_by(&self, seat: &mut Seat<Entry, View>, cell: u32, entry: &Entry) -> Put
-        requires table { (seat.old.table_id ≡ self.now.id) × (seat.old.me.0.terms ≡ self.now.terms) }
-        requires scoring { entry.now.scoring ≡ self.now.terms.scoring }
-        requires cell { cell < self.now.cells }
-        requires idle { seat.old.me.0.stage ≡ Idle }
-        ensures table { seat.new.table_id ≡ seat.old.table_id }
-        ensures same { IsSameSeat seat.old.me.0 seat.new.me.0 }
-        ensures idle { seat.new.me.0.stage ≡ Idle }
-        ensures place { let v = seat.old.me.0 in Puts v.terms v.name v.seen seat.new.me.0.seen cell entry.now result }
-    {
-        let version = self.aim(seat, cell);
-        if version % 2 == 1 {
-            return Put::Skipped;
-        }
-        if version / 2 >= self.terms.wear {
-            return Put::Worn;
-        }
-        if !self.claim(seat, cell, version, entry) {
-            return Put::Skipped;
-        }
-        self.fill(seat, cell, version, entry);
-        Put::Stored
-    }
-
-    // The first load of a put.
-    fn aim(&self, seat: &mut Seat<Entry, View>, cell: u32) -> u64
-        requires table { seat.old.table_id ≡ self.now.id }
-        requires cell { cell < self.now.cells }
-        requires idle { seat.old.me.0.stage ≡ Idle }
-        ensures table { seat.new.table_id ≡ seat.old.table_id }
-        ensures told { aimed cell seat.old.me.0 result seat.new.me.0 }
-    {
-        self.table
-            .shared
-            .load::<LoadVersionToPut>(seat, word_at(cell, 0))
-    }
-
-    // One attempt to claim the cell at this version: whether the seat has the claim now.
-    fn claim(&self, seat: &mut Seat<Entry, View>, cell: u32, version: u64, entry: &Entry) -> bool
-        requires table { (seat.old.table_id ≡ self.now.id) × (seat.old.me.0.terms ≡ self.now.terms) }
-        requires scoring { entry.now.scoring ≡ self.now.terms.scoring }
-        requires cell { cell < self.now.cells }
-        requires fresh { (version % 2 ≡ 0) × (version / 2 < self.now.terms.wear) }
-        requires reads { (last : ℕ) × (x : Option Bounded) × (seat.old.me.0.stage ≡ Reading cell version last x) }
-        ensures table { seat.new.table_id ≡ seat.old.table_id }
-        ensures told { MatchBool result
-            (Claims cell version entry.now seat.old.me.0 seat.new.me.0)
-            (WentAway cell why.Skipped seat.old.me.0 seat.new.me.0) }
-    {
-        entry.shows_true();
-        self.table
-            .shared
-            .compare_exchange_with::<Claim>(seat, word_at(cell, 0), version, version + 1, entry)
-            == version
-    }
-
-    // Stores the entry under the claim, joined with what the cell has, and publishes it.
-    fn fill(&self, seat: &mut Seat<Entry, View>, cell: u32, version: u64, entry: &Entry)
-        requires table { (seat.old.table_id ≡ self.now.id) × (seat.old.me.0.terms ≡ self.now.terms) }
-        requires cell { cell < self.now.cells }
-        requires room { version + 2 < 2 ^ 64 }
-        requires claimed { IsClaimed seat.old.me.0.terms.scoring cell version entry.now seat.old.me.0.stage }
-        ensures table { seat.new.table_id ≡ seat.old.table_id }
-        ensures told { let v = seat.old.me.0 in
-            (kept : Bounded) × Did v seat.new.me.0 (event.Publish v.name cell entry.now kept) }
-    {
-        let kept = self.kept(seat, cell, version, entry);
-        let [own, opp, bounds] = kept.words();
-        self.store(seat, cell, 0, own);
-        self.store(seat, cell, 1, opp);
-        self.store(seat, cell, 2, bounds);
-        self.publish(seat, cell, version + 2);
-    }
-
-    // What the claimed cell will keep.
-    fn kept(&self, seat: &mut Seat<Entry, View>, cell: u32, version: u64, entry: &Entry) -> Entry
-        requires table { (seat.old.table_id ≡ self.now.id) × (seat.old.me.0.terms ≡ self.now.terms) }
-        requires cell { cell < self.now.cells }
-        requires claimed { IsClaimed seat.old.me.0.terms.scoring cell version entry.now seat.old.me.0.stage }
-        ensures table { seat.new.table_id ≡ seat.old.table_id }
-        ensures same { Stays seat.old.me.0 seat.new.me.0 × (seat.new.me.0.stage ≡ seat.old.me.0.stage) }
-        ensures kept { WillKeep seat.old.me.0.stage result }
-    {
-        if version == 0 {
-            return *entry;
-        }
-        let own = self.read_claimed(seat, cell, 0);
-        let opp = self.read_claimed(seat, cell, 1);
-        let bounds = self.read_claimed(seat, cell, 2);
-        Entry::of_words([own, opp, bounds], self.terms.scoring).joined(entry)
-    }
-
-    // The load of the entry's word `i` under the claim.
-    fn read_claimed(&self, seat: &mut Seat<Entry, View>, cell: u32, i: usize) -> u64
-        requires table { seat.old.table_id ≡ self.now.id }
-        requires cell { cell < self.now.cells }
-        requires word { i < 3 }
-        requires claimed { MayReadClaimed cell seat.old.me.0.stage }
-        ensures table { seat.new.table_id ≡ seat.old.table_id }
-        ensures told { found_under i seat.old.me.0 seat.old.me.0.stage result seat.new.me.0 }
-    {
-        self.table
-            .shared
-            .load::<LoadWordUnderClaim>(seat, word_at(cell, 1 + i))
-    }
-
-    // The store of the entry's word `i` under the claim.
-    fn store(&self, seat: &mut Seat<Entry, View>, cell: u32, i: usize, bits: u64)
-        requires table { seat.old.table_id ≡ self.now.id }
-        requires cell { cell < self.now.cells }
-        requires word { i < 3 }
-        requires claimed { MayStore cell i bits seat.old.me.0.stage }
-        ensures table { seat.new.table_id ≡ seat.old.table_id }
-        ensures told { stored seat.old.me.0 seat.old.me.0.stage seat.new.me.0 }
-    {
-        self.table
-            .shared
-            .store::<StoreWordUnderClaim>(seat, word_at(cell, 1 + i), bits);
-    }
-
-    // The store of the next version, which ends the claim.
-    fn publish(&self, seat: &mut Seat<Entry, View>, cell: u32, version: u64)
-        requires table { seat.old.table_id ≡ self.now.id }
-        requires cell { cell < self.now.cells }
-        requires claimed { MayPublish seat.old.me.0.terms.scoring cell version seat.old.me.0.stage }
-        ensures table { seat.new.table_id ≡ seat.old.table_id }
-        ensures told { published seat.old.me.0 seat.old.me.0.stage seat.new.me.0 }
-    {
-        self.table
-            .shared
-            .store::<Publish>(seat, word_at(cell, 0), version);
     }
 }
