@@ -1,9 +1,8 @@
 //! A transposition table that threads share without locks.
 //!
-//! `table` has the table, its seats and their calls, `table/looking` and `table/putting` the look at a cell and the put
-//! in it; `cells` the `TableCells` that a search uses; `choice` a
-//! board's two cells and which of them takes a store; `rule` the rule and the kinds of step; `history` what views
-//! and events are made of; `laws` what follows from the contracts.
+//! `table` has the table, its seats and their calls, and two files for a look at a cell and a put in it; `cells` the
+//! `TableCells` that a search uses; `choice` a board's two cells and which of them takes a store; `rule` the rule and
+//! the kinds of step; `history` what views and events are made of; `laws` what follows from the contracts.
 //!
 //! How it is proved: `specs/History` says what a cell holds after a history and which event fits it, without words
 //! and threads; `specs/Cells` is the rule that ties the words and all views to one history; `specs/Steps` says what
