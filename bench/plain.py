@@ -15,6 +15,7 @@ it has. Where it has no oth_walk, as commit d59b2f3, the copy counts no boards. 
 
     OUT/plain WORKERS CELLS FILE [RUNS]    as `OUT/plain 1,2,4 65536 bench/game-16.txt 5`; see bench/plain/counting.rs
     OUT/plain played SEED COUNT EMPTIES    makes boards of good play; see bench/plain/played.rs
+    OUT/plain forms FORM                   calls one form of moves or of flips; see bench/plain/forms.rs
 """
 import argparse
 import os
@@ -25,12 +26,13 @@ import sys
 
 ROOT = pathlib.Path(__file__).resolve().parent.parent
 CRATES = ["oth_history", "oth_rules", "oth_search", "oth_table", "oth_pieces", "oth_walk", "oth_pool"]
-LIBRARIES = ["shim", "arrayvec", "atomic_table", "crossbeam_deque", "oth_book", "counting", "played"]
+LIBRARIES = ["shim", "arrayvec", "atomic_table", "crossbeam_deque", "oth_book", "counting", "played", "forms"]
 FROM_SHIM = r"std::(?:(?:alloc|thread)::|(?=thread;))"
 
 MAIN = """fn main() {
     match std::env::args().nth(1).as_deref() {
         Some("played") => played::main(),
+        Some("forms") => forms::main(),
         _ => counting::main(),
     }
 }
