@@ -16,12 +16,13 @@
 //! compiler leaves nothing of them.
 //!
 //! `moves`: the root's moves, each legal one once with the board after it, true by the type, in move order; all of the
-//! above narrow what is known of these boards. `bracket`: between which scores a guess seems to lie. `step`: how far a
-//! null window lies below what is known. `value`: the value of a board whose best moves nobody asks for; the other
-//! moves are only asked whether they are better. `scores`: a board's moves with their scores, from the values of the
-//! boards after them.
+//! above narrow what is known of these boards. `glance`: the selective search of the guess. `bracket`: between which
+//! scores a guess seems to lie. `step`: how far a null window lies below what is known. `value`: the value of a board
+//! whose best moves nobody asks for; the other moves are only asked whether they are better. `scores`: a board's moves
+//! with their scores, from the values of the boards after them.
 mod best_moves;
 mod bracket;
+mod glance;
 mod guess;
 mod moves;
 mod observer;
@@ -34,7 +35,7 @@ pub(crate) use best_moves::best_moves;
 pub use best_moves::{
     MOST_EMPTIES, TooManyEmpties, before_pass, ended, solve_alone, solve_moves, solve_with,
 };
-pub use guess::seeming_value;
+pub use glance::seeming_value;
 pub use moves::{RootMove, RootMoves};
 pub use observer::{Observer, Unobserved};
 pub use scores::{ScoredMove, Scores, answer_by, scores_with};

@@ -1,18 +1,19 @@
-//! The first guess of a root's score, by a selective search: few moves at each node. One worker makes it alone; several
-//! make it together, where each takes boards that no other one is at, and hears what the others saw of a board.
+//! The first guess of a root's score: all moves and replies in turn, and each board after a reply by the selective
+//! search of `glance`. One worker makes it alone; several make it together, where each takes boards that no other one is
+//! at, and hears what the others saw of a board.
 ghost use Rattle.std.specs.Prelude.{◌≡◌, ◌<◌, ◌≤◌, ◌≤ℤ◌, pos};
 ghost use Rattle.oth_rules.specs.Laws.{IsScore};
 ghost use Rattle.oth_search.specs.Bounds.Interval.{IsThreshold};
 
 use super::bracket::Bracket;
+use super::glance::seeming_value;
 use super::moves::RootMoves;
 use super::observer::Observer;
 use crate::bounds::{Cells, Interval, Solved, greater, lesser, without};
-use crate::nws::{Node, nws_node};
+use crate::nws::Node;
 use crate::ordering::{Child, next_child, ranked, try_again};
 use crate::tuning::{
-    FEWEST_EMPTIES_GUESS_LOOKED, GUESS_ROUNDS, MANY_PLIES, MOST_EMPTIES_GUESS_LOOKED, MOST_RANKED,
-    TURNS, WIDTH, WIDTH_AT_FIRST, most_empties_in_full,
+    FEWEST_EMPTIES_GUESS_LOOKED, GUESS_ROUNDS, MOST_EMPTIES_GUESS_LOOKED, MOST_RANKED, TURNS,
 };
 use arrayvec::ArrayVec;
 use oth_rules::{Board, Scoring};
@@ -263,106 +264,4 @@ fn glance_after_reply<C: Cells, O: Observer<C>>(
     observer.tell_seen(&board, alpha, found > alpha);
     observer.end(&board);
     found
-}
-
-// How far a glance sees: `plies` plies, and `width` moves of the first board.
-#[derive(Clone, Copy)]
-struct Sight {
-    plies: u8,
-    width: usize,
-}
-
-impl Sight {
-    // The sight from a board after a reply: as many plies as lead to boards of few empty squares, which are searched in
-    // full.
-    fn after_reply(board: &Board) -> Sight {
-        let empties = board.empties();
-        let plies = empties.saturating_sub(most_empties_in_full(empties));
-        Sight {
-            plies,
-            width: if plies >= MANY_PLIES {
-                WIDTH_AT_FIRST
-            } else {
-                WIDTH
-            },
-        }
-    }
-
-    // The sight one ply on.
-    fn below(self) -> Sight
-        requires { 0 < self.plies }
-        ensures { result.plies < self.plies }
-    {
-        Sight {
-            plies: self.plies - 1,
-            width: WIDTH,
-        }
-    }
-}
-
-/// Returns a bound, on its side of `alpha` (-64 to 63), of the value that the board after a reply to a root's move
-/// seems to have, by the selective search. No answer depends on it.
-pub fn seeming_value<C: Cells>(board: Board, alpha: i8, cells: &mut C, scoring: Scoring) -> i8
-    requires { IsThreshold alpha }
-    ensures score { IsScore result }
-    ensures fixed { C.fixed cells.new ≡ C.fixed cells.old }
-{
-    let sight = Sight::after_reply(&board);
-    glance(Node::of(board), alpha, sight, cells, scoring)
-}
-
-// As `seeming_value`, of any node, as far as `sight` goes.
-#[cycle(glancing)]
-fn glance<C: Cells>(node: Node, alpha: i8, sight: Sight, cells: &mut C, scoring: Scoring) -> i8
-    requires { IsThreshold alpha }
-    ensures score { IsScore result }
-    ensures fixed { C.fixed cells.new ≡ C.fixed cells.old }
-{
-    if sight.plies == 0 {
-        return nws_node(node, alpha, cells, scoring);
-    }
-    if node.moves != 0 {
-        return glance_at_moves(node, alpha, sight, cells, scoring);
-    }
-    let passed = Node::of(node.board.pass());
-    if passed.moves != 0 {
-        return -glance_at_moves(passed, -alpha - 1, sight, cells, scoring);
-    }
-    node.board.final_score(scoring)
-}
-
-// As `glance`, of a node whose mover has a move: by the `sight.width` best-ranked moves.
-#[cycle(glancing)]
-fn glance_at_moves<C: Cells>(
-    node: Node,
-    alpha: i8,
-    sight: Sight,
-    cells: &mut C,
-    scoring: Scoring,
-) -> i8
-    requires plies { 0 < sight.plies }
-    requires threshold { IsThreshold alpha }
-    ensures score { IsScore result }
-    ensures fixed { C.fixed cells.new ≡ C.fixed cells.old }
-{
-    let mut ranked: ArrayVec<Child, MOST_RANKED> = ranked(
-        &node,
-        FEWEST_EMPTIES_GUESS_LOOKED,
-        MOST_EMPTIES_GUESS_LOOKED,
-    );
-    let mut best = -64;
-    let mut left = node.moves;
-    for _ in 0..sight.width {
-        if left == 0 {
-            break;
-        }
-        let child = next_child(&node.board, ranked.as_mut_slice(), left);
-        left = without(left, child.square());
-        let reply = -glance(child.node(), -alpha - 1, sight.below(), cells, scoring);
-        if reply > alpha {
-            return reply;
-        }
-        best = greater(best, reply);
-    }
-    best
 }
