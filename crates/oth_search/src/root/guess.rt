@@ -1,6 +1,6 @@
 //! The first guess of a root's score: all moves and replies in turn, and each board after a reply by the selective
-//! search of `glance`. One worker makes it alone; several make it together, where each takes boards that no other one is
-//! at, and hears what the others saw of a board.
+//! search of `glance`. One worker makes it alone; several make it together, where each takes boards that no other one
+//! is at, and hears what the others saw of a board.
 ghost use Rattle.std.specs.Prelude.{◌≡◌, ◌<◌, ◌≤◌, ◌≤ℤ◌, pos};
 ghost use Rattle.oth_rules.specs.Laws.{IsScore};
 ghost use Rattle.oth_search.specs.Bounds.Interval.{IsThreshold};
