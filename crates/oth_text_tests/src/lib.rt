@@ -4,5 +4,3 @@
 
 #[cfg(test)]
 mod tests;
-#[cfg(test)]
-mod turns;
