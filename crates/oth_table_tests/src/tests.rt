@@ -1,20 +1,18 @@
-//! The worked boards at a table, alone and in threads. Under `Winner` A's value is -50, C's and D's are 64.
+//! The worked boards at a table. Under `Winner` A's value is -50, C's and D's are 64.
 //! Under `Discs` A's value is -49.
 
 mod refused;
+mod threads;
 
-ghost use Rattle.std.specs.Prelude.{◌≡◌, ◌+◌, ◌<◌, IfSome};
-ghost use Rattle.std.specs.Thread.{IsSync};
+ghost use Rattle.std.specs.Prelude.{◌≡◌, ◌<◌, IfSome};
 ghost use Rattle.oth_table.specs.SharedTable.{IsSeatOf};
 ghost use Rattle.oth_rules.specs.declared.scoring.Scoring.TheVariants.{Winner};
 
 use oth_rules::{Board, Scoring};
 use oth_search::{Cells, Entry, NoCells, Solved, search};
 use oth_table::{Look, Put, SharedTable, TableCells, TableError, TableSeat};
-use std::alloc::Global;
 use std::process::Abort;
 use std::test::Fail;
-use std::thread::{Threads, join};
 
 // Each board by its own and opposing discs.
 const A: [u64; 2] = [0x8, 0xffff_ffff_ffff_ff74];
@@ -240,151 +238,5 @@ fn gives_each_board_two_cells(rt: HostRuntime) -> Result<(), Fail> {
     check_found(&rt, &mut cells, &d, Scoring::Winner, Some(32896));
     check_found(&rt, &mut cells, &a, Scoring::Winner, Some(3598));
     check_found(&rt, &mut cells, &c, Scoring::Winner, None);
-    Ok(())
-}
-
-// Whether one of the stored boards was found, with bounds that enclose its value, or no entry at all.
-fn is_right(found: &Look) -> bool {
-    match found {
-        Look::Empty => false,
-        Look::Busy => true,
-        Look::Whole(entry) => {
-            let [own, opp, packed] = entry.words();
-            let is_first = own == A[0] && opp == A[1];
-            let is_other = own == C[0] && opp == C[1];
-            is_first && (packed == 3584 || packed == 32782 || packed == 3598)
-                || is_other && packed == 32896
-        }
-    }
-}
-
-// Puts A from above, A from below and C into the cell, and looks there.
-fn makes_a_round(table: &SharedTable, seat: &mut TableSeat, three: &Three) -> bool
-    requires seat { IsSeatOf table.now seat.old }
-    requires cell { 0 < table.now.cells }
-    requires scoring { table.now.terms.scoring ≡ Winner }
-    ensures { IsSeatOf table.now seat.new }
-{
-    table.put(seat, 0, &three.low);
-    table.put(seat, 0, &three.high);
-    table.put(seat, 0, &three.other);
-    is_right(&table.look(seat, 0))
-}
-
-// Whether all these rounds found what is right. The seat is dropped after them.
-fn makes_rounds(table: &SharedTable, mut seat: TableSeat, three: &Three, rounds: u32) -> bool
-    requires seat { IsSeatOf table.now seat }
-    requires cell { 0 < table.now.cells }
-    requires scoring { table.now.terms.scoring ≡ Winner }
-{
-    let mut all_right = true;
-    for _ in 0..rounds {
-        all_right = makes_a_round(table, &mut seat, three) && all_right;
-    }
-    all_right
-}
-
-// The numbers of some threads.
-#[derive(Clone, Copy)]
-struct Numbers {
-    first: u32,
-    count: u32,
-}
-
-// Sixteen threads.
-const ALL: Numbers = Numbers {
-    first: 0,
-    count: 16,
-};
-
-// Rounds by the threads of these numbers at once, each with a seat of its own. Every fourth thread drops its seat in
-// the middle.
-fn crowd<R: Threads + Sync>(
-    rt: &R,
-    alloc: Global,
-    table: &SharedTable,
-    seat: TableSeat,
-    three: &Three,
-    numbers: Numbers,
-) -> bool
-    requires seat { IsSeatOf table.now seat }
-    requires cell { 0 < table.now.cells }
-    requires scoring { table.now.terms.scoring ≡ Winner }
-    requires few { numbers.first + numbers.count < 100 }
-{
-    let mut seat = seat;
-    let Numbers { first, count } = numbers;
-    let rounds = if first % 4 == 3 { 500 } else { 1000 };
-    if count <= 1 {
-        return makes_rounds(table, seat, three, rounds);
-    }
-    let Ok(other) = table.seat(alloc, &mut seat) else {
-        return makes_rounds(table, seat, three, rounds);
-    };
-    let half = count / 2;
-    let left = Numbers { first, count: half };
-    let right = Numbers {
-        first: first + half,
-        count: count - half,
-    };
-    let (first_half, second_half) = join(
-        rt,
-        || -> bool
-            requires sync { IsSync R.row }
-            requires seat { IsSeatOf table.now seat }
-            requires cell { 0 < table.now.cells }
-            requires scoring { table.now.terms.scoring ≡ Winner }
-            requires few { left.first + left.count < 100 }
-        { crowd(rt, alloc, table, seat, three, left) },
-        || -> bool
-            requires sync { IsSync R.row }
-            requires seat { IsSeatOf table.now other }
-            requires cell { 0 < table.now.cells }
-            requires scoring { table.now.terms.scoring ≡ Winner }
-            requires few { right.first + right.count < 100 }
-        { crowd(rt, alloc, table, other, three, right) },
-    );
-    first_half && second_half
-}
-
-#[test]
-fn threads_share_a_cell(rt: HostRuntime) -> Result<(), Fail> {
-    let Ok((table, mut seat)) = SharedTable::new(rt.alloc(), 1, Scoring::Winner) else {
-        panic!(rt; "no table")
-    };
-    let Some(three) = stored_entries() else {
-        panic!(rt; "no entries")
-    };
-    let Ok(other) = table.seat(rt.alloc(), &mut seat) else {
-        panic!(rt; "no seat")
-    };
-    assert!(rt; crowd(&rt, rt.alloc(), &table, other, &three, ALL));
-    check_put(&rt, &table, &mut seat, &three.other, Put::Stored);
-    check_bounds(&rt, &table, &mut seat, C, Some(32896));
-    Ok(())
-}
-
-#[test]
-fn threads_wear_out_a_cell(rt: HostRuntime) -> Result<(), Fail> {
-    let Some(three) = stored_entries() else {
-        panic!(rt; "no entries")
-    };
-    for wear in [1, 2, 3] {
-        let Ok((table, mut seat)) = SharedTable::with_wear(rt.alloc(), 1, wear, Scoring::Winner)
-        else {
-            panic!(rt; "no table")
-        };
-        let Ok(other) = table.seat(rt.alloc(), &mut seat) else {
-            panic!(rt; "no seat")
-        };
-        assert!(rt; crowd(&rt, rt.alloc(), &table, other, &three, ALL));
-        let published = table.published(&mut seat, 0);
-        assert!(rt; published <= wear);
-        if published == wear {
-            check_put(&rt, &table, &mut seat, &three.low, Put::Worn);
-            check_put(&rt, &table, &mut seat, &three.other, Put::Worn);
-            assert!(rt; matches!(table.look(&mut seat, 0), Look::Whole(_)));
-        }
-    }
     Ok(())
 }
