@@ -1,7 +1,9 @@
 -- Lemmas on bounds that enclose a value.
-use Rattle.std.proofs.Common.{true, false, ◌≡◌, ℕ, refl, subst, sym, arith, ◌⊎◌, inl, inr}
+use Rattle.std.proofs.Common.{true, false, ◌≡◌, ℕ, refl, subst, sym, arith, ◌⊎◌, inl, inr, ⊎_elim, ◌∙◌}
 use Rattle.std.specs.Prelude.{◌+ℤ◌, ℤ, pos, negsuc, neg_ℤ, ◌≤ℤ◌, ◌<ℤ◌}
 use Rattle.std.proofs.lemmas.Int.{ints, by_lt_z}
+use Rattle.std.proofs.lemmas.Bool.{false≢true, cases_Bool}
+use Rattle.oth_rules.specs.Square.{has, word_of}
 use Rattle.oth_rules.specs.declared.scoring.Scoring.{Scoring}
 use Rattle.oth_rules.specs.Position.{Position, pass}
 use Rattle.oth_rules.specs.Score.{score_of}
@@ -10,9 +12,11 @@ use Rattle.oth_rules.specs.Symmetry.{canonical, IsCanonical}
 use Rattle.oth_rules.specs.Laws.{IsScore, IsLegal}
 use Rattle.oth_rules.proofs.Canonical.{value-canonical, canonical-canonical}
 use Rattle.oth_rules.proofs.SearchLaws.{IsScore-value, IsScore-score_of, is_over-true, value-over, value-pass, value-move_bound}
-use Rattle.oth_rules.specs.Move.{is_over, after, can_move}
-use Rattle.oth_search.proofs.BoundsLemmas.SquareSets.{Takes}
-use Rattle.oth_search.proofs.BoundsLemmas.Replies.{NoneAbove, NoneAbove-next, NoneAbove-end}
+use Rattle.oth_rules.specs.Move.{is_over, is_legal, after, can_move}
+use Rattle.oth_search.proofs.BoundsLemmas.SquareSets.{Takes, Takes-without, In-none}
+use Rattle.oth_search.specs.Bounds.Squares.{In, Without}
+use Rattle.oth_search.specs.Bounds.Replies.{IsBackedUp}
+use Rattle.oth_search.proofs.BoundsLemmas.Replies.{NoneAbove, NoneAbove-moves, NoneAbove-next, NoneAbove-end}
 use Rattle.oth_search.specs.Bounds.Interval.{BoundsAt, IsInterval, Encloses, Decides}
 
 -- the canonical image has the same value
@@ -143,6 +147,49 @@ MovesLoop-next g p q left s rest lower upper l u a b x y lower' upper' m k is i 
 pub MovesLoop-end : (g : Scoring) (p : Position) (left : ℕ → Type 0) (lower upper : ℤ) → MovesLoop g p left lower upper → ((s : ℕ) → left s → ⊥) → can_move p ≡ true
     → Encloses lower upper (value (score_of g) p)
 MovesLoop-end g p left lower upper m none some = record { below = m.reached; above = NoneAbove-end g p left upper m.replies none some }
+
+-- .. where the squares left are a set
+MovesLoop-from : (g : Scoring) (p : Position) (left : ℕ) (lower upper : ℤ) → IsBackedUp g p left lower upper → MovesLoop g p (In left) lower upper
+MovesLoop-from g p left lower upper b = record {
+  interval = b.interval;
+  reached = b.reached;
+  replies = record {
+    untried = b.legal;
+    tried = λ s legal. ⊎_elim (λ yes. inl (record { on_board = legal.on_board; member = yes })) (λ no. inr (b.at_most s legal no)) (cases_Bool (has left s));
+  };
+}
+
+MovesLoop-to : (g : Scoring) (p : Position) (left : ℕ) (lower upper : ℤ) → MovesLoop g p (In left) lower upper → IsBackedUp g p left lower upper
+MovesLoop-to g p left lower upper m = record {
+  interval = m.interval;
+  legal = m.replies.untried;
+  reached = m.reached;
+  at_most = λ s legal no. ⊎_elim (λ h. absurd (false≢true (sym no ∙ h.member))) (λ bound. bound) (m.replies.tried s legal);
+}
+
+pub IsBackedUp-start : (g : Scoring) (p : Position) (moves : ℕ) → moves ≡ word_of (is_legal p) → IsBackedUp g p moves (negsuc 63) (negsuc 63)
+IsBackedUp-start g p moves e =
+    MovesLoop-to g p moves _ _ (MovesLoop-start g p (In moves) _ _ refl refl (NoneAbove-moves g p moves _ e))
+
+pub IsBackedUp-next : (g : Scoring) (p q : Position) (left s rest : ℕ) (lower upper low high l u a b x y lower' upper' : ℤ) → IsBackedUp g p left lower upper → In left s → Without left s rest
+    → q ≡ after p s → IsInterval l u → Encloses l u (value (score_of g) q) → low ≡ lower → high ≡ upper → a ≡ neg_ℤ u → b ≡ neg_ℤ l → IsGreaterOf low a x → IsGreaterOf high b y
+    → lower' ≡ x → upper' ≡ y → IsBackedUp g p rest lower' upper'
+IsBackedUp-next g p q left s rest lower upper low high l u a b x y lower' upper' m h w is i v el eh e f more most same_low same_high =
+    MovesLoop-to g p rest lower' upper'
+    (MovesLoop-next g p q (In left) s (In rest) lower upper l u a b x y lower' upper' (MovesLoop-from g p left lower upper m) (Takes-without left s rest h w) is i v e f
+    (subst (λ z. IsGreaterOf z a x) el more) (subst (λ z. IsGreaterOf z b y) eh most) same_low same_high)
+
+-- once no move is left
+pub IsBackedUp-end : (g : Scoring) (p : Position) (left : ℕ) (lower upper low high : ℤ) → IsBackedUp g p left lower upper → can_move p ≡ true → left ≡ 0 → low ≡ lower → high ≡ upper
+    → Encloses low high (value (score_of g) p)
+IsBackedUp-end g p left lower upper low high m some none e f =
+    let bounds = MovesLoop-end g p (In left) lower upper (MovesLoop-from g p left lower upper m) (In-none left none) some in
+    record { below = omega (arith, ints, bounds.below); above = omega (arith, ints, bounds.above) }
+
+-- before that
+pub IsBackedUp-so_far : (g : Scoring) (p : Position) (left : ℕ) (lower upper low high : ℤ) → IsBackedUp g p left lower upper → low ≡ lower → high ≡ pos 64
+    → Encloses low high (value (score_of g) p)
+IsBackedUp-so_far g p left lower upper low high m e f = record { below = omega (arith, ints, m.reached); above = omega (arith, ints, (IsScore-value g p).high) }
 
 pub same_scoring : (g f : Scoring) (p : Position) (lower upper : ℤ) → f ≡ g → Encloses lower upper (value (score_of f) p) → Encloses lower upper (value (score_of g) p)
 same_scoring g f p lower upper e h = rw e at h

@@ -1,11 +1,79 @@
 //! Backed-up bounds: those of a board by those of boards below it.
-ghost use Rattle.std.specs.Prelude.{◌≡◌, true};
-ghost use Rattle.oth_rules.specs.Move.{can_move};
+ghost use Rattle.std.specs.Prelude.{◌≡◌, ◌<◌, ◌≤ℤ◌, ◌⊎◌, neg_ℤ, true};
+ghost use Rattle.oth_rules.specs.Move.{can_move, after};
+ghost use Rattle.oth_search.specs.Bounds.Squares.{In, Without};
+ghost use Rattle.oth_search.specs.Bounds.Replies.{IsBackedUp};
 
-use super::interval::{Interval, greater};
+use super::interval::greater;
 use super::solved::Solved;
 use super::square_set::{first, without};
-use oth_rules::{Board, Scoring};
+use oth_rules::{Board, Scoring, Square};
+
+/// A board with the bounds that its moves give it, taken in one by one. No untrue bounds can be made: whoever makes
+/// them proves the ghost field.
+#[derive(Clone, Copy)]
+pub struct BackedUp {
+    pub board: Board,
+    pub scoring: Scoring,
+    /// The moves that are not taken in yet.
+    pub left: u64,
+    /// The greatest lower bound and the greatest upper bound that the others give, -64 where there is none.
+    pub lower: i8,
+    pub upper: i8,
+    pub ghost can_move: { can_move board ≡ true },
+    pub ghost backed_up: { IsBackedUp scoring board left lower upper },
+}
+
+impl BackedUp {
+    /// A board whose mover has a move, before any is taken in.
+    pub fn of(board: Board, scoring: Scoring) -> BackedUp
+        requires { can_move board ≡ true }
+        ensures board { result.board ≡ board }
+        ensures scoring { result.scoring ≡ scoring }
+    {
+        BackedUp {
+            board,
+            scoring,
+            left: board.moves(),
+            lower: -64,
+            upper: -64,
+        }
+    }
+
+    /// Takes in a move: `reply` has the bounds of the board after it.
+    pub fn with(self, square: Square, reply: &Solved) -> BackedUp
+        requires left { In self.left square }
+        requires board { reply.now.board ≡ after self.board square }
+        requires scoring { reply.now.scoring ≡ self.scoring }
+        ensures board { result.board ≡ self.board }
+        ensures scoring { result.scoring ≡ self.scoring }
+        ensures left { Without self.left square result.left }
+        ensures fewer { result.left < self.left }
+        ensures lower { (self.lower ≤ℤ result.lower) × (neg_ℤ reply.now.interval.upper ≤ℤ result.lower) }
+        ensures upper { (result.upper ≡ self.upper) ⊎ (result.upper ≡ neg_ℤ reply.now.interval.lower) }
+    {
+        BackedUp {
+            board: self.board,
+            scoring: self.scoring,
+            left: without(self.left, square),
+            lower: greater(self.lower, -reply.interval.upper),
+            upper: greater(self.upper, -reply.interval.lower),
+        }
+    }
+
+    /// The board with these bounds. While a move is left, any score may be the greatest.
+    pub fn solved(self) -> Solved
+        ensures board { result.board ≡ self.board }
+        ensures scoring { result.scoring ≡ self.scoring }
+        ensures lower { result.interval.lower ≡ self.lower }
+        ensures upper { self.left ≡ 0 → result.interval.upper ≡ self.upper }
+    {
+        if self.left != 0 {
+            return Solved::between(self.board, self.scoring, self.lower, 64);
+        }
+        Solved::between(self.board, self.scoring, self.lower, self.upper)
+    }
+}
 
 /// The bounds of `board` that stand in `known`, under this scoring: the first ones, or all scores if there are none.
 pub fn known_of(board: Board, known: &[Solved], scoring: Scoring) -> Solved
@@ -46,20 +114,12 @@ fn known_by_moves(board: Board, plies: u8, known: &[Solved], scoring: Scoring) -
     if plies == 0 {
         return known_of(board, known, scoring);
     }
-    let mut lower = -64;
-    let mut upper = -64;
-    let mut rest = board.moves();
-    while rest != 0 {
-        let square = first(rest);
-        rest = without(rest, square);
-        let child = board.play_legal(square);
-        let reply = known_below(child, plies - 1, known, scoring).interval;
-        lower = greater(lower, -reply.upper);
-        upper = greater(upper, -reply.lower);
+    let mut backed_up = BackedUp::of(board, scoring);
+    while backed_up.left != 0 {
+        let square = first(backed_up.left);
+        let child = backed_up.board.play_legal(square);
+        let reply = known_below(child, plies - 1, known, scoring);
+        backed_up = backed_up.with(square, &reply);
     }
-    Solved {
-        board,
-        scoring,
-        interval: Interval { lower, upper },
-    }
+    backed_up.solved()
 }

@@ -1,22 +1,19 @@
 //! The shared search: null windows over a tree that several workers search, with the hooks of `Company` at each node. A
 //! child that another worker is at is deferred, as in ABDADA (J.-C. Weill, The ABDADA distributed minimax search
 //! algorithm, 1996), and a search that is of no more use is given up.
-ghost use Rattle.std.specs.Prelude.{◌≡◌, pos, negsuc, ◌≤ℤ◌, false};
-ghost use Rattle.oth_rules.specs.Move.{can_move};
+ghost use Rattle.std.specs.Prelude.{◌≡◌, pos, negsuc, ◌≤ℤ◌, true, false};
+ghost use Rattle.oth_rules.specs.Move.{can_move, after};
+ghost use Rattle.oth_search.specs.Bounds.Squares.{In};
 
 use super::company::Company;
-use crate::bounds::{Cells, Entry, Interval, NullWindow, Solved, first, known_below, without};
+use crate::bounds::{BackedUp, Cells, Entry, Interval, NullWindow, Solved, first, holds, without};
 use crate::root::MOST_EMPTIES;
 use crate::tuning::{LAST_MOVE_ROUND, MOVE_ROUNDS};
-use arrayvec::ArrayVec;
-use oth_rules::{Board, Scoring, Square};
-
-// Room for the children of a node: a board of at most 30 empty squares has no more moves.
-const MOST_CHILDREN: usize = 32;
+use oth_rules::{Board, Square};
 
 impl Solved {
     /// The board with closer bounds, by a shared search of its moves, which takes no memory. They decide the window
-    /// unless the search is given up, or a board below has more than 32 moves, which none of 30 empty squares has.
+    /// unless the search is given up.
     pub fn narrowed_in<C: Cells, H: Company<C>>(
         &self,
         window: NullWindow,
@@ -97,63 +94,34 @@ fn narrow_past<C: Cells, H: Company<C>>(
 // A board while its moves are searched.
 #[derive(Drop)]
 struct Node {
-    board: Board,
-    scoring: Scoring,
     window: NullWindow,
-    // How many moves are searched even if another worker is at them, and whether later ones may be deferred.
+    // How many more moves are searched even if another worker is at them, and whether later ones may be deferred.
     together: usize,
     leaves: bool,
-    // The moves searched so far, the first of the best among them, and the score that it gives.
-    searched: u64,
-    best: Square,
-    score: i8,
-    // The bounds of the boards after them, or of the boards after a forced pass there.
-    children: ArrayVec<Solved, MOST_CHILDREN>,
+    // What the moves searched so far tell, and the first of the best among them.
+    searched: BackedUp,
+    best: Option<Square>,
 }
 
 impl Node {
-    // The node of a board whose moves are about to be searched.
-    fn of(asked: &Solved, window: NullWindow, together: usize) -> Node
-        ensures board { result.board ≡ asked.now.board }
-        ensures scoring { result.scoring ≡ asked.now.scoring }
-    {
-        Node {
-            board: asked.board,
-            scoring: asked.scoring,
-            window,
-            together,
-            leaves: true,
-            searched: 0,
-            best: Square::numbered(0),
-            score: -65,
-            children: ArrayVec::new(),
-        }
-    }
-
     // Whether the search of this child may be deferred.
     fn may_leave(&self, child: &Board, fewest: u8) -> bool {
-        self.leaves && (child.empties() < fewest || self.children.len() >= self.together)
+        self.leaves && (child.empties() < fewest || self.together == 0)
     }
 
     // Takes in the bounds of the board after a move.
-    fn take(&mut self, square: Square, solved: Solved)
-        ensures board { self.new.board ≡ self.old.board }
-        ensures scoring { self.new.scoring ≡ self.old.scoring }
+    fn take(&mut self, square: Square, reply: &Solved)
+        requires left { In self.old.searched.left square }
+        requires board { reply.now.board ≡ after self.old.searched.board square }
+        requires scoring { reply.now.scoring ≡ self.old.searched.scoring }
+        ensures board { self.new.searched.board ≡ self.old.searched.board }
+        ensures scoring { self.new.searched.scoring ≡ self.old.searched.scoring }
     {
-        let score = -upper_of(&solved);
-        if score > self.score {
-            self.score = score;
-            self.best = square;
+        if self.best.is_none() || -upper_of(reply) > self.searched.lower {
+            self.best = Some(square);
         }
-        let _ = self.children.try_push(solved.awake());
-    }
-
-    // The board, with all scores as its bounds.
-    fn unknown(&self) -> Solved
-        ensures board { result.board ≡ self.now.board }
-        ensures scoring { result.scoring ≡ self.now.scoring }
-    {
-        Solved::unknown(self.board, self.scoring)
+        self.together = self.together.saturating_sub(1);
+        self.searched = self.searched.with(square, reply);
     }
 }
 
@@ -166,27 +134,34 @@ fn narrow_moves<C: Cells, H: Company<C>>(
     cells: &mut C,
     company: &mut H,
 ) -> Solved
+    requires { can_move asked.now.board ≡ true }
     ensures board { result.board ≡ asked.now.board }
     ensures scoring { result.scoring ≡ asked.now.scoring }
     ensures fixed { C.fixed cells.new ≡ C.fixed cells.old }
 {
-    let board = asked.board;
     if let Some(found) = decided_by_child(asked, window, cells) {
         return asked.joined(&found);
     }
-    let squares = company.order(&board);
-    let together = company.together(board.empties());
-    let mut node = Node::of(asked, window, together);
+    let squares = company.order(&asked.board);
+    let mut node = Node {
+        window,
+        together: company.together(asked.board.empties()),
+        leaves: true,
+        searched: BackedUp::of(asked.board, asked.scoring),
+        best: None,
+    };
     for round in 0..MOVE_ROUNDS {
         node.leaves = round < LAST_MOVE_ROUND;
         if let Some(found) = visit_all(&mut node, squares.as_slice(), plies, cells, company) {
             return asked.joined(&found);
         }
     }
-    let solved = known_below(board, 1, node.children.as_slice(), asked.scoring);
+    let solved = node.searched.solved();
     put(&solved, cells);
-    if solved.interval.lower == solved.interval.upper {
-        company.prefer(&board, node.best);
+    if let Some(best) = node.best {
+        if solved.interval.lower == solved.interval.upper {
+            company.prefer(&solved.board, best);
+        }
     }
     solved
 }
@@ -218,14 +193,14 @@ fn visit_all<C: Cells, H: Company<C>>(
     cells: &mut C,
     company: &mut H,
 ) -> Option<Solved>
+    ensures board { node.new.searched.board ≡ node.old.searched.board }
+    ensures scoring { node.new.searched.scoring ≡ node.old.searched.scoring }
     ensures fixed { C.fixed cells.new ≡ C.fixed cells.old }
 {
     for square in squares {
-        if node.searched & square.word() == 0 {
-            let found = visit(node, *square, plies, cells, company);
-            if found.is_some() {
-                return found;
-            }
+        let found = visit(node, *square, plies, cells, company);
+        if found.is_some() {
+            return found;
         }
     }
     None
@@ -241,24 +216,29 @@ fn visit<C: Cells, H: Company<C>>(
     cells: &mut C,
     company: &mut H,
 ) -> Option<Solved>
+    ensures board { node.new.searched.board ≡ node.old.searched.board }
+    ensures scoring { node.new.searched.scoring ≡ node.old.searched.scoring }
     ensures fixed { C.fixed cells.new ≡ C.fixed cells.old }
 {
-    let child = node.board.play(square)?;
+    if !holds(node.searched.left, square) {
+        return None;
+    }
+    let BackedUp { board, scoring, .. } = node.searched;
+    let child = board.play_legal(square);
     if node.may_leave(&child, company.fewest()) && company.is_left(&child) {
         return None;
     }
     company.begin(&child);
-    let asked = Solved::unknown(child, node.scoring);
+    let asked = Solved::unknown(child, scoring);
     let solved = narrow(&asked, node.window.turned(), plies, cells, company);
     company.end(&solved);
-    node.searched |= square.word();
     if node.window.is_reached(-upper_of(&solved)) {
-        company.prefer(&node.board, square);
-        return Some(lifted(&node.board, square, &solved, cells));
+        company.prefer(&board, square);
+        return Some(lifted(&board, square, &solved, cells));
     }
-    node.take(square, solved);
+    node.take(square, &solved);
     if company.gives_up(&child, cells) {
-        return Some(node.unknown());
+        return Some(Solved::unknown(board, scoring));
     }
     None
 }

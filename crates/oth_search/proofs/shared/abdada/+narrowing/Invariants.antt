@@ -17,7 +17,15 @@ abbrev pub decreases-visit : goal.decreases-visit
 decreases-visit g l = 5 * l.plies + 2
 
 abbrev pub invariant-narrow_moves-loop-round : goal.invariant-narrow_moves-loop-round
-invariant-narrow_moves-loop-round g l = g.C.Cells.fixed l.cells ≡ g.C.Cells.fixed l.fn.cells
+invariant-narrow_moves-loop-round g l = record {
+  board : l.node.searched.board ≡ l.fn.asked.board;
+  scoring : l.node.searched.scoring ≡ l.fn.asked.scoring;
+  fixed : g.C.Cells.fixed l.cells ≡ g.C.Cells.fixed l.fn.cells;
+}
 
 abbrev pub invariant-visit_all-loop-square : goal.invariant-visit_all-loop-square
-invariant-visit_all-loop-square g l = g.C.Cells.fixed l.cells ≡ g.C.Cells.fixed l.fn.cells
+invariant-visit_all-loop-square g l = record {
+  board : l.node.searched.board ≡ l.fn.node.searched.board;
+  scoring : l.node.searched.scoring ≡ l.fn.node.searched.scoring;
+  fixed : g.C.Cells.fixed l.cells ≡ g.C.Cells.fixed l.fn.cells;
+}
