@@ -11,6 +11,10 @@ pub const MOST_EMPTIES_FOR_ONE: u8 = 18;
 /// Units of some 40 nanoseconds: the work that pays for a further thread, which takes some 0.3 milliseconds to start.
 pub(crate) const EFFORT_OF_A_THREAD: u64 = 1 << 13;
 
+/// Units of some 40 nanoseconds: a board that takes more isn't begun by a worker that waits for the answer of another
+/// one, which would come as much later.
+pub(crate) const EFFORT_IN_PASSING: u64 = 1 << 15;
+
 /// Empty squares: the scores of all moves of a board take about as long as the answer of a board with this many more.
 pub(crate) const EMPTIES_FOR_SCORES: u8 = 2;
 
