@@ -132,6 +132,17 @@ ReplyLoop-takes g p alpha left s rest best r l k b within better =
     let gives = b.fails_low within in
     record { score = b.score; low = within; replies = NoneAbove-next g p left s rest best r l.replies k (omega (arith, ints)) gives }
 
+-- .. or the greater of the best and such a reply does
+pub ReplyLoop-greater : (g : Scoring) (p : Position) (alpha : ℤ) (left : ℕ → Type 0) (s : ℕ) (rest : ℕ → Type 0) (best r z next : ℤ) → ReplyLoop g p alpha left best → Takes left s rest
+    → BoundsAt (neg_ℤ (value (score_of g) (after p s))) alpha r → r ≤ℤ alpha → best ≤ℤ z → r ≤ℤ z → (z ≡ best) ⊎ (z ≡ r) → next ≡ z → ReplyLoop g p alpha rest next
+ReplyLoop-greater g p alpha left s rest best r z next l k b within above better one is =
+    let gives = b.fails_low within in
+    record {
+      score = subst IsScore (sym is) (⊎_elim (λ e. subst IsScore (sym e) l.score) (λ e. subst IsScore (sym e) b.score) one);
+      low = ⊎_elim (λ e. omega (arith, ints, e, is, l.low)) (λ e. omega (arith, ints, e, is, within)) one;
+      replies = NoneAbove-next g p left s rest best next l.replies k (omega (arith, ints, is, above)) (omega (arith, ints, is, gives, better));
+    }
+
 pub ReplyLoop-end : (g : Scoring) (p : Position) (alpha beta : ℤ) (left : ℕ → Type 0) (best : ℤ) → ReplyLoop g p beta left best → beta ≡ alpha → ((s : ℕ) → left s → ⊥)
     → can_move p ≡ true → BoundsAt (value (score_of g) p) alpha best
 ReplyLoop-end g p alpha beta left best l e none some =

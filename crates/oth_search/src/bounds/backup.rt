@@ -1,6 +1,7 @@
 //! Backed-up bounds: those of a board by those of boards below it.
-ghost use Rattle.std.specs.Prelude.{◌≡◌, ◌<◌, ◌≤ℤ◌, ◌⊎◌, neg_ℤ, true};
-ghost use Rattle.oth_rules.specs.Move.{can_move, after};
+ghost use Rattle.std.specs.Prelude.{◌≡◌, ◌<◌, ◌≤ℤ◌, ◌⊎◌, neg_ℤ, pos, true};
+ghost use Rattle.oth_rules.specs.Square.{word_of};
+ghost use Rattle.oth_rules.specs.Move.{is_legal, can_move, after};
 ghost use Rattle.oth_search.specs.Bounds.Squares.{In, Without};
 ghost use Rattle.oth_search.specs.Bounds.Replies.{IsBackedUp};
 
@@ -30,6 +31,8 @@ impl BackedUp {
         requires { can_move board ≡ true }
         ensures board { result.board ≡ board }
         ensures scoring { result.scoring ≡ scoring }
+        ensures left { result.left ≡ word_of (is_legal board) }
+        ensures bounds { (result.lower ≡ neg_ℤ (pos 64)) × (result.upper ≡ neg_ℤ (pos 64)) }
     {
         BackedUp {
             board,

@@ -9,9 +9,10 @@ ghost use Rattle.oth_search.specs.Ordering.Children.{IsChild};
 
 use super::deep::{most_at, nws_node, recorded_above};
 use super::node::Node;
-use crate::bounds::{Cells, without};
+use super::shallow::nws;
+use crate::bounds::{Cells, greater, odd_quadrants, preferred, without};
 use crate::ordering::{Child, next_child, ranked};
-use crate::tuning::{FEWEST_EMPTIES_LOOKED, FEWEST_EMPTIES_RECORDED};
+use crate::tuning::{FEWEST_EMPTIES_LOOKED, FEWEST_EMPTIES_ORDERED, FEWEST_EMPTIES_RECORDED};
 use arrayvec::ArrayVec;
 use oth_rules::{Board, Scoring};
 
@@ -60,6 +61,9 @@ fn nws_heard_moves<C: Cells, H: Hearer>(
     ensures value { BoundsAt (value (score_of scoring) node.board) alpha result }
     ensures fixed { C.fixed cells.new ≡ C.fixed cells.old }
 {
+    if node.board.empties() < FEWEST_EMPTIES_ORDERED {
+        return nws_heard_few(node, alpha, scoring, hearer);
+    }
     let mut list: ArrayVec<Child, 32> = ranked(&node, FEWEST_EMPTIES_LOOKED, 64);
     if let Some(found) = cutoff(&node.board, list.as_slice(), alpha, cells, scoring) {
         return found;
@@ -78,6 +82,31 @@ fn nws_heard_moves<C: Cells, H: Hearer>(
         if reply > best {
             best = reply;
         }
+    }
+    best
+}
+
+// As `nws_heard_moves`, of a board of few empty squares, where a list of ranked children costs more than it saves: odd
+// quadrants first.
+fn nws_heard_few<H: Hearer>(node: Node, alpha: i8, scoring: Scoring, hearer: &mut H) -> i8
+    requires threshold { IsThreshold alpha }
+    requires some { can_move node.board ≡ true }
+    ensures { BoundsAt (value (score_of scoring) node.board) alpha result }
+{
+    let odd = odd_quadrants(node.board.empty_squares());
+    let mut best = -64;
+    let mut left = node.moves;
+    while left != 0 {
+        let square = preferred(left, odd);
+        left = without(left, square);
+        let child = node.board.play_legal(square);
+        hearer.begin(&child);
+        let reply = -nws(child, -alpha - 1, scoring);
+        hearer.end(&child);
+        if reply > alpha {
+            return reply;
+        }
+        best = greater(best, reply);
     }
     best
 }
