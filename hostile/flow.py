@@ -29,6 +29,15 @@ FIRST = 1 / 4
 SILENCE = 1 / 2
 # Of the time until a run is ended.
 STANDSTILL = 1 / 2
+# Of the whole time, for an answer that nothing but longer searches of later lines could hold up.
+SOON = 1 / 3
+# Lines of 14 and three times 18 empty squares: alone, the third takes ten times as long as the second, and the last three times.
+UNEQUAL = b"""\
+O-OXO-X-OOXXXOO-OXXXXXOX--XXOOXXXXXXOOXXOOOOXOX--X-OOO--X-XOOO-- X
+-O-OX----OOXOXO--OOOOOX--OOOOXOXXOOOOOOXXXOXOOOXXXX-OO--XX--O--- X
+OO-OX---O--O-OXOOOX-OO-OO--OOOXOXO-O-XXXXO---XXOOXOOXOXO--OOOXXO X
+OOOO-OOOXO-----XO--OXOOO-OO-OOXOOOO--OOOOOO-OXOO-XX--OOOOO-OOO-O X
+"""
 # A busy machine may stop a run for a while, but hardly each one.
 TRIES = 3
 
@@ -87,6 +96,18 @@ def flow_wrong(words, given, wanted):
         if flow.first <= FIRST * flow.whole and flow.silence <= SILENCE * flow.whole:
             return None
     return flow.figures()
+
+
+def held_up(words, given, wanted):
+    """Tells whether the second answer waits for those behind it."""
+    for _ in range(TRIES):
+        flow = Flow(words, given)
+        if flow.status != 0 or flow.wrote != wanted:
+            return f"status {flow.status}, wrote {flow.wrote!r}"
+        second = flow.moments[2] if len(flow.moments) > 2 else flow.whole
+        if second <= SOON * flow.whole:
+            return None
+    return f"the second answer after {second:.2f} s of {flow.whole:.2f}"
 
 
 class Ended:
@@ -168,6 +189,10 @@ def steps(program):
     for workers in WORKERS:
         words = [program, "solve", "--workers", str(workers)]
         yield f"{BOARDS} answers by {workers} workers come as they are ready", flow_wrong(words, given, alone.wrote)
+    wanted = Flow([program, "solve"], UNEQUAL).wrote
+    for workers in (2, 4):
+        words = [program, "solve", "--workers", str(workers)]
+        yield f"an answer by {workers} workers does not wait for longer searches of later lines", held_up(words, UNEQUAL, wanted)
     for workers in (1, 4):
         words = [program, "solve", "--workers", str(workers)]
         whole = alone.whole if workers == 1 else Flow(words, given).whole
