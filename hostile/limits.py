@@ -29,7 +29,7 @@ LARGE_SECONDS = 2
 COARSE_MEMORY = sorted((*range(4000, 40001, 4000), 10500, 11500, 19000, 20500, 28500, 29000, 36500, 37000))
 FINE_MEMORY = range(4000, 40001, 500)
 STACKS = (128, 192, 256, 320, 384, 448, 512, 768, 1024)
-LARGE_STACK = 224
+LARGE_STACK = 192
 # The environment lies on the stack: one of a usual size, in bytes.
 ENVIRONMENT = {"USUAL": "x" * 16_000}
 USUAL_STACK = 8192
