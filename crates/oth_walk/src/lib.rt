@@ -24,7 +24,7 @@ mod tuning;
 mod worker;
 
 pub use access::{WorkerCells, worker_cells};
-pub use announcing::{Alone, Announced, Announcer, Gate, ItemSet, Open};
+pub use announcing::{Alone, Announced, Announcer, Gate, ItemSet, Open, claim};
 pub use drawn::{search_item, settle_all};
 pub use hints::{HintSeat, Hints};
 pub use move_bounds::{BoundsSeat, MoveBounds};
