@@ -7,9 +7,10 @@ use arrayvec::ArrayVec;
 use oth_book::Book;
 use oth_rules::{Board, Scoring};
 use oth_search::{MOST_EMPTIES, RootMoves, Solved};
-use std::sync::atomic::{AtomicU64, Ordering};
+use oth_walk::claim;
+use std::sync::atomic::AtomicU64;
 
-/// Boards with their bounds, and the place of the next one to take.
+/// Boards with their bounds, and a word in which the bit of each one's place says whether it is taken.
 #[derive(Drop)]
 pub(crate) struct Queue {
     boards: ArrayVec<Solved, 64>,
@@ -35,8 +36,12 @@ impl Queue {
     pub fn take(&self) -> Option<Solved>
         ensures few { IfSome result (λ s. IsSolvable s.board) }
     {
-        let place = self.taken.fetch_add(1, Ordering::SeqCst);
-        self.board(place as usize)
+        for place in 0..self.boards.len() {
+            if claim(&self.taken, 1 << place) {
+                return self.board(place);
+            }
+        }
+        None
     }
 
     // The board at `place`, if there is one and it has at most 30 empty squares.

@@ -12,12 +12,13 @@ ghost use Rattle.oth_pool.specs.Working.{Holds, HasLists, AreGathered, IsReplyOf
 use crate::draw_order::ranks;
 use crate::work::{Job, Work};
 use crate::workers::work_all;
+use oth_pieces::floor::Root;
 use oth_pieces::{Drawn, Floor, FloorSeat, Frontier, Hand, Reply, Tasks};
 use oth_search::{Cells, RootMove, RootMoves, Solved};
 use oth_table::TableCells;
 use oth_walk::{
-    Announced, Announcer, Gate, HintSeat, Hints, RootBound, Search, Seats, Sharing, Worker,
-    WorkerCells, orders_for, worker_cells,
+    Announced, Announcer, BoundsSeat, Gate, HintSeat, Hints, MoveBounds, RootBound, Search, Seats,
+    Sharing, Worker, WorkerCells, orders_for, worker_cells,
 };
 use std::alloc::Global;
 use std::thread::Threads;
@@ -43,6 +44,7 @@ pub(crate) struct Means<'m, R, G> {
 pub(crate) struct Links<'s> {
     pub floor: &'s Floor,
     pub hints: &'s Option<Hints>,
+    pub bounds: &'s Option<MoveBounds>,
     pub announced: &'s Announced,
 }
 
@@ -68,7 +70,7 @@ pub fn run_workers<'t, R: Threads + Sync, G: Gate>(
 {
     let root = Solved::unknown(floor.board(), floor.scoring());
     let moves = RootMoves::of(&root, &[]);
-    let sharing = Sharing::of_several(table.is_some());
+    let sharing = Sharing::of_several(table);
     let search = Search::of(&moves, frontier, sharing);
     let means = Means {
         rt,
@@ -77,10 +79,12 @@ pub fn run_workers<'t, R: Threads + Sync, G: Gate>(
         workers,
     };
     let hints = hints_for(&means, &search);
+    let bounds = bounds_for(&means, &root);
     let announced = Announced::of(&root.board, Some(frontier), gate);
     let links = Links {
         floor,
         hints: &hints,
+        bounds: &bounds,
         announced: &announced,
     };
     let gathered = run(&means, &search, links, seat, table).0;
@@ -151,6 +155,19 @@ pub(crate) fn hints_for<R, G>(means: &Means<R, G>, search: &Search) -> Option<Hi
     Hints::new(means.alloc, orders_for(search.moves.root().board.empties()))
 }
 
+/// Makes the list of bounds of the root's moves that several workers share. None where there is one worker, which needs
+/// none, or no memory.
+pub(crate) fn bounds_for<R, G>(means: &Means<R, G>, root: &Solved) -> Option<MoveBounds> {
+    if means.workers == 1 {
+        return None;
+    }
+    let root = Root {
+        board: root.board,
+        scoring: root.scoring,
+    };
+    MoveBounds::new(means.alloc, root)
+}
+
 // What is gathered where nobody drew anything: all items are left.
 #[inline(never)]
 fn nothing(alloc: Global, search: &Search) -> (Gathered, Vec<RootMove>)
@@ -191,6 +208,7 @@ fn workers_of<'w, 't, R, G: Gate>(
         let seats = Seats {
             root_bound,
             hints: HintSeat::of(links.hints),
+            bounds: BoundsSeat::of(links.bounds),
             announcer: Announcer::of(links.announced),
         };
         let cells = worker_cells(alloc, empties, search.shape.sharing, table);

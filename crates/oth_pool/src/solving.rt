@@ -9,7 +9,7 @@ ghost use Rattle.oth_pieces.specs.History.{floor_after};
 ghost use Rattle.oth_pieces.specs.Watch.{IsSeatOf};
 
 use crate::book_lookup::{answer_in, bounds_in};
-use crate::run::{Gathered, Links, Means, hints_for, room_for, run};
+use crate::run::{Gathered, Links, Means, bounds_for, hints_for, room_for, run};
 use crate::tuning::{FEWEST_EMPTIES_CREWED, cells_for};
 use oth_book::Book;
 use oth_pieces::{Floor, FloorSeat, Frontier, is_crew};
@@ -19,8 +19,8 @@ use oth_search::{
 };
 use oth_table::{SharedTable, TableCells, is_size};
 use oth_walk::{
-    Alone, Announced, Announcer, Gate, HintSeat, RootBound, Search, Seats, Sharing, Worker,
-    search_item, worker_cells,
+    Alone, Announced, Announcer, BoundsSeat, Gate, HintSeat, RootBound, Search, Seats, Sharing,
+    Worker, search_item, worker_cells,
 };
 use std::alloc::Global;
 use std::thread::Threads;
@@ -203,14 +203,16 @@ fn answer_together<'t, R: Threads + Sync, G: Gate>(
     let alloc = means.alloc;
     let frontier = frontier_of(alloc, &by_book.board)?;
     let mut moves = RootMoves::of(by_book, &[]);
-    let sharing = Sharing::of_several(access.is_some());
+    let sharing = Sharing::of_several(access);
     let search = Search::of(&moves, &frontier, sharing);
     let (floor, mut seat) = raised_floor(alloc, by_book)?;
     let hints = hints_for(means, &search);
+    let bounds = bounds_for(means, by_book);
     let announced = Announced::of(&by_book.board, Some(&*frontier), means.gate);
     let links = Links {
         floor: &floor,
         hints: &hints,
+        bounds: &bounds,
         announced: &announced,
     };
     let means = Means {
@@ -225,6 +227,7 @@ fn answer_together<'t, R: Threads + Sync, G: Gate>(
     let seats = Seats {
         root_bound: RootBound::of(&floor, seat),
         hints: HintSeat::none(),
+        bounds: BoundsSeat::none(),
         announcer: Announcer::of(&announced),
     };
     let mut worker = Worker::of(&search, alloc, cells, seats, means.gate);

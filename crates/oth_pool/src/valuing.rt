@@ -86,7 +86,7 @@ fn cells_of<'t, R, G>(
     let sharing = if means.workers == 1 {
         Sharing::Alone
     } else {
-        Sharing::of_several(access.is_some())
+        Sharing::of_several(access)
     };
     worker_cells(means.alloc, empties, sharing, access)
 }

@@ -66,8 +66,8 @@ impl<'a> TableCells<'a> {
         Some(TableCells::of(self.table, seat))
     }
 
-    // The number of the table's cells.
-    fn count(&self) -> u32
+    /// The number of the table's cells.
+    pub fn count(&self) -> u32
         ensures count { result ≡ self.now.table.cells }
         ensures lawful { IsSize result }
         ensures some { 0 < result }

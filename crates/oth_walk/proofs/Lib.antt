@@ -1,1 +1,2 @@
 pub mod Lendings
+pub mod Truths

@@ -13,4 +13,4 @@ pub use alone::Alone;
 pub use announced::Announced;
 pub use announcer::Announcer;
 pub use gate::{Gate, Open};
-pub use item_set::ItemSet;
+pub use item_set::{ItemSet, claim};

@@ -4,10 +4,10 @@
 //!
 //! Until the root has a floor a worker helps to find one (`lead`). Then it helps with the root's first move until
 //! that is settled, searches the first reply (the elder brother) if its item isn't that one, then its item with a
-//! null window at the floor, and then what is left open of the move (`settle_at`). Without a table nothing could be
-//! looked up, so a worker takes the item's whole move of the root, unless another one is at it; until there is a
-//! floor it asks the move just once for what the root seems to reach (`Worker::ask`), so that none but a move that
-//! may reach it is searched to its value.
+//! null window at the floor, and then what is left open of the move (`settle_at`). Without a table, or over a
+//! small one, nothing could be looked up, so a worker takes the item's whole move of the root, unless another one is at
+//! it; until there is a floor it asks the move just once for what the root seems to reach (`Worker::ask`), so that none
+//! but a move that may reach it is searched to its value.
 ghost use Rattle.std.specs.Prelude.{◌≡◌};
 
 use crate::announcing::Gate;
@@ -73,11 +73,11 @@ fn is_move(item: &Item, root_move: &RootMove) -> bool {
     item.board == awake(root_move.child.board).0
 }
 
-// Where workers share no table: takes the whole move, unless another worker has it, from whom nothing could be learnt
+// Takes the whole move, unless another worker has it, from whom nothing could be learnt
 // on the way. Before there is a floor it asks once at the guess, and goes on only if the move may reach it.
 fn settle_alone<G: Gate, C: Cells>(square: Square, worker: &mut Worker<C, G>) {
     let place = worker.moves.place_of(square);
-    let Some(root_move) = worker.moves.get(place) else {
+    let Some(root_move) = worker.heard(place) else {
         return;
     };
     if worker.peers.hints.is_searched(&root_move.child.board) {

@@ -2,11 +2,11 @@
 //! the root's moves, and while it searches below one of these. A node that another worker is at is deferred, as in
 //! ABDADA (Weill, The ABDADA distributed minimax-search algorithm, 1996).
 //!
-//! To the root driver they are the `Observer`: it knows a reply by the table, the best value by the floor, and by the
-//! hints which moves are settled, which boards somebody is at, and what they seem to have. What is found goes into
-//! the table, and the floor rises by what a move of the root then tells of it. From 14 empty squares on workers over
-//! a table make the first guess together, and the first that is done tells it; below, that guess is a draw. Without a
-//! table each worker guesses by itself.
+//! To the root driver they are the `Observer`: it knows a reply by the table, the best value by the floor, by bounds
+//! that workers tell each other which moves are settled, and by the hints which boards somebody is at and what they
+//! seem to have. What is found goes into the table and to these bounds, and the floor rises by what a move of the root
+//! then tells of it. From 14 empty squares on workers over a table make the first guess together, and the first that is
+//! done tells it; below, that guess is a draw. Without a table each worker guesses by itself.
 //!
 //! To the search below a move they are the `Company` (`company`).
 ghost use Rattle.std.specs.Prelude.{◌≡◌};
@@ -15,6 +15,7 @@ mod company;
 
 use crate::announcing::{Announcer, Gate};
 use crate::hints::HintSeat;
+use crate::move_bounds::BoundsSeat;
 use crate::move_order::MoveOrder;
 use crate::root_bound::RootBound;
 use crate::shared::{Search, Seats, Shape};
@@ -41,6 +42,7 @@ pub(crate) struct Peers<'w, G> {
     shape: Shape,
     pub root_bound: RootBound<'w>,
     pub hints: HintSeat<'w>,
+    bounds: BoundsSeat<'w>,
     pub announcer: Announcer<'w>,
     pub gate: &'w G,
     // What this worker has found of each item, by their numbers; empty where there is no memory.
@@ -61,12 +63,14 @@ impl<'w, G> Peers<'w, G> {
         let Seats {
             root_bound,
             hints,
+            bounds,
             announcer,
         } = seats;
         Peers {
             shape: search.shape,
             root_bound,
             hints,
+            bounds,
             announcer,
             gate,
             items: unknown_items(alloc, search.frontier, search.scoring),
@@ -116,31 +120,56 @@ impl<'w, G> Peers<'w, G> {
         self.announcer.begin_below(root_move.square)
     }
 
-    /// Raises the floor by the bound of the root that the board after this move of it alone gives.
+    /// Tells the others the bounds of the board after this move of the root, and raises the floor by the bound of the
+    /// root that the board alone gives.
     pub fn raise_by(&mut self, known: &RootMove) {
+        self.bounds.tell(known.square, &known.child);
         let root = self.root_bound.board();
         if let Ok(bound) = Solved::lift(&root, known.square, &known.child) {
             self.root_bound.raise(&bound);
         }
     }
 
-    /// Tells the others that a root's move needs no further search, if the bounds of the board after it settle it at
-    /// the floor.
+    /// What is known of the board after this move of the root, and what the others told of it.
+    pub fn with_told(&mut self, known: &RootMove) -> Solved
+        ensures board { result.board ≡ known.now.child.board }
+        ensures scoring { result.scoring ≡ known.now.child.scoring }
+    {
+        match self.bounds.hear(known.square) {
+            Some(told) => known.child.joined(&told),
+            None => known.child,
+        }
+    }
+
+    /// Tells the others that a root's move needs no further search, and by which bounds, if those of the board after it
+    /// settle it at the floor.
     pub fn note_if_settled(&mut self, known: &RootMove) {
         let floor = self.root_bound.floor();
         if known.child.is_settled(-floor) {
+            self.bounds.tell(known.square, &known.child);
             self.settled |= known.square.word();
             self.hints.settle(known.square);
         }
     }
 
-    /// Whether this worker's bounds settle the root's move, or without a table another one told that its bounds do.
+    /// Whether bounds settle the root's move: this worker's, or those that another one told. These are heard where a
+    /// hint says that they do.
     pub fn is_settled(&mut self, square: Square) -> bool {
-        self.settled & square.word() != 0 || !self.shares() && self.hints.is_settled(square)
+        self.settled & square.word() != 0
+            || self.hints.is_settled(square) && self.is_settled_as_told(square)
     }
 
-    // Whether the move that is searched below needs no further search: where another worker told so, the table is asked
-    // for bounds that settle it.
+    // Whether the bounds that were told of the board after the root's move settle it.
+    fn is_settled_as_told(&mut self, square: Square) -> bool {
+        let floor = self.root_bound.floor();
+        match self.bounds.hear(square) {
+            Some(told) => told.is_settled(-floor),
+            None => false,
+        }
+    }
+
+    // Whether the move that is searched below needs no further search: where another worker hints so, the table too is
+    // asked for bounds that settle it.
     fn is_out<C: Cells>(&mut self, cells: &mut C) -> bool
         ensures fixed { C.fixed cells.new ≡ C.fixed cells.old }
     {

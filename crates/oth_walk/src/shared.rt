@@ -3,11 +3,13 @@ ghost use Rattle.std.specs.Prelude.{◌≡◌};
 
 use crate::announcing::Announcer;
 use crate::hints::HintSeat;
+use crate::move_bounds::BoundsSeat;
 use crate::root_bound::RootBound;
-use crate::tuning::shared_empties;
+use crate::tuning::{FEWEST_CELLS_SHARED, shared_empties};
 use oth_pieces::Frontier;
 use oth_rules::Scoring;
 use oth_search::RootMoves;
+use oth_table::TableCells;
 
 /// The search of one board: its scoring, its moves in the order in which they are searched, its frontier, and how
 /// workers share it.
@@ -37,12 +39,13 @@ impl<'s> Search<'s> {
     }
 }
 
-/// One worker's access to what all workers share besides the table: the floor, the hints, and which items the gate has
-/// heard of.
+/// One worker's access to what all workers share besides the table: the floor, the hints, the bounds of the
+/// root's moves, and which items the gate has heard of.
 #[derive(Drop)]
 pub struct Seats<'w> {
     pub root_bound: RootBound<'w>,
     pub hints: HintSeat<'w>,
+    pub bounds: BoundsSeat<'w>,
     pub announcer: Announcer<'w>,
 }
 
@@ -51,20 +54,20 @@ pub struct Seats<'w> {
 pub enum Sharing {
     /// One worker, from whom nobody learns.
     Alone,
-    /// Several workers without a table: each searches whole moves of the root, and learns from the others its floor
-    /// alone.
+    /// Several workers without a table, or over a small one: each searches whole moves of the root, and learns from the
+    /// others its floor and the bounds of the root's moves.
     Apart,
     /// Several workers over one table.
     OverTable,
 }
 
 impl Sharing {
-    /// The sharing of several workers, with a table or without one.
-    pub fn of_several(has_table: bool) -> Sharing {
-        if has_table {
-            Sharing::OverTable
-        } else {
-            Sharing::Apart
+    /// The sharing of several workers over this table, or without one. From a table that is too small to keep what they
+    /// find they learn nothing, as without one.
+    pub fn of_several<'t>(table: &Option<TableCells<'t>>) -> Sharing {
+        match table {
+            Some(cells) if cells.count() >= FEWEST_CELLS_SHARED => Sharing::OverTable,
+            _ => Sharing::Apart,
         }
     }
 

@@ -53,7 +53,7 @@ impl<'w, C: Cells, G: Gate> Worker<'w, C, G> {
         self.peers.root_bound.root()
     }
 
-    /// Whether this worker's bounds settle the root's move, or without a table another one told that its bounds do.
+    /// Whether bounds settle the root's move: this worker's, or those that another one told.
     pub fn is_settled(&mut self, square: Square) -> bool {
         self.peers.is_settled(square)
     }
@@ -66,10 +66,12 @@ impl<'w, C: Cells, G: Gate> Worker<'w, C, G> {
         self.peers.known_of_item(number, known)
     }
 
-    /// The move at this place, if there is one, with what this worker and the table know of the board after it.
+    /// The move at this place, if there is one, with what this worker, the others and the table know of the board after
+    /// it.
     pub(crate) fn heard(&mut self, place: usize) -> Option<RootMove> {
         let known = self.moves.get(place)?;
-        let told = self.look_up(&known.child);
+        let told = self.peers.with_told(&known);
+        let told = self.look_up(&told);
         self.moves.narrow(place, &told);
         self.moves.get(place)
     }
@@ -127,6 +129,7 @@ impl<'w, C: Cells, G: Gate> Worker<'w, C, G> {
 
     /// Searches the move at this place until its value is exact, or is known to give the root less than the floor.
     pub(crate) fn settle_at(&mut self, place: usize) {
+        let _ = self.heard(place);
         let quest = self.quest();
         let moves = &mut self.moves;
         settle_at(moves, place, quest, &mut self.cells, &mut self.peers);

@@ -4,11 +4,12 @@ use super::crews::BOARDS;
 use super::fixtures::{answer_of, board_of, floor_of};
 use super::{C, CORNERS};
 use oth_pieces::Frontier;
-use oth_rules::{Scoring, Square};
+use oth_pieces::floor::Root;
+use oth_rules::{Board, Scoring, Square};
 use oth_search::{Interval, NoCells, RootMoves, Solved, order};
 use oth_walk::{
-    Announced, Announcer, HintSeat, Hints, MoveOrder, Open, RootBound, Search, Seats, Shape,
-    Sharing, Worker, search_item, settle_all,
+    Announced, Announcer, BoundsSeat, HintSeat, Hints, MoveBounds, MoveOrder, Open, RootBound,
+    Search, Seats, Shape, Sharing, Worker, search_item, settle_all,
 };
 use std::process::Abort;
 use std::test::Fail;
@@ -32,6 +33,17 @@ const LOSING: [[u64; 2]; 3] = [
 // One worker that keeps nothing settles each move, and comes to the value. Where it would share what it finds it
 // searches the first item before, and so looks for a move that reaches what it guesses.
 fn check_settled<R: AllocGlobal + Abort>(rt: &R, words: [u64; 2], sharing: Sharing) {
+    check_settled_beside(rt, words, sharing, &None, &None);
+}
+
+// As `check_settled`, by a worker that hears these hints and bounds.
+fn check_settled_beside<R: AllocGlobal + Abort>(
+    rt: &R,
+    words: [u64; 2],
+    sharing: Sharing,
+    hints: &Option<Hints>,
+    bounds: &Option<MoveBounds>,
+) {
     let root = board_of(rt, words);
     let answer = answer_of(rt, &root, Scoring::Winner);
     let (floor, seat) = floor_of(rt, &root);
@@ -48,7 +60,8 @@ fn check_settled<R: AllocGlobal + Abort>(rt: &R, words: [u64; 2], sharing: Shari
     let announced = Announced::of(&root, Some(&frontier), &Open);
     let seats = Seats {
         root_bound: RootBound::of(&floor, seat),
-        hints: HintSeat::none(),
+        hints: HintSeat::of(hints),
+        bounds: BoundsSeat::of(bounds),
         announcer: Announcer::of(&announced),
     };
     let mut worker = Worker::of(&shared, rt.alloc(), NoCells, seats, &Open);
@@ -95,6 +108,67 @@ fn one_worker_settles_moves_that_are_as_good_as_the_best(rt: HostRuntime) {
 fn one_worker_settles_each_move_before_a_pass(rt: HostRuntime) {
     for words in &PASSING {
         check_settled(&rt, *words, Sharing::Apart);
+    }
+}
+
+// A list of bounds of this board's moves.
+fn bounds_of<R: AllocGlobal + Abort>(rt: &R, board: &Board) -> Option<MoveBounds> {
+    let root = Root {
+        board: *board,
+        scoring: Scoring::Winner,
+    };
+    let bounds = MoveBounds::new(rt.alloc(), root);
+    assert!(rt; bounds.is_some());
+    bounds
+}
+
+// Hints say of every move that it is settled, and nobody has told bounds that settle one: each is searched.
+#[test]
+fn hints_alone_settle_no_move(rt: HostRuntime) {
+    for words in &BOARDS {
+        let root = board_of(&rt, *words);
+        for sharing in [Sharing::Apart, Sharing::OverTable] {
+            let hints = Hints::new(rt.alloc(), 1);
+            assert!(rt; hints.is_some());
+            let mut seat = HintSeat::of(&hints);
+            for root_move in RootMoves::of(
+                &Solved::unknown(root, Scoring::Winner),
+                &[],
+            ).as_slice()
+            {
+                seat.settle(root_move.square);
+            }
+            let bounds = bounds_of(&rt, &root);
+            check_settled_beside(&rt, *words, sharing, &hints, &bounds);
+            check_settled_beside(&rt, *words, sharing, &hints, &None);
+        }
+    }
+}
+
+#[test]
+fn bounds_of_a_move_are_heard_of_its_board_alone(rt: HostRuntime) {
+    let root = board_of(&rt, LOSING[0]);
+    let bounds = bounds_of(&rt, &root);
+    let (mut mine, mut theirs) = (BoundsSeat::of(&bounds), BoundsSeat::of(&bounds));
+    let moves = RootMoves::of(&Solved::unknown(root, Scoring::Winner), &[]);
+    let (Some(one), Some(other)) = (moves.get(0), moves.get(1)) else {
+        panic!(rt; "fewer than two moves")
+    };
+    let found = Solved::of_answer(&answer_of(&rt, &one.child.board, Scoring::Winner));
+    assert!(rt; theirs.hear(one.square) == Some(one.child));
+    mine.tell(other.square, &found);
+    assert!(rt; theirs.hear(other.square) == Some(other.child));
+    let by_discs = Solved::of_answer(&answer_of(&rt, &one.child.board, Scoring::Discs));
+    mine.tell(one.square, &by_discs);
+    assert!(rt; theirs.hear(one.square) == Some(one.child));
+    mine.tell(one.square, &found);
+    mine.tell(one.square, &one.child);
+    assert!(rt; theirs.hear(one.square) == Some(found));
+    assert!(rt; theirs.hear(other.square) == Some(other.child));
+    assert!(rt; BoundsSeat::none().hear(one.square).is_none());
+    let empty = root.empty_squares() & !root.moves();
+    if empty != 0 {
+        assert!(rt; theirs.hear(Square::first_of(empty)).is_none());
     }
 }
 

@@ -20,24 +20,12 @@ impl ItemSet {
         }
     }
 
-    /// Adds the item. Returns whether it was not there: of several threads that add it, one hears so. Tries again where
-    /// another thread adds an item of the same word at the same time, at most once for each of these.
+    /// Adds the item. Returns whether it was not there: of several threads that add it, one hears so.
     pub fn add(&self, number: u32) -> bool {
         let Some(word) = self.words.get((number / 64) as usize) else {
             return false;
         };
-        let bit = 1u64 << (number % 64);
-        for _ in 0..64 {
-            let old = word.load(Ordering::SeqCst);
-            if old & bit != 0 {
-                return false;
-            }
-            let added = word.compare_exchange(old, old | bit, Ordering::SeqCst, Ordering::SeqCst);
-            if added.is_ok() {
-                return true;
-            }
-        }
-        false
+        claim(word, 1 << (number % 64))
     }
 
     /// Whether no item is there.
@@ -57,4 +45,20 @@ impl ItemSet {
             None => false,
         }
     }
+}
+
+/// Sets this bit of the word, by one compare-and-exchange. Returns whether it was not set: of several threads that
+/// claim it, one hears so. Tries again where another thread claims another bit at the same time, at most once for each.
+pub fn claim(word: &AtomicU64, bit: u64) -> bool {
+    for _ in 0..64 {
+        let old = word.load(Ordering::SeqCst);
+        if old & bit != 0 {
+            return false;
+        }
+        let claimed = word.compare_exchange(old, old | bit, Ordering::SeqCst, Ordering::SeqCst);
+        if claimed.is_ok() {
+            return true;
+        }
+    }
+    false
 }

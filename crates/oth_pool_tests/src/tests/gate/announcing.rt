@@ -8,6 +8,7 @@ ghost use Rattle.oth_pieces.specs.Hands.{IsCrew};
 use super::super::crews::BOARDS;
 use super::super::fixtures::{board_of, floor_of, table_of};
 use super::super::view::TableView;
+use super::noting::are_few_searched;
 use oth_pool::{Frontier, Gate, Open, run_workers};
 use oth_rules::samples::least_moves_from;
 use oth_rules::{Board, Scoring};
@@ -147,6 +148,17 @@ fn workers_announce_each_item_before_anybody_searches_it(rt: HostRuntime) {
                 let (begun, _) = announced_by(&rt, &root, workers);
                 assert!(rt; begun == u64::from(frontier.len()));
             }
+        }
+    }
+}
+
+#[test]
+fn few_items_are_searched_by_workers_over_a_table(rt: HostRuntime) {
+    for words in BOARDS {
+        let root = line_to(&rt, words, 14);
+        for workers in [1, 2, 4] {
+            let counts = announced_by(&rt, &root, workers);
+            assert!(rt; are_few_searched(counts), "{workers} workers: {counts:?}");
         }
     }
 }

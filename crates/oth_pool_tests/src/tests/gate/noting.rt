@@ -11,8 +11,8 @@ use oth_pool::{Frontier, Gate};
 use oth_rules::{Board, Scoring};
 use oth_search::{Cells, Entry, RootMoves, Solved, solve_moves};
 use oth_walk::{
-    Alone, Announced, Announcer, HintSeat, ItemSet, RootBound, Search, Seats, Sharing, Worker,
-    search_item, settle_all,
+    Alone, Announced, Announcer, BoundsSeat, HintSeat, ItemSet, RootBound, Search, Seats, Sharing,
+    Worker, search_item, settle_all,
 };
 use std::process::Abort;
 use std::sync::atomic::{AtomicU64, Ordering};
@@ -143,6 +143,7 @@ fn check_worker<R: AllocGlobal + Abort>(rt: &R, root: &Board, sharing: Sharing) 
     let seats = Seats {
         root_bound: RootBound::of(&floor, seat),
         hints: HintSeat::none(),
+        bounds: BoundsSeat::none(),
         announcer: Announcer::of(&announced),
     };
     let cells = Noting::of(&frontier, &found, root.empties());
@@ -183,11 +184,24 @@ fn a_worker_without_a_table_announces_each_item_before_it_searches_it(rt: HostRu
     }
 }
 
-// How many of 870 items this thread adds to the set, by rising or by falling number.
-fn added(items: &ItemSet, is_falling: bool) -> u64 {
+// Whether between a tenth and a half of these items were searched when they were announced: of the others none was
+// needed, since their move was settled by bounds.
+pub(super) fn are_few_searched((items, idle): (u64, u64)) -> bool {
+    let searched = items.saturating_sub(idle);
+    searched.saturating_mul(10) >= items && searched.saturating_mul(2) <= items
+}
+
+// How many of 870 items this thread adds to the set. It begins as soon as both threads are there, so that they race for
+// each item.
+fn added(items: &ItemSet, there: &AtomicU64) -> u64 {
+    there.fetch_add(1, Ordering::SeqCst);
+    for _ in 0..1_000_000 {
+        if there.load(Ordering::SeqCst) > 1 {
+            break;
+        }
+    }
     let mut added = 0u64;
     for number in 0..870 {
-        let number = if is_falling { 869 - number } else { number };
         if items.add(number) {
             added = added.saturating_add(1);
         }
@@ -199,7 +213,12 @@ fn added(items: &ItemSet, is_falling: bool) -> u64 {
 fn each_item_is_taken_by_one_of_two_threads(rt: HostRuntime) {
     for _ in 0..200 {
         let items = ItemSet::new();
-        let (one, other) = join(&rt, || { added(&items, false) }, || { added(&items, true) });
+        let there = AtomicU64::new(0);
+        let (one, other) = join(
+            &rt,
+            || { added(&items, &there) },
+            || { added(&items, &there) },
+        );
         assert!(rt; one.saturating_add(other) == 870);
         assert!(rt; items.has(869) && !items.has(870) && !items.add(900));
     }

@@ -1,0 +1,27 @@
+-- The words by which workers tell each other bounds of the boards after a root's moves.
+--     child_value root square      the value of the board after the move to the square
+--     limit root i      what word i may tell at most: below 64 the value of the board after the move to square i, from there
+--                       on the negated one for square i - 64
+--     AreTrue root words      each word, less 64, is at most what it may tell
+use Rattle.std.specs.Prelude.{◌≡◌, ℕ, ◌-◌, ◌<◌, ℤ, pos, neg_ℤ, ◌-ℤ◌, ◌≤ℤ◌, List, nat_le, if◌then◌else◌, slice_index}
+use Rattle.atomic_table.specs.Table.{Me, Step}
+use Rattle.oth_rules.specs.Move.{after}
+use Rattle.oth_rules.specs.Score.{score_of}
+use Rattle.oth_rules.specs.Value.{value}
+use Rattle.oth_pieces.specs.declared.floor.root.Root.{Root}
+
+abbrev pub child_value : Root → ℕ → ℤ
+child_value root square = value (score_of root.scoring) (after root.board square)
+
+abbrev pub limit : Root → ℕ → ℤ
+limit root i = if nat_le 64 i then neg_ℤ (child_value root (i - 64)) else child_value root i
+
+abbrev pub AreTrue : Root → List ℕ → Type 0
+AreTrue root words = (i : ℕ) → (pos (slice_index words i) -ℤ pos 64) ≤ℤ limit root i
+
+-- a seat knows its root
+abbrev pub Looked : Step ℕ → Me ℕ Root → ℕ → Me ℕ Root → Type 0
+Looked s m found m' = (m'.0 ≡ m.0) × ((pos found -ℤ pos 64) ≤ℤ limit m.0 s.word)
+
+abbrev pub Raised : Step ℕ → Me ℕ Root → ℕ → Me ℕ Root → Type 0
+Raised s m found m' = m'.0 ≡ m.0

@@ -1,0 +1,164 @@
+//! What the workers of a search know of the boards after the root's moves: true bounds, whoever found them. A worker
+//! leaves a move alone by these or by its own bounds. They are there with and without a table, and no table is too
+//! small to keep them.
+//!
+//! They stand in 128 words of an `atomic_table`, two for each square: the greatest lower bound that was told of the
+//! board after the root's move there, plus 64, and 64 less the least upper bound. The steps are load and fetch_max. The
+//! rule (`move_bounds/rule`): no word tells more than is true.
+ghost use Rattle.std.specs.Prelude.{◌≡◌, ◌<◌, ◌≤ℤ◌, ◌-ℤ◌, pos, negsuc, IfSome};
+ghost use Rattle.oth_walk.specs.MoveBounds.{limit};
+
+mod rule;
+
+use atomic_table::{Seat, Table};
+use oth_pieces::floor::Root;
+use oth_rules::Square;
+use oth_search::{Interval, Solved};
+use rule::{Look, Raise, TrueBounds};
+use std::alloc::Global;
+use std::marker::Model;
+
+// A word for the lower bound of each square's move, and behind these one for its upper bound.
+const BOUND_WORDS: usize = 128;
+
+// The first word of the upper bounds.
+const UPPER: usize = 64;
+
+/// True bounds of the boards after a root's moves, which workers tell and hear.
+#[derive(Drop)]
+pub struct MoveBounds {
+    table: Table<u8, Root, Root, TrueBounds, Global>,
+    root: Root,
+}
+
+impl Model for MoveBounds {
+    ghost use Rattle.std.specs.Prelude.{◌≡◌};
+    ghost use Rattle.oth_pieces.specs.Watch.{Place};
+
+    ghost Value = { Place };
+
+    ghost view = { λ b. record { id = b.table.shared.table_id; root = b.root } };
+
+    ghost invariant = { λ b. (b.table.shared.table_id.words ≡ 128) × (b.table.shared.key ≡ b.root) };
+}
+
+impl MoveBounds {
+    /// Bounds of the boards after the moves of this root, which tell nothing yet; `None` if there is no memory.
+    pub fn new(alloc: Global, root: Root) -> Option<MoveBounds>
+        ensures root { IfSome result (λ b. b.root ≡ root) }
+    {
+        let words = [0u64; BOUND_WORDS];
+        match Table::of_words(alloc, &words, &root) {
+            Ok((table, _)) => Some(MoveBounds { table, root }),
+            Err(_) => None,
+        }
+    }
+}
+
+// The word that tells this number.
+fn height_of(number: i8) -> u64
+    requires { negsuc 63 ≤ℤ number }
+    ensures { pos result -ℤ pos 64 ≡ number }
+{
+    (number as i16 + 64) as u64
+}
+
+// The number that this word tells.
+fn number_at(height: u64) -> i8
+    requires { (pos height -ℤ pos 64) ≤ℤ pos 64 }
+    ensures { result ≡ pos height -ℤ pos 64 }
+{
+    (height as i16 - 64) as i8
+}
+
+// A worker's seat of the words.
+#[derive(Drop)]
+struct Place<'b> {
+    bounds: &'b MoveBounds,
+    seat: Seat<u8, Root>,
+    ghost sits: { (seat.table_id ≡ bounds.now.id) × (seat.me.0 ≡ bounds.now.root) },
+}
+
+impl<'b> Place<'b> {
+    // A further seat. It takes no memory.
+    fn of(bounds: &'b MoveBounds) -> Place<'b> {
+        let (_, seat) = bounds.table.shared.load_new_seat::<Look>(0);
+        Place { bounds, seat }
+    }
+
+    // The word at this place, less 64.
+    fn height(&mut self, word: usize) -> i8
+        requires { word < 128 }
+        ensures low { negsuc 63 ≤ℤ result }
+        ensures bound { result ≤ℤ limit self.old.bounds.now.root word }
+        ensures same { self.new.bounds ≡ self.old.bounds }
+    {
+        let bounds = self.bounds;
+        let height = bounds.table.shared.load::<Look>(&mut self.seat, word);
+        number_at(height)
+    }
+
+    // Raises the word at this place to what tells this number.
+    fn raise(&mut self, word: usize, number: i8)
+        requires place { word < 128 }
+        requires low { negsuc 63 ≤ℤ number }
+        requires bound { number ≤ℤ limit self.old.bounds.now.root word }
+        ensures same { self.new.bounds ≡ self.old.bounds }
+    {
+        let bounds = self.bounds;
+        let height = height_of(number);
+        bounds
+            .table
+            .shared
+            .fetch_max::<Raise>(&mut self.seat, word, height);
+    }
+}
+
+/// A worker's access to the bounds, or to none: then nobody has told anything, and what it tells is forgotten.
+#[derive(Drop)]
+pub struct BoundsSeat<'b> {
+    place: Option<Place<'b>>,
+}
+
+impl<'b> BoundsSeat<'b> {
+    /// A further access to the bounds, if there are any. It takes no memory.
+    pub fn of(bounds: &'b Option<MoveBounds>) -> BoundsSeat<'b> {
+        BoundsSeat {
+            place: match bounds {
+                Some(bounds) => Some(Place::of(bounds)),
+                None => None,
+            },
+        }
+    }
+
+    /// No bounds.
+    pub fn none() -> BoundsSeat<'b> {
+        BoundsSeat { place: None }
+    }
+
+    /// Tells what is known of the board after the root's move to this square. Bounds of another board, or under the
+    /// other scoring, are passed over.
+    pub fn tell(&mut self, square: Square, child: &Solved) {
+        if let Some(place) = &mut self.place {
+            let bounds = place.bounds;
+            let Root { board, scoring } = bounds.root;
+            if scoring == child.scoring && board.play(square) == Some(child.board) {
+                let number = square.number() as usize;
+                place.raise(number, child.interval.lower);
+                place.raise(UPPER + number, -child.interval.upper);
+            }
+        }
+    }
+
+    /// What was told of the board after the root's move to this square, if the move is legal.
+    pub fn hear(&mut self, square: Square) -> Option<Solved> {
+        let place = self.place.as_mut()?;
+        let bounds = place.bounds;
+        let Root { board, scoring } = bounds.root;
+        let child = board.play(square)?;
+        let number = square.number() as usize;
+        let lower = place.height(number);
+        let upper = -place.height(UPPER + number);
+        Some(Solved::of(&child, Interval { lower, upper }, scoring))
+    }
+}
