@@ -3,7 +3,7 @@
 --     limit root i      what word i may tell at most: below 64 the value of the board after the move to square i, from there
 --                       on the negated one for square i - 64
 --     AreTrue root words      each word, less 64, is at most what it may tell
-use Rattle.std.specs.Prelude.{◌≡◌, ℕ, ◌-◌, ◌<◌, ℤ, pos, neg_ℤ, ◌-ℤ◌, ◌≤ℤ◌, List, nat_le, if◌then◌else◌, slice_index}
+use Rattle.std.specs.Prelude.{◌≡◌, ℕ, ◌-◌, ℤ, pos, neg_ℤ, ◌-ℤ◌, ◌≤ℤ◌, List, nat_le, if◌then◌else◌, slice_index}
 use Rattle.atomic_table.specs.Table.{Me, Step}
 use Rattle.oth_rules.specs.Move.{after}
 use Rattle.oth_rules.specs.Score.{score_of}

@@ -1,10 +1,9 @@
-use Rattle.std.proofs.Common.{rules, arith, ap, ◌∙◌, sym, ◌≡◌, ◌≤ℤ◌, ℤ, pos, neg_ℤ, ◌+◌, subst}
-use Rattle.std.proofs.lemmas.Int.{ints}
+use Rattle.std.proofs.Common.{rules, ◌≡◌}
 use Rattle.oth_rules.specs.Score.{score_of}
 use Rattle.oth_rules.specs.Value.{value}
-use Rattle.oth_rules.proofs.Scores.{negated, value_bounds}
-use Rattle.oth_walk.specs.MoveBounds.{limit, child_value}
-use Rattle.oth_walk.proofs.Truths.{upper_limit, least}
+use Rattle.oth_rules.proofs.Scores.{value_bounds}
+use Rattle.oth_walk.specs.MoveBounds.{child_value}
+use Rattle.oth_walk.proofs.Truths.{least}
 use Rattle.oth_walk.proofs.move_bounds.BoundsSeat.tell.Goals as goal
 
 pub raise-requires-then-eq-2-clause-bound : goal.raise-requires-then-eq-2-clause-bound

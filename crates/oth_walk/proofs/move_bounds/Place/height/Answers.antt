@@ -1,8 +1,6 @@
-use Rattle.std.proofs.Common.{rules, arith, ap, ◌∙◌, sym, ◌≡◌, ◌≤ℤ◌, pos, ◌-ℤ◌, ◌≤◌, subst}
+use Rattle.std.proofs.Common.{rules, arith, ap, ◌∙◌, sym, ◌≡◌}
 use Rattle.std.proofs.lemmas.Int.{ints}
-use Rattle.oth_pieces.specs.declared.floor.root.Root.{Root}
 use Rattle.oth_pieces.specs.Watch.{Place}
-use Rattle.oth_walk.specs.MoveBounds.{limit}
 use Rattle.oth_walk.proofs.Truths.{looks, limits}
 use Rattle.oth_walk.proofs.move_bounds.Place.height.Goals as goal
 

@@ -3,7 +3,7 @@ use Rattle.std.proofs.lemmas.Int.{ints}
 use Rattle.oth_pieces.specs.declared.floor.root.Root.{Root}
 use Rattle.oth_pieces.specs.Watch.{Place}
 use Rattle.oth_walk.specs.MoveBounds.{limit}
-use Rattle.oth_walk.proofs.Truths.{raises, limits}
+use Rattle.oth_walk.proofs.Truths.{raises}
 use Rattle.oth_walk.proofs.move_bounds.Place.raise.Goals as goal
 
 pub fetch_max-requires : goal.fetch_max-requires
