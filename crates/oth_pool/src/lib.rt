@@ -40,7 +40,7 @@ pub use oth_pieces::{
     Collector, Drawn, Floor, FloorError, FloorSeat, Frontier, Hand, Item, MOST_ITEMS, Refusal,
     Reply, Stranger, Tasks, TasksError,
 };
-pub use oth_walk::{Gate, Open, WorkerCells, worker_cells};
+pub use oth_walk::{Gate, Open, WorkerCells, claim, worker_cells};
 pub use run::{Gathered, run_workers};
 pub use scoring_moves::scores;
 pub use solving::{SolveError, solve};
