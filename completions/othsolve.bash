@@ -1,14 +1,14 @@
 # Completion of othsolve for bash. ./install puts it into PREFIX/share/bash-completion/completions.
 
 # The commands, a line each: its name, its options, and FILE where it takes one, or FILES where it takes several. A new command is a new line; a new option is a case of
-# _othsolve_values too, since each takes a value.
+# _othsolve_values too, or of _othsolve_read where it takes no value.
 _othsolve_commands='
-solve --workers --cells --scoring --book FILES
-scores --workers --cells --scoring FILES
-moves FILES
-transcript FILES
-play FILES
-analyse --workers --cells --scoring --last FILES
+solve --workers --cells --scoring --book --explain FILES
+scores --workers --cells --scoring --explain FILES
+moves --explain FILES
+transcript --explain FILES
+play --explain FILES
+analyse --workers --cells --scoring --last --explain FILES
 book-verify FILE
 book-add --workers --cells FILE
 '
@@ -48,7 +48,7 @@ _othsolve_read() {
     command='' given=0
     for word in "${COMP_WORDS[@]:1:COMP_CWORD-1}"; do
         case $word in
-            -h | --help | -V | --version | = | --*=*) ;;
+            -h | --help | -V | --version | --explain | = | --*=*) ;;
             -* | *[\<\>]) skip=yes ;;
             *)
                 if [ -n "$skip" ]; then

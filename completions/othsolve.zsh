@@ -20,6 +20,7 @@ local -a search=(
 local -a scoring=('--scoring=[what a finished game is worth]:scoring:((winner\:"empty squares go to the winner" discs\:"the difference of the discs alone"))')
 local -a last=('--last=[tell the moves made from N empty squares on]:squares:({1..30})')
 local -a book=('--book=[a book that is asked first]:book:_files')
+local -a explain=('--explain[tell each fault in words on standard error]')
 local -a files=('*:lines:_files')
 local -a help=('(- *)'{-h,--help}'[print help]')
 
@@ -29,12 +30,12 @@ case $state in
     command) _describe command commands -- '(help:print\ help)' ;;
     argument)
         case $words[1] in
-            solve) _arguments $help $search $scoring $book $files ;;
-            scores) _arguments $help $search $scoring $files ;;
-            moves) _arguments $help $files ;;
-            transcript) _arguments $help $files ;;
-            play) _arguments $help $files ;;
-            analyse) _arguments $help $search $scoring $last $files ;;
+            solve) _arguments $help $search $scoring $book $explain $files ;;
+            scores) _arguments $help $search $scoring $explain $files ;;
+            moves) _arguments $help $explain $files ;;
+            transcript) _arguments $help $explain $files ;;
+            play) _arguments $help $explain $files ;;
+            analyse) _arguments $help $search $scoring $last $explain $files ;;
             book-verify) _arguments $help '1:book:_files' ;;
             book-add) _arguments $help $search '1:book:_files' ;;
             help) _describe command commands ;;

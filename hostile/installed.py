@@ -249,6 +249,8 @@ COMPLETES = {
     "othsolve book-add --cells 64 on": "one.book",
     "othsolve book-add --cells=64 on": "one.book",
     "othsolve moves ": "one.book other",
+    "othsolve moves --": "--explain --help",
+    "othsolve moves --explain on": "one.book",
     "othsolve play one.book o": "one.book other",
     "othsolve solve --workers 2 on": "one.book",
     "othsolve solve < on": "one.book",

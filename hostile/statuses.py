@@ -123,6 +123,36 @@ def files_of_lines(folder):
     yield Case("a pipe as a file", ["solve", path["cut"], "/dev/stdin"], CORNERS.encode(), wrote=b"+64 h8\n+64 h8\n", said=b"")
 
 
+def explained(folder):
+    """Yields the cases of `--explain`: standard output as without it, each faulty line in words, and what ended the work."""
+    lines = f"{START}\n{CORNERS}\nX\n{'?' * 66}\n".encode()
+    wrote = b"error 5 60\n+64 h8\nerror 1\nerror 2 at 1\n"
+    told = b"line 3: a board line has 66 bytes\nline 4: byte 1 is none of 'X', 'O' and '-'\n"
+    said = b"line 1: the board has 60 empty squares, and at most 30 are solved\n" + told
+    for words in (["solve"], ["solve", "--workers", "4"], ["scores"]):
+        yield Case(f"faults in words: {' '.join(words)}", [*words, "--explain"], lines, wrote=wrote, said=said)
+    yield Case("faults in words: moves", ["moves", "--explain"], lines, wrote=b"d3 c4 f5 e6\nh8\nerror 1\nerror 2 at 1\n", said=told)
+    said = b"line 2: a transcript has an even number of bytes\nline 3: move 2 is illegal\n"
+    wrote = f"{FIVE_MOVES}\nerror 1\nerror 3 at 2\n".encode()
+    yield Case("faults in words: transcript", ["transcript", "--explain"], b"f5d6c3d3c4\nf5d\nf5f5\n", wrote=wrote, said=said)
+    wrote = b"error 3\nerror 23 at 2\n"
+    said = b"line 1: byte 65 is not a space\nline 2: move 2 is illegal\n"
+    given = f"{START[:64]}_X\n{START} f5f5\n".encode()
+    yield Case("faults in words: play", ["play", "--explain"], given, wrote=wrote, said=said)
+    wrote = b"1 error 3 at 2\n1 lost X 0 O 0\n2 error 2 at 1\n2 lost X 0 O 0\n"
+    said = b"line 1: move 2 is illegal\nline 2: pair 1 is no square, or byte 1 is none of 'X', 'O' and '-'\n"
+    yield Case("faults in words: analyse", ["analyse", "--explain"], b"f5f5\n..\n", wrote=wrote, said=said)
+    half = file_of(folder, "explained.txt", b"XX")
+    said = b"line 1: a board line has 66 bytes\nline 2: a board line has 66 bytes\n"
+    yield Case("faults in words: two files", ["solve", half, half, "--explain"], wrote=b"error 1\nerror 1\n", said=said)
+    yield Case("faults in words: none", ["solve", "--explain"], CORNERS.encode(), wrote=b"+64 h8\n", said=b"")
+    said = b"run error 4\nthe cells must be 0 or a power of two up to 262144\n"
+    yield Case("--explain of refused cells", ["solve", "--explain", "--cells", "3"], status=2, wrote=b"", said=said)
+    said = b"run error 1\nnowhere: no such file\n"
+    yield Case("--explain of a missing book", ["solve", "--explain", "--book", "nowhere"], status=1, wrote=b"", said=said, cwd=folder)
+    yield Case("--explain of a missing file", ["solve", "--explain", "nowhere"], status=1, wrote=b"", said=said, cwd=folder)
+
+
 def lines_of_every_kind():
     """Yields lines of every kind: faulty ones have their fault in their place, whatever their bytes and their length."""
     good = FULL_BOARD.encode()
@@ -305,7 +335,8 @@ def steps(program, in_little_memory=True):
     """Yields a step for each run, also in little memory unless these are left out: its name, and what is wrong with it, if anything."""
     with tempfile.TemporaryDirectory() as folder:
         file_of(folder, "empty.book", EMPTY_BOOK)
-        for cases in (done(folder), files_of_lines(folder), lines_of_every_kind(), command_line(folder), devices(folder), books(folder)):
+        of_lines = (files_of_lines(folder), lines_of_every_kind(), explained(folder))
+        for cases in (done(folder), *of_lines, command_line(folder), devices(folder), books(folder)):
             for case in cases:
                 if not in_little_memory and case.how.get("preexec_fn") is little_memory:
                     continue

@@ -123,9 +123,9 @@ def silent_pipe():
 USAGES = (
     (["solve", "--x"], "othsolve solve [OPTIONS] [FILE]..."),
     (["scores", "--book", "boards.txt"], "othsolve scores [OPTIONS] [FILE]..."),
-    (["moves", "-x"], "othsolve moves [FILE]..."),
-    (["transcript", "--workers", "2"], "othsolve transcript [FILE]..."),
-    (["play", "--x", "games.txt"], "othsolve play [FILE]..."),
+    (["moves", "-x"], "othsolve moves [OPTIONS] [FILE]..."),
+    (["transcript", "--workers", "2"], "othsolve transcript [OPTIONS] [FILE]..."),
+    (["play", "--x", "games.txt"], "othsolve play [OPTIONS] [FILE]..."),
     (["book-add", "empty.book", "boards.txt"], "othsolve book-add [OPTIONS] FILE < BOARDS"),
 )
 

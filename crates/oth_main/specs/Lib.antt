@@ -1,4 +1,5 @@
 pub mod Addition
 pub mod BookFile
+pub mod Explained
 pub mod Joined
 pub mod Messages

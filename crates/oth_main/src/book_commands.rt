@@ -144,7 +144,7 @@ pub fn print_run_fault<E: Sink>(fault: RunFault, errors: &mut Errors<E>) -> u8
     ensures printed { E.failed errors.new.sink ≡ false
         → Appends (E.contents errors.old.sink) (E.contents errors.new.sink) (run_error fault ++ 10 ∷ []) }
     ensures reason { errors.new.reason ≡ Some (RunReason fault) }
-    ensures terminal { errors.new.is_terminal ≡ errors.old.is_terminal }
+    ensures words { errors.new.in_words ≡ errors.old.in_words }
 {
     Message::of(b"run error ")
         .number(u64::from(fault.number()))

@@ -61,7 +61,7 @@ pub fn print_refusal<E: Sink>(refusal: &BookRefusal, errors: &mut Errors<E>)
     ensures printed { E.failed errors.new.sink ≡ false
         → Appends (E.contents errors.old.sink) (E.contents errors.new.sink) (book_refusal refusal.now ++ 10 ∷ []) }
     ensures reason { errors.new.reason ≡ Some (BookReason refusal.now) }
-    ensures terminal { errors.new.is_terminal ≡ errors.old.is_terminal }
+    ensures words { errors.new.in_words ≡ errors.old.in_words }
 {
     line_of(refusal).print(&mut errors.sink);
     errors.reason = Some(Reason::Book(*refusal));

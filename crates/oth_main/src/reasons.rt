@@ -1,4 +1,4 @@
-//! The reasons in words, a second line for who sits at a terminal.
+//! The reasons in words, a second line for who sits at a terminal or asks for it.
 
 ghost use Rattle.std.specs.Prelude.{◌≡◌, ◌+◌, ◌<◌, ◌++◌, ◌∷◌, [], None, false, length, true};
 ghost use Rattle.std.specs.Io.KnownBytes.{Appends};
@@ -46,30 +46,30 @@ pub struct Scene<'a> {
 pub struct Errors<E> {
     /// What lines are printed to.
     pub sink: E,
-    /// Whether it is a terminal: only there is anything told in words.
-    pub is_terminal: bool,
+    /// Whether anything is told in words.
+    pub in_words: bool,
     /// Why the command ended before all was done, where it did.
     pub reason: Option<Reason>,
 }
 
 impl<E: Sink> Errors<E> {
-    /// An error output on which no reason was printed yet.
-    pub fn new(sink: E, is_terminal: bool) -> Self
+    /// An error output on which no reason was printed yet, and where words are told or not.
+    pub fn new(sink: E, in_words: bool) -> Self
         ensures sink { result.sink ≡ sink }
-        ensures terminal { result.is_terminal ≡ is_terminal }
+        ensures words { result.in_words ≡ in_words }
         ensures reason { result.reason ≡ None }
     {
         Errors {
             sink,
-            is_terminal,
+            in_words,
             reason: None,
         }
     }
 
-    /// Tells the reason in words, a line of its own. Nothing is written where there is no reason, where the output is
-    /// no terminal, and where it has failed. An output that fails now is passed over, and so is a lack of memory.
+    /// Tells the reason in words, a line of its own. Nothing is written where there is no reason, where no words are
+    /// told, and where the output has failed. An output that fails now is passed over, and so is a lack of memory.
     pub fn explain(&mut self, alloc: Global, scene: &Scene<'_>)
-        ensures silent { self.old.is_terminal ≡ false → self.new ≡ self.old }
+        ensures silent { self.old.in_words ≡ false → self.new ≡ self.old }
         ensures failed { E.failed self.old.sink ≡ true → self.new ≡ self.old }
         ensures no_reason { self.old.reason ≡ None → self.new ≡ self.old }
     {
@@ -79,11 +79,11 @@ impl<E: Sink> Errors<E> {
         }
     }
 
-    /// Tells in words, on a terminal or not, which file can't be opened, and why. The reason that was kept for words is
-    /// told so. An output that has failed or fails now is passed over, and so is a lack of memory.
+    /// Tells in words, also where else none are told, which file can't be opened, and why. The reason that was kept for
+    /// words is told so. An output that has failed or fails now is passed over, and so is a lack of memory.
     pub fn tell_unopened(&mut self, alloc: Global, file: &str, error: &Error)
         ensures reason { self.new.reason ≡ None }
-        ensures terminal { self.new.is_terminal ≡ self.old.is_terminal }
+        ensures words { self.new.in_words ≡ self.old.in_words }
         ensures failed { E.failed self.old.sink ≡ true → self.new.sink ≡ self.old.sink }
     {
         let scene = Scene {
@@ -103,7 +103,7 @@ impl<E: Sink> Errors<E> {
         ensures told { E.failed self.new.sink ≡ false
             → Appends (E.contents self.old.sink) (E.contents self.new.sink) (awaited command ++ 10 ∷ []) }
         ensures reason { self.new.reason ≡ self.old.reason }
-        ensures terminal { self.new.is_terminal ≡ self.old.is_terminal }
+        ensures words { self.new.in_words ≡ self.old.in_words }
         ensures failed { E.failed self.old.sink ≡ true → self.new ≡ self.old }
     {
         if !self.sink.failed() {
@@ -111,12 +111,12 @@ impl<E: Sink> Errors<E> {
         }
     }
 
-    // Prints a line of words on a terminal.
+    // Prints a line of words, where words are told.
     fn tell<D: fmt::Display>(&mut self, alloc: Global, words: &D)
-        ensures silent { self.old.is_terminal ≡ false → self.new ≡ self.old }
+        ensures silent { self.old.in_words ≡ false → self.new ≡ self.old }
         ensures failed { E.failed self.old.sink ≡ true → self.new ≡ self.old }
     {
-        if self.is_terminal {
+        if self.in_words {
             self.write(alloc, words);
         }
     }
@@ -124,7 +124,7 @@ impl<E: Sink> Errors<E> {
     // Prints a line of words.
     fn write<D: fmt::Display>(&mut self, alloc: Global, words: &D)
         ensures reason { self.new.reason ≡ self.old.reason }
-        ensures terminal { self.new.is_terminal ≡ self.old.is_terminal }
+        ensures words { self.new.in_words ≡ self.old.in_words }
         ensures failed { E.failed self.old.sink ≡ true → self.new ≡ self.old }
     {
         if self.sink.failed() {
@@ -162,7 +162,7 @@ pub fn tell_scoring<E: Sink>(
     asked: Scoring,
     errors: &mut Errors<E>,
 )
-    ensures silent { errors.old.is_terminal ≡ false → errors.new ≡ errors.old }
+    ensures silent { errors.old.in_words ≡ false → errors.new ≡ errors.old }
     ensures failed { E.failed errors.old.sink ≡ true → errors.new ≡ errors.old }
     ensures asked { book.now.scoring ≡ asked → errors.new ≡ errors.old }
 {

@@ -3,6 +3,7 @@
 ghost use Rattle.std.specs.Prelude.{◌≡◌};
 ghost use denote.Param.Send.{IsSend, IsSync};
 
+use crate::explaining::{Faults, FaultyLine};
 use crate::progress::{Progress, Shown, Since};
 use oth_text::{Failed, Sink, write_all};
 use std::alloc::Global;
@@ -152,11 +153,20 @@ pub struct Report<'w, R, W, E> {
     watch: &'w Watch<E>,
     writer: W,
     is_terminal: bool,
+    // Finds the faults that are told in words.
+    faults: Option<Faults>,
 }
 
-impl<'w, R: Wait, W: Sink, E: Sink> Report<'w, R, W, E> {
-    /// A sink that hands all on to the writer, which is a terminal or not.
-    pub fn of(rt: &'w R, watch: &'w Watch<E>, writer: W, is_terminal: bool) -> Self
+impl<'w, R: Wait + AllocGlobal, W: Sink, E: Sink> Report<'w, R, W, E> {
+    /// A sink that hands all on to the writer, which is a terminal or not. The faults that are found in it are told in
+    /// words where the line is shown, on a terminal or not.
+    pub fn of(
+        rt: &'w R,
+        watch: &'w Watch<E>,
+        writer: W,
+        is_terminal: bool,
+        faults: Option<Faults>,
+    ) -> Self
         ensures contents { ⟦<Report<'w, R, W, E> as Sink>⟧.contents result ≡ W.contents writer }
         ensures failed { ⟦<Report<'w, R, W, E> as Sink>⟧.failed result ≡ W.failed writer }
         ensures flushed { ⟦<Report<'w, R, W, E> as Sink>⟧.flushed result ≡ W.flushed writer }
@@ -166,6 +176,7 @@ impl<'w, R: Wait, W: Sink, E: Sink> Report<'w, R, W, E> {
             watch,
             writer,
             is_terminal,
+            faults,
         }
     }
 
@@ -182,19 +193,58 @@ impl<'w, R: Wait, W: Sink, E: Sink> Report<'w, R, W, E> {
     }
 }
 
-impl<'w, R: Wait, W: Sink, E: Sink> Report<'w, R, W, E> {
+impl<'w, R: Wait + AllocGlobal, W: Sink, E: Sink> Report<'w, R, W, E> {
     // Takes the line away where the writer writes to a terminal, and keeps the screen.
     fn cleared(&self) -> Option<MutexGuard<'w, Screen<E>>> {
-        if !self.is_terminal {
+        if !self.is_terminal || !self.watch.progress.is_shown() {
             return None;
         }
         let mut screen = self.watch.screen.lock(self.rt);
         screen.clear();
         Some(screen)
     }
+
+    // Counts the lines of the report that these bytes end.
+    fn count_lines(&self, written: &[u8]) {
+        if self.watch.progress.is_shown() {
+            self.watch.progress.pass_lines(self.rt, lines_in(written));
+        }
+    }
+
+    // Tells the faults of the lines that these bytes end.
+    fn explain(&mut self, written: &[u8])
+        ensures { self.new.writer ≡ self.old.writer }
+    {
+        if let Some(faults) = &mut self.faults {
+            tell_faults(self.rt, self.watch, faults, written);
+        }
+    }
 }
 
-impl<'w, R: Wait, W: Sink, E: Sink> Sink for Report<'w, R, W, E> {
+// Tells the faults of the report's lines that these bytes end.
+fn tell_faults<R: Wait + AllocGlobal, E: Sink>(
+    rt: &R,
+    watch: &Watch<E>,
+    faults: &mut Faults,
+    written: &[u8],
+) {
+    for byte in written {
+        if let Some(faulty) = faults.hear(*byte) {
+            tell_fault(rt, watch, &faulty);
+        }
+    }
+}
+
+// Writes the fault in words in place of the line.
+fn tell_fault<R: Wait + AllocGlobal, E: Sink>(rt: &R, watch: &Watch<E>, faulty: &FaultyLine) {
+    if let Ok(text) = format!(in rt.alloc(); "{faulty}\n") {
+        let mut screen = watch.screen.lock(rt);
+        screen.clear();
+        screen.write(text.as_bytes());
+    }
+}
+
+impl<'w, R: Wait + AllocGlobal, W: Sink, E: Sink> Sink for Report<'w, R, W, E> {
     ghost contents = { λ s. W.contents s.writer };
 
     ghost failed = { λ s. W.failed s.writer };
@@ -202,15 +252,14 @@ impl<'w, R: Wait, W: Sink, E: Sink> Sink for Report<'w, R, W, E> {
     ghost flushed = { λ s. W.flushed s.writer };
 
     fn write(&mut self, buffer: &[u8]) -> Result<usize, Failed> {
-        if !self.watch.progress.is_shown() {
-            return self.writer.write(buffer);
-        }
-        let _screen = self.cleared();
+        let screen = self.cleared();
         let written = self.writer.write(buffer);
-        if let Ok(count) = written {
-            let lines = lines_in(buffer, count);
-            self.watch.progress.pass_lines(self.rt, lines);
-        }
+        let Ok(count) = written else {
+            return written;
+        };
+        self.count_lines(&buffer[..count]);
+        drop(screen);
+        self.explain(&buffer[..count]);
         written
     }
 
@@ -223,11 +272,11 @@ impl<'w, R: Wait, W: Sink, E: Sink> Sink for Report<'w, R, W, E> {
     }
 }
 
-// The number of lines that end within the first `count` bytes of `buffer`.
-fn lines_in(buffer: &[u8], count: usize) -> u64 {
+// The number of lines that end within the bytes.
+fn lines_in(bytes: &[u8]) -> u64 {
     let mut lines = 0u64;
-    for place in 0..count.min(buffer.len()) {
-        if buffer[place] == b'\n' {
+    for byte in bytes {
+        if *byte == b'\n' {
             lines = lines.saturating_add(1);
         }
     }

@@ -4,6 +4,7 @@
 mod batches;
 mod books;
 mod devices;
+mod explaining;
 mod games;
 mod gates;
 mod joined;

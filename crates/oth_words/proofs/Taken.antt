@@ -17,7 +17,7 @@ use Rattle.clap.specs.declared.builder.value_parser.ValueParser.TheVariants as p
 use Rattle.oth_words.proofs.RowsPass.{HasText}
 use Rattle.oth_words.proofs.Levels.{IsOrdinary, enters, number_of, text_of}
 use Rattle.oth_words.proofs.WalkKeeps.{Each, MayEnter}
-use Rattle.oth_words.specs.CommandLine.{AreScorings, HasLast, HasNumbers, IsNumber, Meaning, Means, ScoringWords, add, add_app, files_of}
+use Rattle.oth_words.specs.CommandLine.{AreScorings, HasLast, HasNumbers, IsNumber, Meaning, Means, ScoringWords, add, add_app, files_of, telling_of}
 use Rattle.oth_words.specs.CommandLine.{analyse_app, othsolve, plain_app, program, run, scores_app, scoring_word, solve_app, verify, verify_app}
 use Rattle.oth_rules.specs.declared.scoring.Scoring.{Scoring}
 use Rattle.oth_rules.specs.declared.scoring.Scoring.TheVariants.{Winner, Discs}
@@ -98,7 +98,7 @@ module _ (scorings : ScoringWords) (are : AreScorings scorings) where
         (refl, inl (refl, refl)),
         (
           (refl, inl (refl, refl)),
-          ((refl, inr (inl (refl, refl))), ((refl, inr (inr refl)), tt)),
+          ((refl, inr (inr (inr (refl, tt)))), ((refl, inr (inl (refl, refl))), ((refl, inr (inr (inl refl))), tt))),
         ),
       ),
     ),
@@ -111,7 +111,7 @@ module _ (scorings : ScoringWords) (are : AreScorings scorings) where
       let scoring_is = text (built_rule solve_shape (codes "scoring")) refl (inl tt) in
       let scoring = scoring_text scorings are scoring_is.text scoring_is.passes in
       let numbers = numbers_taken Solve scoring.0 rows (text (built_rule solve_shape (codes "workers")) refl (inl tt)) (text (built_rule solve_shape (codes "cells")) refl (inl tt)) in (
-        run (record { command = Solve; workers = numbers.0.workers; cells = numbers.0.cells; scoring = scoring.0 }) (first_of (codes "book") rows) (files_of rows),
+        run (record { command = Solve; workers = numbers.0.workers; cells = numbers.0.cells; scoring = scoring.0 }) (telling_of rows) (first_of (codes "book") rows) (files_of rows),
         (
           (
             refl,
@@ -119,6 +119,7 @@ module _ (scorings : ScoringWords) (are : AreScorings scorings) where
             scoring_is.first ∙ ap Some scoring.1,
             refl,
           ),
+          refl,
           refl,
         ),
       )
@@ -133,7 +134,7 @@ module _ (scorings : ScoringWords) (are : AreScorings scorings) where
       (refl, inl (refl, refl)),
       (
         (refl, inl (refl, refl)),
-        ((refl, inr (inl (refl, refl))), ((refl, inr (inr refl)), tt)),
+        ((refl, inr (inr (inr (refl, tt)))), ((refl, inr (inl (refl, refl))), ((refl, inr (inr (inl refl))), tt))),
       ),
     ),
   )
@@ -145,7 +146,7 @@ module _ (scorings : ScoringWords) (are : AreScorings scorings) where
       let scoring_is = text (built_rule scores_shape (codes "scoring")) refl (inl tt) in
       let scoring = scoring_text scorings are scoring_is.text scoring_is.passes in
       let numbers = numbers_taken Scores scoring.0 rows (text (built_rule scores_shape (codes "workers")) refl (inl tt)) (text (built_rule scores_shape (codes "cells")) refl (inl tt)) in (
-        run (record { command = Scores; workers = numbers.0.workers; cells = numbers.0.cells; scoring = scoring.0 }) None (files_of rows),
+        run (record { command = Scores; workers = numbers.0.workers; cells = numbers.0.cells; scoring = scoring.0 }) (telling_of rows) None (files_of rows),
         (
           (
             refl,
@@ -153,6 +154,7 @@ module _ (scorings : ScoringWords) (are : AreScorings scorings) where
             scoring_is.first ∙ ap Some scoring.1,
             refl,
           ),
+          refl,
           refl,
         ),
       )
@@ -170,7 +172,7 @@ module _ (scorings : ScoringWords) (are : AreScorings scorings) where
         (refl, inl (refl, refl)),
         (
           (refl, inl (refl, refl)),
-          ((refl, inr (inl (refl, refl))), ((refl, inr (inr refl)), tt)),
+          ((refl, inr (inr (inr (refl, tt)))), ((refl, inr (inl (refl, refl))), ((refl, inr (inr (inl refl))), tt))),
         ),
       ),
     ),
@@ -184,7 +186,7 @@ module _ (scorings : ScoringWords) (are : AreScorings scorings) where
       let scoring = scoring_text scorings are scoring_is.text scoring_is.passes in
       let last = number_text (built_rule analyse_shape (codes "last")) 1 30 rows refl (text (built_rule analyse_shape (codes "last")) refl (inl tt)) in
       let numbers = numbers_taken (Analyse last.0) scoring.0 rows (text (built_rule analyse_shape (codes "workers")) refl (inl tt)) (text (built_rule analyse_shape (codes "cells")) refl (inl tt)) in (
-        run (record { command = Analyse last.0; workers = numbers.0.workers; cells = numbers.0.cells; scoring = scoring.0 }) None (files_of rows),
+        run (record { command = Analyse last.0; workers = numbers.0.workers; cells = numbers.0.cells; scoring = scoring.0 }) (telling_of rows) None (files_of rows),
         (
           (
             refl,
@@ -194,11 +196,12 @@ module _ (scorings : ScoringWords) (are : AreScorings scorings) where
             record { number = last.1; some = last.2; most = last.3 },
           ),
           refl,
+          refl,
         ),
       )
 
 verify_ordinary : Each (IsOrdinary (built_sub verify_app).rules) (built_sub verify_app).rules
-verify_ordinary = ((refl, inl (refl, refl)), ((refl, inr (inr refl)), tt))
+verify_ordinary = ((refl, inl (refl, refl)), ((refl, inr (inr (inl refl))), tt))
 
 verify_taken : (words : List Text) → level_passes (built_sub verify_app) [] nothing_held words false ≡ true → MeansSome (rows_at (built_sub verify_app) words)
 verify_taken words e =
@@ -206,7 +209,7 @@ verify_taken words e =
     (verify file.text, (refl, file.first))
 
 add_ordinary : Each (IsOrdinary add_shape.rules) add_shape.rules
-add_ordinary = ((refl, inl (refl, refl)), ((refl, inl (refl, refl)), ((refl, inl (refl, refl)), ((refl, inr (inr refl)), tt))))
+add_ordinary = ((refl, inl (refl, refl)), ((refl, inl (refl, refl)), ((refl, inl (refl, refl)), ((refl, inr (inr (inl refl))), tt))))
 
 add_taken : (words : List Text) → level_passes add_shape [] nothing_held words false ≡ true → MeansSome (rows_at add_shape words)
 add_taken words e =
@@ -241,11 +244,14 @@ module _ (scorings : ScoringWords) (are : AreScorings scorings) where
         (
           λ hit e. scores_taken scorings are p.1 e,
           (
-            λ hit e. (run (plain_settings Moves) None (files_of (rows_at (built_sub (plain_app (codes "moves"))) p.1).1), ((refl, (refl, refl, refl), refl), refl)),
+            λ hit e. let rows = (rows_at (built_sub (plain_app (codes "moves"))) p.1).1 in
+                (run (plain_settings Moves) (telling_of rows) None (files_of rows), ((refl, (refl, refl, refl), refl), refl, refl)),
             (
-              λ hit e. (run (plain_settings Transcript) None (files_of (rows_at (built_sub (plain_app (codes "transcript"))) p.1).1), ((refl, (refl, refl, refl), refl), refl)),
+              λ hit e. let rows = (rows_at (built_sub (plain_app (codes "transcript"))) p.1).1 in
+                  (run (plain_settings Transcript) (telling_of rows) None (files_of rows), ((refl, (refl, refl, refl), refl), refl, refl)),
               (
-                λ hit e. (run (plain_settings Play) None (files_of (rows_at (built_sub (plain_app (codes "play"))) p.1).1), ((refl, (refl, refl, refl), refl), refl)),
+                λ hit e. let rows = (rows_at (built_sub (plain_app (codes "play"))) p.1).1 in
+                    (run (plain_settings Play) (telling_of rows) None (files_of rows), ((refl, (refl, refl, refl), refl), refl, refl)),
                 (
                   λ hit e. analyse_taken scorings are p.1 e,
                   (

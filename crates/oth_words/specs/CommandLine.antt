@@ -2,11 +2,12 @@
 -- `othsolve` is the command as clap sees it: its subcommands, and the rule of each of their arguments. By clap's exact meaning
 -- `takes` says whether the words are a lawful call of it, `fault_of` which fault they have, and `subcommand_of` which subcommand
 -- they name, with a row of texts for each argument, the default where none is given. `Means` says what that stands for.
-use Rattle.std.specs.Prelude.{◌≡◌, ◌≢◌, ◌≤◌, ℕ, pos, true, List, [], ◌∷◌, Option, Some, None, Result, Ok, Err, codes, map, option_map}
-use Rattle.std.specs.Prelude.{unwrap_or}
+use Rattle.std.specs.Prelude.{◌≡◌, ◌≢◌, ◌≤◌, ℕ, pos, Bool, true, false, List, [], ◌∷◌, Option, Some, None, Result, Ok, Err, codes, map}
+use Rattle.std.specs.Prelude.{option_map, unwrap_or}
 use Rattle.clap.specs.declared.error.Error.{Error}
 use Rattle.clap.specs.declared.error.kind.ErrorKind.TheVariants.{OutOfMemory}
 use Rattle.std.specs.Borrow.{Bor}
+use Rattle.std.specs.Str.{bytes_eq}
 use Rattle.std.specs.Str.Parse.{IsNumeral, digits_value, without_leading_plus}
 use Rattle.std.specs.String.{string_bytes}
 use Rattle.clap.specs.Kinds.{HasKind}
@@ -14,7 +15,7 @@ use Rattle.clap.specs.Lexer.{usize_max}
 use Rattle.clap.specs.Walk.{texts}
 use Rattle.clap.specs.Words.{App, Row, Rule, Text, all_of, fault_of, first_of, kind_of, new_app, new_rule, one_of, subcommand_of, takes}
 use Rattle.clap.specs.Words.{with_rule, with_subcommand}
-use Rattle.clap.specs.declared.builder.action.ArgAction.TheVariants.{Append, Set}
+use Rattle.clap.specs.declared.builder.action.ArgAction.TheVariants.{Append, Set, SetTrue}
 use Rattle.clap.specs.declared.builder.texts.Texts.{Texts}
 use Rattle.clap.specs.declared.builder.texts.Texts.TheVariants.{One, Many}
 use Rattle.clap.specs.declared.builder.value_parser.ValueParser.TheVariants as parser
@@ -23,6 +24,7 @@ use Rattle.oth_rules.specs.declared.scoring.Scoring.TheVariants.{Winner, Discs}
 use Rattle.oth_words.specs.declared.settings.Settings.{Settings}
 use Rattle.oth_words.specs.declared.settings.Command.{Command}
 use Rattle.oth_words.specs.declared.settings.Command.TheVariants.{Solve, Scores, Moves, Transcript, Play, Analyse}
+use Rattle.oth_words.specs.declared.settings.Telling.{Telling}
 use Rattle.oth_words.specs.declared.settings.Words.{Words}
 use Rattle.oth_words.specs.declared.settings.Words.TheVariants.{Run, Verify, Add}
 
@@ -77,25 +79,33 @@ files_rule = record (new_rule (codes "files")) {
   value_names = 1;
 }
 
+-- an option without a value
+abbrev pub explain_rule : Rule
+explain_rule = record (new_rule (codes "explain")) { long = Some (codes "explain"); action = Some SetTrue }
+
 abbrev pub file_rule : Rule
 file_rule = record (new_rule (codes "file")) { action = Some Set; required = true; value_names = 1 }
+
+-- a subcommand that reports lines
+abbrev pub lines_app : App → App
+lines_app titled = with_rule (with_rule titled explain_rule) files_rule
 
 -- a subcommand with the options of a search
 abbrev pub searcher_app : App → ScoringWords → App
 searcher_app titled scorings = with_rule (with_rule (with_rule titled workers_rule) cells_rule) (scoring_rule scorings)
 
 abbrev pub solve_app : ScoringWords → App
-solve_app scorings = with_rule (with_rule (searcher_app (new_app (codes "solve")) scorings) book_rule) files_rule
+solve_app scorings = lines_app (with_rule (searcher_app (new_app (codes "solve")) scorings) book_rule)
 
 abbrev pub scores_app : ScoringWords → App
-scores_app scorings = with_rule (searcher_app (new_app (codes "scores")) scorings) files_rule
+scores_app scorings = lines_app (searcher_app (new_app (codes "scores")) scorings)
 
 abbrev pub analyse_app : ScoringWords → App
-analyse_app scorings = with_rule (with_rule (searcher_app (new_app (codes "analyse")) scorings) last_rule) files_rule
+analyse_app scorings = lines_app (with_rule (searcher_app (new_app (codes "analyse")) scorings) last_rule)
 
--- a subcommand without options
+-- a subcommand that searches no board
 abbrev pub plain_app : Text → App
-plain_app name = with_rule (new_app name) files_rule
+plain_app name = lines_app (new_app name)
 
 abbrev pub verify_app : App
 verify_app = with_rule (new_app (codes "book-verify")) file_rule
@@ -128,12 +138,12 @@ othsolve scorings =
 
 -- the words of a command line, with a file's name as its text
 pub data Meaning : Type 0 where
-  run : Settings → Option Text → List Text → Meaning
+  run : Settings → Telling → Option Text → List Text → Meaning
   verify : Text → Meaning
   add : Settings → Text → Meaning
 
 abbrev pub meaning_of : Words → Meaning
-meaning_of (Run settings book files) = run settings (option_map string_bytes book) (map string_bytes files.items)
+meaning_of (Run settings telling book files) = run settings telling (option_map string_bytes book) (map string_bytes files.items)
 meaning_of (Verify file) = verify (string_bytes file)
 meaning_of (Add settings file) = add settings (string_bytes file)
 
@@ -181,10 +191,18 @@ MeansRun (Analyse last) sub s book = (sub.0 ≡ codes "analyse") × HasNumbers s
 abbrev pub files_of : List Row → List Text
 files_of rows = unwrap_or (all_of (codes "files") rows) []
 
+-- an option without a value has the text of a truth value: true where it is given
+abbrev pub is_yes : Option Text → Bool
+is_yes None = false
+is_yes (Some text) = bytes_eq text (codes "true")
+
+abbrev pub telling_of : List Row → Telling
+telling_of rows = record { explains = is_yes (first_of (codes "explain") rows) }
+
 -- a subcommand, by its name and its matches, stands for this
 abbrev pub Means : Option (Text × List Row) → Meaning → Type 0
 Means None m = ⊥
-Means (Some sub) (run s book files) = MeansRun s.command sub s book × (files_of sub.1 ≡ files)
+Means (Some sub) (run s telling book files) = MeansRun s.command sub s book × (files_of sub.1 ≡ files) × (telling_of sub.1 ≡ telling)
 Means (Some sub) (verify file) = (sub.0 ≡ codes "book-verify") × (first_of (codes "file") sub.1 ≡ Some file)
 Means (Some sub) (add s file) = (sub.0 ≡ codes "book-add") × HasNumbers sub.1 s × (s.command ≡ Solve) × (s.scoring ≡ Winner)
     × (first_of (codes "file") sub.1 ≡ Some file)

@@ -7,16 +7,17 @@ ghost use Rattle.clap.specs.Words.{subcommand_of, subcommand_rows_of, takes};
 ghost use Rattle.clap.specs.declared.builder.command.Command.TheViews.{out-Command};
 ghost use Rattle.clap.specs.declared.builder.texts.Texts.TheVariants.{One};
 ghost use Rattle.oth_words.specs.CommandLine.{AreScorings, HasLast, HasNumbers, IsCalled, IsNumber, IsPlain, IsReading};
-ghost use Rattle.oth_words.specs.CommandLine.{Meaning, Means};
+ghost use Rattle.oth_words.specs.CommandLine.{Meaning, Means, is_yes};
 ghost use Rattle.oth_words.specs.CommandLine.{ScoringWords, add_app, book_rule, cells_rule, file_rule, files_of};
-ghost use Rattle.oth_words.specs.CommandLine.{analyse_app, files_rule, last_rule, meaning_of, plain_app};
+ghost use Rattle.oth_words.specs.CommandLine.{analyse_app, explain_rule, files_rule, last_rule, lines_app, meaning_of};
+ghost use Rattle.oth_words.specs.CommandLine.{plain_app, telling_of};
 ghost use Rattle.oth_words.specs.CommandLine.{option_rule, othsolve, run, scores_app, scoring_rule, scoring_word};
 ghost use Rattle.oth_words.specs.CommandLine.{searcher_app, solve_app, titled, verify_app, workers_rule};
 ghost use Rattle.oth_words.specs.Plans.{listed, plan_meaning};
 ghost use Rattle.clap.specs.declared.error.kind.ErrorKind.TheVariants.{OutOfMemory};
 
 use crate::plan::Plan;
-use crate::settings::{Command, Settings, Words};
+use crate::settings::{Command, Settings, Telling, Words};
 use clap::error::ErrorKind;
 use clap::{Arg, ArgAction, ArgMatches, Command as App, Error, value_parser};
 use oth_rules::Scoring;
@@ -91,7 +92,7 @@ Where the side to move has no move, the answer and the faults are those of solve
 
 const MOVES_ABOUT: &str = "Writes all legal moves of each board line";
 
-const MOVES_USAGE: &str = "othsolve moves [FILE]...";
+const MOVES_USAGE: &str = "othsolve moves [OPTIONS] [FILE]...";
 
 const MOVES_NOTES: &str = "\
 Boards are read a line each, from standard input or from files: othsolve moves boards.txt
@@ -107,7 +108,7 @@ is answered by 'error 1' to 'error 4', as in solve --help.";
 
 const TRANSCRIPT_ABOUT: &str = "Writes the board line that each transcript leads to";
 
-const TRANSCRIPT_USAGE: &str = "othsolve transcript [FILE]...";
+const TRANSCRIPT_USAGE: &str = "othsolve transcript [OPTIONS] [FILE]...";
 
 const TRANSCRIPT_NOTES: &str = "\
 Games are read a line each, from standard input or from files: othsolve transcript games.txt
@@ -126,7 +127,7 @@ Faults of a transcript, whose pairs of bytes are counted from 1:
 
 const PLAY_ABOUT: &str = "Writes the board line that the moves behind each board line lead to";
 
-const PLAY_USAGE: &str = "othsolve play [FILE]...";
+const PLAY_USAGE: &str = "othsolve play [OPTIONS] [FILE]...";
 
 const PLAY_NOTES: &str = "\
 Games are read a line each, from standard input or from files: othsolve play games.txt
@@ -283,6 +284,17 @@ fn argument<'a>(alloc: Global, id: &'a str) -> Arg<'a>
     Arg::new(alloc, id).value_name("FILE")
 }
 
+// The option `--explain`.
+fn explain_option<'a>(alloc: Global) -> Arg<'a>
+    ensures rule { rule_of result ≡ explain_rule }
+    ensures local { result.global ≡ false }
+{
+    Arg::new(alloc, "explain")
+        .long("explain")
+        .action(ArgAction::SetTrue)
+        .help("Tell each fault in words on standard error too, with the number of its line")
+}
+
 // The argument `FILE..` of the commands that report lines.
 fn files_argument<'a>(alloc: Global) -> Arg<'a>
     ensures rule { rule_of result ≡ files_rule }
@@ -328,6 +340,17 @@ fn titled_command<'a>(
         .after_help(notes)
 }
 
+// The subcommand with what each command that reports lines has last.
+fn with_lines<'a>(alloc: Global, command: App<'a>) -> Result<App<'a>, AllocError>
+    requires { (out-Command command).has_globals ≡ false }
+    ensures app { IfOk result (λ c. app_of c ≡ lines_app (app_of command.entry)) }
+    ensures local { IfOk result (λ c. (out-Command c).has_globals ≡ false) }
+{
+    command
+        .arg(explain_option(alloc))?
+        .arg(files_argument(alloc))
+}
+
 // The subcommand with the options of a search.
 fn with_search_options<'a>(
     alloc: Global,
@@ -350,9 +373,8 @@ fn solve_command<'a>(alloc: Global, scorings: &'a [&'a str]) -> Result<App<'a>, 
     ensures local { IfOk result (λ c. (out-Command c).has_globals ≡ false) }
 {
     let solve = titled_command(alloc, "solve", SOLVE_ABOUT, SOLVE_USAGE, SOLVE_NOTES);
-    with_search_options(alloc, solve, scorings)?
-        .arg(book_option(alloc))?
-        .arg(files_argument(alloc))
+    let searcher = with_search_options(alloc, solve, scorings)?;
+    with_lines(alloc, searcher.arg(book_option(alloc))?)
 }
 
 // The subcommand `scores` with its options.
@@ -361,7 +383,7 @@ fn scores_command<'a>(alloc: Global, scorings: &'a [&'a str]) -> Result<App<'a>,
     ensures local { IfOk result (λ c. (out-Command c).has_globals ≡ false) }
 {
     let scores = titled_command(alloc, "scores", SCORES_ABOUT, SCORES_USAGE, SCORES_NOTES);
-    with_search_options(alloc, scores, scorings)?.arg(files_argument(alloc))
+    with_lines(alloc, with_search_options(alloc, scores, scorings)?)
 }
 
 // The subcommand `analyse` with its options.
@@ -376,12 +398,11 @@ fn analyse_command<'a>(alloc: Global, scorings: &'a [&'a str]) -> Result<App<'a>
         ANALYSE_USAGE,
         ANALYSE_NOTES,
     );
-    with_search_options(alloc, analyse, scorings)?
-        .arg(last_option(alloc))?
-        .arg(files_argument(alloc))
+    let searcher = with_search_options(alloc, analyse, scorings)?;
+    with_lines(alloc, searcher.arg(last_option(alloc))?)
 }
 
-// A subcommand without options, of this name and with this help.
+// A subcommand that searches no board, of this name and with this help.
 fn plain_command<'a>(
     alloc: Global,
     name: &'a str,
@@ -392,7 +413,8 @@ fn plain_command<'a>(
     ensures app { IfOk result (λ c. app_of c ≡ plain_app name.entry.now) }
     ensures local { IfOk result (λ c. (out-Command c).has_globals ≡ false) }
 {
-    titled_command(alloc, name, about, usage, notes).arg(files_argument(alloc))
+    let titled = titled_command(alloc, name, about, usage, notes);
+    with_lines(alloc, titled)
 }
 
 // The subcommand `book-verify`.
@@ -502,6 +524,25 @@ fn files<'m, 'a>(matches: &'m ArgMatches<'a>) -> Option<&'m [&'a str]>
     matches.get_strs("files")
 }
 
+// What is asked for to be told.
+fn telling(matches: &ArgMatches<'_>) -> Telling
+    ensures { result ≡ telling_of (rows_of (found_of matches.now)) }
+{
+    Telling {
+        explains: is_given(matches, "explain"),
+    }
+}
+
+// Whether the option without a value is given.
+fn is_given(matches: &ArgMatches<'_>, id: &str) -> bool
+    ensures { result ≡ is_yes (first_of id.now (rows_of (found_of matches.now))) }
+{
+    match text(matches, id) {
+        Some(text) => text == "true",
+        None => false,
+    }
+}
+
 // The value of `--scoring`.
 fn scoring(matches: &ArgMatches<'_>) -> Option<Scoring>
     ensures { MatchOption result
@@ -522,7 +563,12 @@ fn solve_plan<'m, 'a>(matches: &'m ArgMatches<'a>) -> Option<Plan<'m, 'a>>
         (λ p. Means (Some (codes "solve", rows_of (found_of matches.now))) (plan_meaning p)) }
 {
     let settings = search_settings(matches, Command::Solve, scoring(matches)?)?;
-    Some(Plan::Run(settings, text(matches, "book"), files(matches)))
+    Some(Plan::Run(
+        settings,
+        telling(matches),
+        text(matches, "book"),
+        files(matches),
+    ))
 }
 
 // What `scores` stands for.
@@ -532,7 +578,7 @@ fn scores_plan<'m, 'a>(matches: &'m ArgMatches<'a>) -> Option<Plan<'m, 'a>>
         (λ p. Means (Some (codes "scores", rows_of (found_of matches.now))) (plan_meaning p)) }
 {
     let settings = search_settings(matches, Command::Scores, scoring(matches)?)?;
-    Some(Plan::Run(settings, None, files(matches)))
+    Some(Plan::Run(settings, telling(matches), None, files(matches)))
 }
 
 // The value of `--last`.
@@ -553,7 +599,7 @@ fn analyse_plan<'m, 'a>(matches: &'m ArgMatches<'a>) -> Option<Plan<'m, 'a>>
 {
     let command = Command::Analyse(last(matches)?);
     let settings = search_settings(matches, command, scoring(matches)?)?;
-    Some(Plan::Run(settings, None, files(matches)))
+    Some(Plan::Run(settings, telling(matches), None, files(matches)))
 }
 
 // What `book-verify` stands for.
@@ -575,10 +621,10 @@ fn add_plan<'m, 'a>(matches: &'m ArgMatches<'a>) -> Option<Plan<'m, 'a>>
     Some(Plan::Add(settings, text(matches, "file")?))
 }
 
-// What the commands without options ask for.
+// What the commands that search no board ask for.
 fn plain<'m, 'a>(matches: &'m ArgMatches<'a>, command: Command) -> Plan<'m, 'a>
-    ensures { (s : Settings) × (plan_meaning result ≡ run s None (files_of (rows_of (found_of matches.now))))
-        × (s.command ≡ command) × IsPlain s }
+    ensures { (s : Settings) × (s.command ≡ command) × IsPlain s × (plan_meaning result
+        ≡ run s (telling_of (rows_of (found_of matches.now))) None (files_of (rows_of (found_of matches.now)))) }
 {
     let settings = Settings {
         command,
@@ -586,7 +632,7 @@ fn plain<'m, 'a>(matches: &'m ArgMatches<'a>, command: Command) -> Plan<'m, 'a>
         cells: 0,
         scoring: Scoring::Winner,
     };
-    Plan::Run(settings, None, files(matches))
+    Plan::Run(settings, telling(matches), None, files(matches))
 }
 
 // What a subcommand and its matches stand for.
@@ -656,10 +702,10 @@ fn copied(alloc: Global, plan: Plan<'_, '_>) -> Result<Words, AllocError>
     ensures { IfOk result (λ w. meaning_of w ≡ plan_meaning plan.entry) }
 {
     match plan {
-        Plan::Run(settings, book, files) => {
+        Plan::Run(settings, telling, book, files) => {
             let book = book_copied(alloc, book)?;
             let files = files_copied(alloc, files)?;
-            Ok(Words::Run(settings, book, files))
+            Ok(Words::Run(settings, telling, book, files))
         }
         Plan::Verify(file) => Ok(Words::Verify(String::from_str(alloc, file)?)),
         Plan::Add(settings, file) => Ok(Words::Add(settings, String::from_str(alloc, file)?)),
@@ -685,10 +731,10 @@ fn read_with<'a>(
 
 /// Reads the words of a command line, of which the first names the program:
 ///
-/// - `solve [--workers N] [--cells N] [--scoring winner|discs] [--book FILE] [FILE]..`
-/// - `scores [--workers N] [--cells N] [--scoring winner|discs] [FILE]..`
-/// - `moves [FILE]..`, `transcript [FILE]..`, `play [FILE]..`: by one worker, without a table
-/// - `analyse [--workers N] [--cells N] [--scoring winner|discs] [--last N] [FILE]..`
+/// - `solve [--workers N] [--cells N] [--scoring winner|discs] [--book FILE] [--explain] [FILE]..`
+/// - `scores [--workers N] [--cells N] [--scoring winner|discs] [--explain] [FILE]..`
+/// - `moves`, `transcript`, `play`, each with `[--explain] [FILE]..`: by one worker, without a table
+/// - `analyse [--workers N] [--cells N] [--scoring winner|discs] [--last N] [--explain] [FILE]..`
 /// - `book-verify FILE`
 /// - `book-add [--workers N] [--cells N] FILE`: it solves under `winner`
 ///

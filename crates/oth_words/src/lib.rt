@@ -12,4 +12,4 @@ mod plan;
 mod settings;
 
 pub use command_line::read_words;
-pub use settings::{Command, DEFAULT_CELLS, Settings, Words};
+pub use settings::{Command, DEFAULT_CELLS, Settings, Telling, Words};

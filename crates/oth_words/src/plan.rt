@@ -1,11 +1,11 @@
 //! What the words ask for, before any text is copied.
 
-use crate::settings::Settings;
+use crate::settings::{Settings, Telling};
 
 /// As `Words`, with each file's name as it stands in the words.
 #[derive(Clone, Copy, Debug, Drop)]
 pub enum Plan<'m, 'a> {
-    Run(Settings, Option<&'a str>, Option<&'m [&'a str]>),
+    Run(Settings, Telling, Option<&'a str>, Option<&'m [&'a str]>),
     Verify(&'a str),
     Add(Settings, &'a str),
 }

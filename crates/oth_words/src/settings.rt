@@ -36,12 +36,19 @@ pub struct Settings {
     pub scoring: Scoring,
 }
 
+/// What is told beside the report.
+#[derive(Clone, Copy, Debug, PartialEq, Eq, Drop)]
+pub struct Telling {
+    /// Faults of lines are told in words, and so is what ends the work, on a terminal or not.
+    pub explains: bool,
+}
+
 /// What the words of a command line ask for. The texts are names of files.
 #[derive(Debug, Drop)]
 pub enum Words {
     /// Report each line of the input, with the book of this file where one is named. The input are the files of the
     /// list, one after the other, or standard input where it names none.
-    Run(Settings, Option<String>, Vec<String>),
+    Run(Settings, Telling, Option<String>, Vec<String>),
     /// Verify the book of this file.
     Verify(String),
     /// Solve each line of the input, and add the answers to the book of this file.

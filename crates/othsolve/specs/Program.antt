@@ -29,18 +29,18 @@ pub record HasReported (settings : Settings) (reader reader' writer writer' : Op
   pub wrote : Appends writer writer' (report (reply settings) input)
 
 abbrev pub HasObeyed : Words → Option (List ℕ) → Option (List ℕ) → Option (List ℕ) → Option (List ℕ) → Type 0
-HasObeyed (Run settings book files) reader reader' writer writer' = HasReported settings reader reader' writer writer'
+HasObeyed (Run settings telling book files) reader reader' writer writer' = HasReported settings reader reader' writer writer'
 HasObeyed (Verify name) reader reader' writer writer' = (reader' ≡ reader) × ((file : List ℕ) × TellsBook file writer writer')
 HasObeyed (Add settings name) reader reader' writer writer' = (file : List ℕ) × AddsTo file reader reader' writer writer'
 
 -- how many files are named whose lines are reported
 abbrev pub file_count : Words → ℕ
-file_count (Run settings book files) = length files.items
+file_count (Run settings telling book files) = length files.items
 file_count (Verify name) = 0
 file_count (Add settings name) = 0
 
 abbrev pub AreRefused : Words → Type 0
-AreRefused (Run settings book files) = AreLawful settings → ⊥
+AreRefused (Run settings telling book files) = AreLawful settings → ⊥
 AreRefused (Verify name) = ⊥
 AreRefused (Add settings name) = AreLawful settings → ⊥
 

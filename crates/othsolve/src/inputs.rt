@@ -32,7 +32,7 @@ pub fn inputs_of<T: Files + AllocGlobal, I: Read + Copy + Drop, E: Sink>(
     ensures refused { IfErr result (λ s. s ≡ 2 ↔ AreRefused words.now) }
     ensures statuses { IfErr result (λ s. (1 ≤ s) × (s ≤ 2)) }
 {
-    let Words::Run(settings, _, names) = words else {
+    let Words::Run(settings, _, _, names) = words else {
         return Ok(Joined::of(rt.alloc(), FromRead::new(Left(stdin))));
     };
     if names.is_empty() {

@@ -10,9 +10,9 @@ ghost use Rattle.othsolve.specs.Program.{AreRefused, HasObeyed, HasReported, Tel
 use crate::inputs::{STANDARD_INPUT, inputs_of};
 use oth_book::{Book, BookFault};
 use oth_main::{
-    BookRefusal, Errors, Joined, MOST_BOOK_BYTES, REFUSED, Reason, Report, RunFault, STATUS_DONE,
-    Scene, Settings, Watch, Words, book_add, book_verify, check_settings, open_book, print_refusal,
-    print_run_fault, read_words, run, tell_scoring,
+    BookRefusal, Errors, Faults, Joined, MOST_BOOK_BYTES, REFUSED, Reason, Report, RunFault,
+    STATUS_DONE, Scene, Settings, Watch, Words, book_add, book_verify, check_settings, open_book,
+    print_refusal, print_run_fault, read_words, run, tell_scoring,
 };
 use oth_text::{FromRead, Sink, Source, ToWrite};
 use std::alloc::Global;
@@ -50,11 +50,14 @@ struct Means<'m, T, S> {
 
 // Obeys the words of the command line.
 fn main(rt: HostRuntime) -> ExitCode {
-    let mut errors = Errors::new(ToWrite::new(rt.stderr()), rt.stderr().is_terminal());
     let words = match words(&rt) {
         Ok(words) => words,
         Err(status) => return ExitCode::from(status),
     };
+    let faults = explained_faults(&words);
+    let is_watched = rt.stderr().is_terminal();
+    let in_words = is_watched || faults.is_some();
+    let mut errors = Errors::new(ToWrite::new(rt.stderr()), in_words);
     let mut inputs = match inputs_of(&rt, rt.stdin(), &words, &mut errors) {
         Ok(inputs) => inputs,
         Err(status) => {
@@ -62,15 +65,25 @@ fn main(rt: HostRuntime) -> ExitCode {
             return ExitCode::from(status);
         }
     };
-    let watch = Watch::on(ToWrite::new(rt.stderr()), errors.is_terminal);
-    let shares_terminal = rt.stdout().is_terminal();
-    let mut report = Report::of(&rt, &watch, ToWrite::new(rt.stdout()), shares_terminal);
+    let watch = Watch::on(ToWrite::new(rt.stderr()), is_watched);
+    let (writer, shares_terminal) = (ToWrite::new(rt.stdout()), rt.stdout().is_terminal());
+    let mut report = Report::of(&rt, &watch, writer, shares_terminal, faults);
     let sitter = Sitter {
         watch: &watch,
         types: rt.stdin().is_terminal(),
     };
     let status = obey_watched(&sitter, &words, &mut inputs, &mut report, &mut errors);
     ExitCode::from(status)
+}
+
+// What finds the faults of a report whose words ask for them to be told in words.
+fn explained_faults(words: &Words) -> Option<Faults> {
+    match words {
+        Words::Run(settings, telling, _, _) if telling.explains => {
+            Some(Faults::of(settings.command))
+        }
+        _ => None,
+    }
 }
 
 // Does what the words ask for, and shows how far it is where standard error is a terminal.
@@ -145,7 +158,7 @@ fn obey_beside<
     watch.beside(rt, rt.alloc(), &mut obeying)
 }
 
-// Tells why the words' work ended, where the error output is a terminal.
+// Tells why the words' work ended, where words are told.
 fn explain<R: Read + Drop, W: Write, E: Sink>(
     alloc: Global,
     words: &Words,
@@ -153,7 +166,7 @@ fn explain<R: Read + Drop, W: Write, E: Sink>(
     writer: &ToWrite<W>,
     errors: &mut Errors<E>,
 )
-    ensures { errors.old.is_terminal ≡ false → errors.new ≡ errors.old }
+    ensures { errors.old.in_words ≡ false → errors.new ≡ errors.old }
 {
     let scene = Scene {
         file: file_name(words),
@@ -166,7 +179,7 @@ fn explain<R: Read + Drop, W: Write, E: Sink>(
 
 // What the input at this place among all is called, counted from 0.
 fn input_name(words: &Words, place: usize) -> &str {
-    if let Words::Run(_, _, names) = words {
+    if let Words::Run(_, _, _, names) = words {
         if place < names.len() && names[place].as_str() != STANDARD_INPUT {
             return names[place].as_str();
         }
@@ -177,8 +190,8 @@ fn input_name(words: &Words, place: usize) -> &str {
 // The name of the book that the words name.
 fn file_name(words: &Words) -> &str {
     match words {
-        Words::Run(_, Some(name), _) => name.as_str(),
-        Words::Run(_, None, _) => "",
+        Words::Run(_, _, Some(name), _) => name.as_str(),
+        Words::Run(_, _, None, _) => "",
         Words::Verify(name) => name.as_str(),
         Words::Add(_, name) => name.as_str(),
     }
@@ -210,11 +223,11 @@ fn obey<
 {
     let rt = means.rt;
     match words {
-        Words::Run(settings, None, names) => {
+        Words::Run(settings, _, None, names) => {
             greet(means, settings, names.is_empty(), errors);
             report(means, settings, None, reader, writer, errors)
         }
-        Words::Run(settings, Some(name), names) => {
+        Words::Run(settings, _, Some(name), names) => {
             match book_of(rt, settings, name.as_str(), errors) {
                 Ok(book) => {
                     greet(means, settings, names.is_empty(), errors);

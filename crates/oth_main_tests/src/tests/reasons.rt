@@ -79,11 +79,11 @@ const KINDS: [(ErrorKind, &[u8]); 7] = [
 pub(super) fn told(
     alloc: Global,
     reason: Option<Reason>,
-    is_terminal: bool,
+    in_words: bool,
     until_failure: usize,
     file: &str,
 ) -> ByteSink<128> {
-    let mut errors = Errors::new(ByteSink::<128>::new(until_failure), is_terminal);
+    let mut errors = Errors::new(ByteSink::<128>::new(until_failure), in_words);
     errors.reason = reason;
     let scene = Scene {
         file,
@@ -227,9 +227,9 @@ fn a_refused_file_keeps_its_reason(rt: HostRuntime) {
 fn told_of_scoring<R: Threads + Sync + AllocGlobal>(
     rt: &R,
     asked: Scoring,
-    is_terminal: bool,
+    in_words: bool,
 ) -> ByteSink<128> {
-    let mut errors = Errors::new(ByteSink::<128>::new(NO_FAILURE), is_terminal);
+    let mut errors = Errors::new(ByteSink::<128>::new(NO_FAILURE), in_words);
     if let Ok(book) = open_book(rt, rt.alloc(), EMPTY_BOOK, 1, 0) {
         tell_scoring(rt.alloc(), "my.book", &book, asked, &mut errors);
     }
@@ -262,8 +262,8 @@ fn a_file_of_lines_is_named_where_it_fails(rt: HostRuntime) {
 // On a terminal and elsewhere, and once.
 #[test]
 fn a_file_that_cannot_be_opened_is_named_everywhere(rt: HostRuntime) {
-    for is_terminal in [false, true] {
-        let mut errors = Errors::new(ByteSink::<128>::new(NO_FAILURE), is_terminal);
+    for in_words in [false, true] {
+        let mut errors = Errors::new(ByteSink::<128>::new(NO_FAILURE), in_words);
         let _ = print_run_fault(RunFault::Read, &mut errors);
         errors.tell_unopened(rt.alloc(), "a\u{7}.txt", &Error::from(ErrorKind::NotFound));
         errors.explain(rt.alloc(), &Scene::default());

@@ -15,7 +15,7 @@ fn kind_of_error(alloc: Global, words: &[&str]) -> Option<ErrorKind> {
 // The settings of the run without a book over standard input that these words ask for.
 fn run_of(alloc: Global, words: &[&str]) -> Option<Settings> {
     match read_words(alloc, words) {
-        Ok(Words::Run(settings, book, files)) => {
+        Ok(Words::Run(settings, _telling, book, files)) => {
             let is_plain = book.is_none() && files.is_empty();
             if is_plain { Some(settings) } else { None }
         }
@@ -27,7 +27,7 @@ fn run_of(alloc: Global, words: &[&str]) -> Option<Settings> {
 // Whether these words ask for a run over just these files.
 fn reads(alloc: Global, words: &[&str], wanted: &[&str]) -> bool {
     match read_words(alloc, words) {
-        Ok(Words::Run(_settings, _book, files)) => are(files.as_slice(), wanted),
+        Ok(Words::Run(_settings, _telling, _book, files)) => are(files.as_slice(), wanted),
         Ok(_words) => false,
         Err(_error) => false,
     }
@@ -70,7 +70,8 @@ fn solve_has_defaults_and_takes_values(rt: HostRuntime) {
         "a.book",
     ];
     match read_words(rt.alloc(), words.as_slice()).expect(&rt, "words") {
-        Words::Run(settings, book, files) => {
+        Words::Run(settings, telling, book, files) => {
+            assert!(rt; !telling.explains);
             assert!(rt; files.is_empty());
             assert!(rt;
                 settings
@@ -87,6 +88,38 @@ fn solve_has_defaults_and_takes_values(rt: HostRuntime) {
             }
         }
         _ => panic!(rt; "another command"),
+    }
+}
+
+// Whether these words ask for faults in words.
+fn explains(alloc: Global, words: &[&str]) -> Option<bool> {
+    match read_words(alloc, words) {
+        Ok(Words::Run(_settings, telling, _book, _files)) => Some(telling.explains),
+        Ok(_words) => None,
+        Err(_error) => None,
+    }
+}
+
+#[test]
+fn each_command_that_reports_lines_explains_where_it_is_asked(rt: HostRuntime) {
+    for command in ["solve", "scores", "moves", "transcript", "play", "analyse"] {
+        let plain = ["othsolve", command, "a.txt"];
+        assert!(rt; explains(rt.alloc(), plain.as_slice()) == Some(false));
+        let before = ["othsolve", command, "--explain", "a.txt"];
+        assert!(rt; explains(rt.alloc(), before.as_slice()) == Some(true));
+        assert!(rt; reads(rt.alloc(), before.as_slice(), ["a.txt"].as_slice()));
+        let behind = ["othsolve", command, "a.txt", "--explain"];
+        assert!(rt; explains(rt.alloc(), behind.as_slice()) == Some(true));
+        let twice = ["othsolve", command, "--explain", "--explain"];
+        let kind = kind_of_error(rt.alloc(), twice.as_slice());
+        assert!(rt; kind == Some(ErrorKind::ArgumentConflict));
+        let valued = ["othsolve", command, "--explain=yes"];
+        assert!(rt; kind_of_error(rt.alloc(), valued.as_slice()) == Some(ErrorKind::TooManyValues));
+    }
+    for command in ["book-add", "book-verify"] {
+        let words = ["othsolve", command, "--explain", "a.book"];
+        let kind = kind_of_error(rt.alloc(), words.as_slice());
+        assert!(rt; kind == Some(ErrorKind::UnknownArgument));
     }
 }
 

@@ -25,4 +25,5 @@ returns c =
       subst (λ t. MeansRun t (codes "analyse", rows_of (found_of c.args.matches.now)) c.in_ok-settings.settings None) (sym settings.1)
           (refl, settings.0, c.in_ok-scoring.ensures ∙ ap (λ s. Some (scoring_word s)) (sym settings.2), refl, c.in_ok-last.ensures),
       sym c.files.ensures,
+      sym c.telling.ensures,
     )

@@ -3,17 +3,17 @@ use Rattle.std.specs.Prelude.{◌||◌}
 use Rattle.std.proofs.lemmas.Result.{IfOk-weaker}
 use Rattle.clap.specs.Words.{App, with_rule}
 use Rattle.clap.specs.declared.builder.command.Command.TheViews.{out-Command}
-use Rattle.oth_words.specs.CommandLine.{searcher_app}
+use Rattle.oth_words.specs.CommandLine.{lines_app, searcher_app}
 use Rattle.oth_words.proofs.command_line.solve_command.Goals as goal
 
 pub returns-clause-app : goal.returns-clause-app
 returns-clause-app c =
-    let searcher = c.in_ok-with_search_options.ensures.app ∙ ap (λ (a : App). searcher_app a c.args.scorings) c.titled_command-solve.ensures.app in
+    let searcher = c.in_ok-searcher.ensures.app ∙ ap (λ (a : App). searcher_app a c.args.scorings) c.titled_command-solve.ensures.app in
     let asks = c.in_ok-arg.ensures.shape c.book_option.ensures.local ∙ ap₂ with_rule searcher c.book_option.ensures.rule in
-    IfOk-weaker c.arg-2.result _ _ (λ r added. added.shape c.files_argument.ensures.local ∙ ap₂ with_rule asks c.files_argument.ensures.rule) c.arg-2.ensures
+    IfOk-weaker c.with_lines.result _ _ (λ r lines. lines ∙ ap lines_app asks) c.with_lines.ensures.app
 
 pub returns-clause-local : goal.returns-clause-local
-returns-clause-local c =
-    let asks : (out-Command c.in_ok-arg.field-0).has_globals ≡ false =
-    c.in_ok-arg.ensures.globals ∙ ap₂ ◌||◌ c.in_ok-with_search_options.ensures.local c.book_option.ensures.local in
-    IfOk-weaker c.arg-2.result _ _ (λ r added. added.globals ∙ ap₂ ◌||◌ asks c.files_argument.ensures.local) c.arg-2.ensures
+returns-clause-local c = c.with_lines.ensures.local
+
+pub with_lines-requires : goal.with_lines-requires
+with_lines-requires c = c.in_ok-arg.ensures.globals ∙ ap₂ ◌||◌ c.in_ok-searcher.ensures.local c.book_option.ensures.local

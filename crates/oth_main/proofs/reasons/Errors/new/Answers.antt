@@ -1,5 +1,5 @@
 use Rattle.std.proofs.Common.{rules}
 use Rattle.oth_main.proofs.reasons.Errors.new.Goals as goal
 
-pub returns-clause-terminal : goal.returns-clause-terminal
-returns-clause-terminal g c = search rules
+pub returns-clause-words : goal.returns-clause-words
+returns-clause-words g c = search rules
