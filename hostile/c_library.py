@@ -1,6 +1,7 @@
 """Builds the C library's example in an empty folder, and compares what C programs get from the library with what the built program prints.
 
-It needs `cc` and `ar`. Where valgrind is installed, the same runs are made under it: no error, and nothing lost.
+It needs `cc` and `ar`. Where valgrind is installed, the same runs are made under it: no error, and nothing lost. Where the compiler has
+ThreadSanitizer, threads that share a table and end each other's calls are run under it: no race.
 """
 import os
 import random
@@ -56,6 +57,8 @@ def steps(crates):
         yield from scores(program, calls)
         yield from moves_on_boards(calls)
         yield from without_memory(program, calls, lines[:100])
+        if has_thread_sanitizer():
+            yield from under_thread_sanitizer(program, tests, flags, lines[:200])
         if shutil.which("valgrind"):
             yield from under_valgrind(program, calls, lines[:50])
 
@@ -235,6 +238,28 @@ def without_memory(program, calls, lines):
     for request in (1, 2):
         name = f"{len(lines)} boards in C over one table where request {request} of a solving call for memory is refused"
         yield name, ran_wrong([calls, "share", "winner", "64", "4"], text, wanted, env={**os.environ, "REFUSED": str(request)})
+
+
+def has_thread_sanitizer():
+    """Tells whether the compiler here has ThreadSanitizer."""
+    found = subprocess.run(["cc", "-print-file-name=libtsan.so"], stdout=subprocess.PIPE, text=True, check=False)
+    return os.path.isabs(found.stdout.strip())
+
+
+def under_thread_sanitizer(program, tests, flags, lines):
+    """Tests that ThreadSanitizer finds no race in a C program whose threads share a table and end each other's calls."""
+    words = ["cc", *flags, "-fsanitize=thread", "c_calls.c", "libothsolve.a", "-pthread", "-o", "c_calls_tsan"]
+    unbuilt = ran_wrong(words, cwd=tests)
+    yield "ThreadSanitizer: the C calls are built", unbuilt
+    if unbuilt:
+        return
+    calls, how = f"{tests}/c_calls_tsan", {"env": {**os.environ, "TSAN_OPTIONS": "exitcode=99"}}
+    text = text_of(lines)
+    wanted = printed([program, "solve"], text)
+    yield "ThreadSanitizer: each refusal, and a call that another thread ends", ran_wrong([calls, "refusals"], **how)
+    for command in ("solve", "share", "within"):
+        name = f"ThreadSanitizer: {command} of {len(lines)} boards, eight threads"
+        yield name, ran_wrong([calls, command, "winner", "64", "8"], text, wanted, **how)
 
 
 def under_valgrind(program, calls, lines):

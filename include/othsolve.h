@@ -156,7 +156,7 @@ uint32_t oth_play(oth_board board, uint8_t square, oth_board *next);
  * Refusals, the first that holds: OTH_OVERLAP, OTH_SCORING, OTH_EMPTIES, OTH_CELLS. */
 uint32_t oth_solve_alone(oth_board board, uint8_t scoring, uint32_t cells, oth_answer *answer);
 
-/* The same, and the score of every move: the best moves are those with the greatest score. It takes longer, since each of
+/* As oth_solve_alone, with the score of every move: the best moves are those with the greatest score. It takes longer, since each of
  * them is exact, but less than oth_solve_alone on each board after a move: some 0.8 of it at 14 and 16 empty squares.
  * Refusals, the first that holds: OTH_OVERLAP, OTH_SCORING, OTH_EMPTIES, OTH_CELLS. */
 uint32_t oth_scores(oth_board board, uint8_t scoring, uint32_t cells, oth_move_scores *scores);
@@ -186,7 +186,7 @@ uint32_t oth_seat_new(oth_seat *seat, oth_seat *more);
  * Refusals, the first that holds: OTH_OVERLAP, OTH_EMPTIES, OTH_NO_SEAT. */
 uint32_t oth_solve_over(oth_seat *seat, oth_board board, oth_answer *answer);
 
-/* The same, and the score of every move, as oth_scores.
+/* As oth_solve_over, with the score of every move, as oth_scores tells it.
  * Refusals, the first that holds: OTH_OVERLAP, OTH_EMPTIES, OTH_NO_SEAT. */
 uint32_t oth_scores_over(oth_seat *seat, oth_board board, oth_move_scores *scores);
 
@@ -199,7 +199,7 @@ uint32_t oth_scores_over(oth_seat *seat, oth_board board, oth_move_scores *score
  * Refusals, the first that holds: OTH_OVERLAP, OTH_EMPTIES, OTH_NO_SEAT. */
 uint32_t oth_solve_within(oth_seat *seat, oth_board board, uint64_t most, oth_answer *answer, oth_bounds *bounds);
 
-/* The same for a program that has to move: where it returns OTH_STOPPED it writes what is known of the board and of each move,
+/* As oth_solve_within, for a program that has to move: where it returns OTH_STOPPED it writes what is known of the board and of each move,
  * so that there is one to play, however small `most` was. The best move of an answer is any bit of `best`.
  *
  *     oth_known known;
@@ -240,7 +240,7 @@ uint32_t oth_read_board(const uint8_t *text, size_t length, oth_position *positi
  * OTH_GAME_ILLEGAL. */
 uint32_t oth_read_transcript(const uint8_t *text, size_t length, oth_position *position, uint8_t *place);
 
-/* The same from any position, whose mover moves first, or passes where it has no move and the other side has one. So the
+/* As oth_read_transcript, but from any position, whose mover moves first, or passes where it has no move and the other side has one. So the
  * mover of `next` has a move unless the game is over. `next` may be where `position` was taken from, which goes by value.
  * Refusals: OTH_OVERLAP, or else OTH_MOVER, or else those of oth_read_transcript. */
 uint32_t oth_play_game(oth_position position, const uint8_t *text, size_t length, oth_position *next, uint8_t *place);
