@@ -1,4 +1,4 @@
-use Rattle.oth_table_tests.proofs.tests.+crowd+fn-crowd-join+arg2+fn-crowd-join+arg3.Given as goal
+use Rattle.oth_table_tests.proofs.tests.threads.+crowd+fn-crowd-join+arg2+fn-crowd-join+arg3.Given as goal
 
 abbrev pub decreases-crowd : goal.decreases-crowd
 decreases-crowd g l = l.numbers.count
