@@ -12,6 +12,7 @@ import argparse
 import concurrent.futures
 import functools
 import os
+import signal
 import subprocess
 import sys
 
@@ -86,6 +87,8 @@ def words():
 
 
 def main():
+    # A run that is begun in the background may ignore SIGINT; what is run here would then do so too.
+    signal.signal(signal.SIGINT, signal.default_int_handler)
     given = words()
     passed, failed = running.tell(steps(given.crates, given.parts))
     print(f"{passed} passed, {failed} failed")
