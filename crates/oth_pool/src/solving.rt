@@ -9,8 +9,9 @@ ghost use Rattle.oth_pieces.specs.History.{floor_after};
 ghost use Rattle.oth_pieces.specs.Watch.{IsSeatOf};
 
 use crate::book_lookup::{answer_in, bounds_in};
-use crate::run::{Gathered, Links, Means, bounds_for, hints_for, room_for, run};
+use crate::run::{Gathered, Links, Means, bounds_for, hints_for, run};
 use crate::tuning::{FEWEST_EMPTIES_CREWED, cells_for};
+use crate::work::room_for;
 use oth_book::Book;
 use oth_pieces::{Floor, FloorSeat, Frontier, is_crew};
 use oth_rules::{Board, Scoring};

@@ -5,8 +5,9 @@ ghost use Rattle.oth_pieces.specs.Hands.{IsCrew};
 
 use crate::at_once::for_each_at_once;
 use crate::queue::Queue;
-use crate::run::{Means, room_for};
+use crate::run::Means;
 use crate::solving::answer_over;
+use crate::work::room_for;
 use arrayvec::ArrayVec;
 use oth_search::{Cells, Interval, Solved, ended, value_of};
 use oth_table::TableCells;

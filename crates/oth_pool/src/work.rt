@@ -1,6 +1,18 @@
-//! What one worker has of its own.
-use oth_pieces::{Hand, Reply};
-use oth_walk::Worker;
+//! What one worker of a run has of its own, and the jobs of all of them.
+ghost use Rattle.std.specs.Prelude.{◌≡◌, ◌≤◌, ℕ, List, map, vec_len, vec_capacity, All, []};
+ghost use Rattle.oth_rules.specs.declared.scoring.Scoring.{Scoring};
+ghost use Rattle.oth_pieces.specs.declared.frontier.item.Item.{Item};
+ghost use Rattle.oth_pieces.specs.Hands.{AreAllHands};
+ghost use Rattle.oth_pieces.specs.Dealing.{times};
+ghost use Rattle.oth_pool.specs.Working.{Holds, IsReplyOf, numbers_of, times_by};
+
+use crate::run::Means;
+use crate::workers::work_all;
+use oth_pieces::{Hand, Reply, Tasks};
+use oth_search::{Cells, RootMove};
+use oth_walk::{Gate, Search, Worker};
+use std::alloc::Global;
+use std::thread::Threads;
 
 /// What a worker draws with, and its replies.
 #[derive(Drop)]
@@ -14,4 +26,128 @@ pub struct Work {
 pub(crate) struct Job<'w, C, G> {
     pub work: Work,
     pub worker: Worker<'w, C, G>,
+}
+
+/// Makes a job of each hand and a worker. A job for whose replies there is no memory gets no room for them.
+pub(crate) fn jobs_of<'w, G, C: Drop>(
+    alloc: Global,
+    search: &Search,
+    hands: Vec<Hand>,
+    mut workers: Vec<Worker<'w, C, G>>,
+    mut jobs: Vec<Job<'w, C, G>>,
+) -> Vec<Job<'w, C, G>>
+    requires many { vec_len workers ≡ vec_len hands }
+    requires room { (vec_len jobs ≡ 0) × (vec_len hands ≤ vec_capacity jobs) }
+    ensures hands { map (λ j. j.work.hand) result.items ≡ hands.items }
+    ensures each { All (λ j. Holds search.now.frontier.now search.now.scoring j.work) result.items }
+    ensures many { vec_len result ≡ vec_len hands }
+{
+    for hand in hands {
+        let Some(worker) = workers.pop() else {
+            unreachable!()
+        };
+        let replies = room_for(alloc, search.frontier.len());
+        let work = Work { hand, replies };
+        jobs.push_reserved(Job { work, worker });
+    }
+    jobs
+}
+
+/// Returns the jobs after each has searched until nothing was left.
+pub(crate) fn run_jobs<'w, R: Threads + Sync, G: Gate, C: Cells + Send + Drop>(
+    means: &Means<R, G>,
+    search: &Search,
+    tasks: &Tasks,
+    mut jobs: Vec<Job<'w, C, G>>,
+) -> Vec<Job<'w, C, G>>
+    requires hands { AreAllHands tasks.now (map (λ j. j.work.hand) jobs.items) }
+    requires each { All (λ j. Holds search.now.frontier.now search.now.scoring j.work) jobs.items }
+    ensures hands { AreAllHands tasks.now (map (λ j. j.work.hand) result.items) }
+    ensures each { All (λ j. Holds search.now.frontier.now search.now.scoring j.work) result.items }
+    ensures many { vec_len result ≡ vec_len jobs.entry }
+{
+    work_all(means.rt, search, tasks, jobs.as_mut_slice());
+    jobs
+}
+
+/// Returns an empty list with room for `count` elements, or without room where there is no memory.
+pub(crate) fn room_for<T: Drop>(alloc: Global, count: u32) -> Vec<T>
+    ensures { result.items ≡ [] }
+{
+    match Vec::with_capacity(alloc, count as usize) {
+        Ok(room) => room,
+        Err(_) => Vec::new(alloc),
+    }
+}
+
+/// Returns all replies of the jobs, as far as there is room for them.
+pub(crate) fn replies_of<'w, C, G>(jobs: &[Job<'w, C, G>], room: Vec<Reply>) -> Vec<Reply>
+    requires { room.items ≡ [] }
+    ensures replies { (items : List Item) (scoring : Scoring) → All (λ j. Holds items scoring j.work) jobs.now
+        → All (IsReplyOf items scoring) result.items }
+    ensures once { (items : List Item) (scoring : Scoring) → All (λ j. Holds items scoring j.work) jobs.now
+        → (x : ℕ) → times x (numbers_of result.items) ≤ times_by x (map (λ j. j.work) jobs.now) }
+{
+    let mut replies = room;
+    for job in jobs {
+        let _ = replies.extend_from_slice(job.work.replies.as_slice());
+    }
+    replies
+}
+
+/// Returns these replies with what any of the workers found of their items, as far as there is room for them: the worker
+/// that drew an item need not be the one that searched it.
+pub(crate) fn told_by_all<'w, G: Gate, C: Cells>(
+    jobs: &[Job<'w, C, G>],
+    replies: &[Reply],
+    room: Vec<Reply>,
+) -> Vec<Reply>
+    requires { room.items ≡ [] }
+    ensures replies { (items : List Item) (scoring : Scoring) → All (IsReplyOf items scoring) replies.now
+        → All (IsReplyOf items scoring) result.items }
+    ensures once { (x : ℕ) → times x (numbers_of result.items) ≤ times x (numbers_of replies.now) }
+{
+    let mut told = room;
+    for reply in replies {
+        let _ = told.push(told_of(jobs, reply));
+    }
+    told
+}
+
+// Returns the reply with what any of the workers found of its item.
+fn told_of<'w, G: Gate, C: Cells>(jobs: &[Job<'w, C, G>], reply: &Reply) -> Reply
+    ensures number { result.number ≡ reply.now.number }
+    ensures board { result.solved.board ≡ reply.now.solved.board }
+    ensures scoring { result.solved.scoring ≡ reply.now.solved.scoring }
+{
+    let mut solved = reply.solved;
+    for job in jobs {
+        solved = job.worker.known_of_item(reply.number, &solved);
+    }
+    Reply {
+        number: reply.number,
+        solved,
+    }
+}
+
+/// Returns what the workers found of the root's moves, as far as there is memory.
+pub(crate) fn found_by_workers<'w, C, G>(alloc: Global, jobs: &[Job<'w, C, G>]) -> Vec<RootMove> {
+    let mut found = Vec::new(alloc);
+    for job in jobs {
+        let _ = found.extend_from_slice(job.worker.moves.as_slice());
+    }
+    found
+}
+
+/// Moves the hands of the jobs into `room`.
+pub(crate) fn hands_in<'w, G, C: Drop>(mut room: Vec<Hand>, jobs: Vec<Job<'w, C, G>>) -> Vec<Hand>
+    requires { (vec_len room ≡ 0) × (vec_len jobs ≤ vec_capacity room) }
+    ensures { result.items ≡ map (λ j. j.work.hand) jobs.entry.items }
+{
+    for job in jobs {
+        let Job { work, worker: _ } = job;
+        let Work { hand, replies: _ } = work;
+        room.push_reserved(hand);
+    }
+    room
 }

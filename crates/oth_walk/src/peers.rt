@@ -12,6 +12,7 @@
 ghost use Rattle.std.specs.Prelude.{◌≡◌};
 
 mod company;
+mod goal;
 
 use crate::announcing::{Announcer, Gate};
 use crate::hints::HintSeat;
@@ -21,19 +22,13 @@ use crate::root_bound::RootBound;
 use crate::shared::{Search, Seats, Shape};
 use crate::tuning::{FEWEST_EMPTIES_GUESSED_TOGETHER, KEPT_ORDER_MIN_EMPTIES, SMALL_NODE_MARGIN};
 use arrayvec::ArrayVec;
+use goal::Goal;
 use oth_pieces::Frontier;
 use oth_rules::{Board, Scoring, Square};
 use oth_search::{
     Cells, Interval, NullWindow, Observer, Pace, RootMove, RootMoves, Solved, order, put,
 };
 use std::alloc::Global;
-
-// A search under way: the canonical image of its board, and the null window that it is to decide.
-#[derive(Clone, Copy)]
-struct Goal {
-    image: Board,
-    window: NullWindow,
-}
 
 /// The other workers of a search as one of them knows them, by the table, the floor and the hints, the items that it
 /// announces to the gate, and the searches that it has under way itself.
@@ -225,20 +220,12 @@ impl<'w, G> Peers<'w, G> {
         let goals = self.goals.as_slice();
         let first = goals.len().saturating_sub(most);
         for place in first..goals.len() {
-            if is_decided(&goals[place], cells, scoring) {
+            if goals[place].is_decided(cells, scoring) {
                 return true;
             }
         }
         false
     }
-}
-
-// Whether the table decides the search.
-fn is_decided<C: Cells>(goal: &Goal, cells: &mut C, scoring: Scoring) -> bool
-    ensures fixed { C.fixed cells.new ≡ C.fixed cells.old }
-{
-    let known = Solved::looked_up(&goal.image, cells, scoring);
-    goal.window.is_decided(known.interval)
 }
 
 // Every item of the frontier, with all scores as its bounds; none where there is no memory.

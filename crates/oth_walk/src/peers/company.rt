@@ -7,7 +7,8 @@
 //! worker. Such a search is given up where the floor rises (not without a table, where all that it has found would be
 //! lost), where bounds settle the move, or where the table decides one of the boards above.
 
-use super::{Goal, Peers};
+use super::Peers;
+use super::goal::Goal;
 use crate::announcing::Gate;
 use crate::tuning::{CHILDREN_TOGETHER, FEW_TOGETHER, KEPT_ORDER_MIN_EMPTIES};
 use arrayvec::ArrayVec;

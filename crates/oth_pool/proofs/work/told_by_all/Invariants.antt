@@ -4,7 +4,7 @@ use Rattle.oth_rules.specs.declared.scoring.Scoring.{Scoring}
 use Rattle.oth_pieces.specs.declared.frontier.item.Item.{Item}
 use Rattle.oth_pieces.specs.Dealing.{times}
 use Rattle.oth_pool.specs.Working.{IsReplyOf, numbers_of}
-use Rattle.oth_pool.proofs.run.told_by_all.Given as goal
+use Rattle.oth_pool.proofs.work.told_by_all.Given as goal
 
 abbrev pub invariant-loop-reply : goal.invariant-loop-reply
 invariant-loop-reply g l =

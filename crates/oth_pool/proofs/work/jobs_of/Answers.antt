@@ -4,7 +4,7 @@ use Rattle.oth_pool.specs.declared.work.Job.{Job}
 use Rattle.oth_pieces.specs.declared.tasks.state.Hand.{Hand}
 use Rattle.oth_pool.specs.Working.{Holds}
 use Rattle.oth_pool.proofs.Workings.{All-longer, no_replies}
-use Rattle.oth_pool.proofs.run.jobs_of.Goals as goal
+use Rattle.oth_pool.proofs.work.jobs_of.Goals as goal
 
 pub loop-hand-preserved : goal.loop-hand-preserved
 loop-hand-preserved g c =

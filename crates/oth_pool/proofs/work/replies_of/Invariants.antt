@@ -4,7 +4,7 @@ use Rattle.oth_rules.specs.declared.scoring.Scoring.{Scoring}
 use Rattle.oth_pieces.specs.declared.frontier.item.Item.{Item}
 use Rattle.oth_pieces.specs.Dealing.{times}
 use Rattle.oth_pool.specs.Working.{IsReplyOf, Holds, numbers_of, times_by}
-use Rattle.oth_pool.proofs.run.replies_of.Given as goal
+use Rattle.oth_pool.proofs.work.replies_of.Given as goal
 
 abbrev pub invariant-loop-job : goal.invariant-loop-job
 invariant-loop-job g l = (items : List Item) (scoring : Scoring) → All (λ j. Holds items scoring j.work) l.jobs

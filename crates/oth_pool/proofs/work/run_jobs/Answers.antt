@@ -5,7 +5,7 @@ use Rattle.oth_pieces.specs.Hands.{AreAllHands}
 use Rattle.oth_pool.specs.Working.{Holds, CanWork}
 use Rattle.oth_pieces.proofs.Handouts.{written_back}
 use Rattle.oth_pool.proofs.Workings.{jobs_can, jobs_did}
-use Rattle.oth_pool.proofs.run.run_jobs.Goals as goal
+use Rattle.oth_pool.proofs.work.run_jobs.Goals as goal
 
 pub work_all-requires-after_bounds : goal.work_all-requires-after_bounds
 work_all-requires-after_bounds g c κs within =

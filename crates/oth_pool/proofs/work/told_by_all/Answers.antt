@@ -8,7 +8,7 @@ use Rattle.oth_pieces.specs.Frontier.{board_of}
 use Rattle.oth_pieces.specs.Dealing.{times}
 use Rattle.oth_pool.specs.Working.{IsReplyOf, numbers_of}
 use Rattle.oth_pool.proofs.Workings.{either_way, numbers_append}
-use Rattle.oth_pool.proofs.run.told_by_all.Goals as goal
+use Rattle.oth_pool.proofs.work.told_by_all.Goals as goal
 
 pub loop-reply-preserved : goal.loop-reply-preserved
 loop-reply-preserved g c =

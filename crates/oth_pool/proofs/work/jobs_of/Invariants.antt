@@ -2,7 +2,7 @@ use Rattle.std.proofs.Common.{◌≡◌, ◌+◌, ◌≤◌, map, length, vec_le
 use Rattle.std.specs.Prelude.{vec_capacity}
 use Rattle.std.specs.List.{All}
 use Rattle.oth_pool.specs.Working.{Holds}
-use Rattle.oth_pool.proofs.run.jobs_of.Given as goal
+use Rattle.oth_pool.proofs.work.jobs_of.Given as goal
 
 abbrev pub invariant-loop-hand : goal.invariant-loop-hand
 invariant-loop-hand g l =

@@ -7,7 +7,7 @@ use Rattle.oth_pool.specs.declared.work.Job.{Job}
 use Rattle.oth_pieces.specs.Dealing.{times}
 use Rattle.oth_pool.specs.Working.{IsReplyOf, Holds, numbers_of, times_by}
 use Rattle.oth_pool.proofs.Workings.{either_way, numbers_append, times_more}
-use Rattle.oth_pool.proofs.run.replies_of.Goals as goal
+use Rattle.oth_pool.proofs.work.replies_of.Goals as goal
 
 pub loop-job-preserved : goal.loop-job-preserved
 loop-job-preserved g c = λ items scoring each.
