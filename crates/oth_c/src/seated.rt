@@ -13,9 +13,10 @@ use crate::refusal::Refusal;
 use crate::solving::cells_over;
 use oth_rules::{Board, Scoring};
 use oth_search::{
-    Answer, Limited, Scores, Seen, Solved, StopFlag, Stopped, scores_with, solve_until, solve_with,
+    Answer, Limited, LocalTables, Scores, Seen, Solved, StopFlag, Stopped, WithLocal, scores_with,
+    solve_until, solve_with,
 };
-use oth_table::{SharedTable, TableError, TableSeat};
+use oth_table::{SharedTable, TableCells, TableError, TableSeat};
 use std::alloc::Global;
 use std::marker::Model;
 use std::sync::Arc;
@@ -26,8 +27,34 @@ pub struct Seated {
     table: Arc<SharedTable>,
     seat: TableSeat,
     stop: Arc<StopFlag>,
-    // What the guess of an ended search saw.
+    kept: Kept,
+}
+
+// What a search that was ended leaves for a further one: what it had come to, and its local tables.
+#[derive(Drop)]
+struct Kept {
     seen: Seen,
+    memories: Option<LocalTables>,
+}
+
+impl Kept {
+    // Nothing by now.
+    fn new(alloc: Global) -> Kept {
+        Kept {
+            seen: Seen::new(alloc),
+            memories: None,
+        }
+    }
+
+    // What it had come to, and local tables for a search of this board: those that are kept, if they are of its size.
+    fn taken_up(self, alloc: Global, board: &Board) -> (Seen, LocalTables) {
+        let Kept { seen, memories } = self;
+        let empties = board.empties();
+        match memories {
+            Some(memories) if memories.are_for(empties) => (seen, memories),
+            _ => (seen, LocalTables::of(alloc, empties, false)),
+        }
+    }
 }
 
 impl Model for Seated {
@@ -61,12 +88,12 @@ impl Seated {
                 let Ok(stop) = Arc::new(alloc, StopFlag::new()) else {
                     return Err(Refusal::Memory);
                 };
-                let seen = Seen::new(alloc);
+                let kept = Kept::new(alloc);
                 Ok(Seated {
                     table,
                     seat,
                     stop,
-                    seen,
+                    kept,
                 })
             }
             Err(TableError::Cells) => Err(Refusal::Cells),
@@ -98,7 +125,7 @@ impl Seated {
                 table: part,
                 seat,
                 stop,
-                seen: Seen::new(alloc),
+                kept: Kept::new(alloc),
             }),
             Err(_) => Err(Refusal::Memory),
         }
@@ -113,7 +140,7 @@ impl Seated {
             table,
             seat,
             stop,
-            seen,
+            kept,
         } = self;
         let mut cells = cells_over(alloc, &board, &table, seat, false);
         let answer = solve_with(board, &mut cells, table.scoring());
@@ -122,7 +149,7 @@ impl Seated {
             table,
             seat,
             stop,
-            seen,
+            kept,
         };
         (seated, answer)
     }
@@ -137,7 +164,7 @@ impl Seated {
             table,
             seat,
             stop,
-            seen,
+            kept,
         } = self;
         let mut cells = cells_over(alloc, &board, &table, seat, false);
         let scores = scores_with(board, &mut cells, table.scoring());
@@ -146,7 +173,7 @@ impl Seated {
             table,
             seat,
             stop,
-            seen,
+            kept,
         };
         (seated, scores)
     }
@@ -170,18 +197,22 @@ impl Seated {
             table,
             seat,
             stop,
-            seen,
+            kept,
         } = self;
-        let cells = cells_over(alloc, &board, &table, seat, false);
+        let (seen, memories) = kept.taken_up(alloc, &board);
+        let cells = WithLocal::of(TableCells::of(&table, seat), memories);
         let mut limited = Limited::going_on(cells, most, seen);
         let found = solve_until(&board, &mut limited, table.scoring(), &stop);
         let (cells, seen) = limited.into_parts();
-        let seat = cells.into_cells().into_seat();
+        let (cells, memories) = cells.into_parts();
+        let memories = if found.is_err() { Some(memories) } else { None };
+        let kept = Kept { seen, memories };
+        let seat = cells.into_seat();
         let seated = Seated {
             table,
             seat,
             stop,
-            seen,
+            kept,
         };
         (seated, found)
     }
@@ -198,7 +229,7 @@ impl Seated {
             table,
             seat,
             stop,
-            seen,
+            kept,
         } = self;
         let scoring = table.scoring();
         let mut cells = cells_over(alloc, &board, &table, seat, false);
@@ -212,7 +243,7 @@ impl Seated {
             table,
             seat,
             stop,
-            seen,
+            kept,
         };
         (seated, found)
     }

@@ -39,6 +39,7 @@ pub use glance::seeming_value;
 pub use moves::{RootMove, RootMoves};
 pub use observer::{Observer, Unobserved};
 pub use scores::{ScoredMove, Scores, answer_by, scores_with};
+pub(crate) use settle::{Round, settle_on};
 pub use settle::{Quest, first_threshold, lead, settle_at, settle_moves};
 pub use step::Pace;
 pub use value::value_of;

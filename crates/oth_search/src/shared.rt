@@ -1,10 +1,11 @@
 //! Searches that others take part in or end. `abdada`: the walk over many plies that several workers share; what it
 //! asks of the others stands in `company`. `stop`: the search that is ended when its limit of look-ups is spent
 //! (`solve_until`), or when another thread sets the `flag`; a further one
-//! goes on by what is in the cells, and was `seen` in its guess.
+//! goes on by what is in the cells, and by what an ended one had `seen`, of which `orders` are a part.
 mod abdada;
 mod company;
 mod flag;
+mod orders;
 mod seen;
 mod stop;
 

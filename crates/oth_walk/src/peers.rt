@@ -10,6 +10,8 @@
 //!
 //! To the search below a move they are the `Company` (`company`).
 ghost use Rattle.std.specs.Prelude.{◌≡◌};
+ghost use Rattle.oth_rules.specs.Laws.{IsScore};
+ghost use Rattle.oth_search.specs.Bounds.Interval.{IsThreshold};
 
 mod company;
 mod goal;
@@ -294,15 +296,16 @@ impl<'w, G: Gate, C: Cells> Observer<C> for Peers<'w, G> {
         found
     }
 
-    fn seen(&mut self, board: &Board, alpha: i8) -> Option<bool> {
+    fn seen(&mut self, board: &Board, alpha: i8) -> Option<i8> {
         if !self.guesses() {
             return None;
         }
-        self.hints.seen(board, alpha + 1)
+        let is_above = self.hints.seen(board, alpha + 1)?;
+        Some(beside(alpha, is_above))
     }
 
-    fn tell_seen(&mut self, board: &Board, alpha: i8, is_above: bool) {
-        self.hints.tell_seen(board, alpha + 1, is_above);
+    fn tell_seen(&mut self, board: &Board, alpha: i8, found: i8) {
+        self.hints.tell_seen(board, alpha + 1, found > alpha);
     }
 
     fn is_left(&mut self, board: &Board) -> bool {
@@ -316,4 +319,12 @@ impl<'w, G: Gate, C: Cells> Observer<C> for Peers<'w, G> {
     fn end(&mut self, board: &Board) {
         self.hints.end(board);
     }
+}
+
+// The bound of a value that seems to be above `alpha`, or not: `alpha + 1`, or `alpha`.
+fn beside(alpha: i8, is_above: bool) -> i8
+    requires { IsThreshold alpha }
+    ensures { IsScore result }
+{
+    if is_above { alpha + 1 } else { alpha }
 }

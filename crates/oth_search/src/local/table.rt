@@ -97,8 +97,16 @@ impl<C: Cells> WithLocal<C> {
     pub fn into_cells(self) -> C
         ensures { result ≡ self.cells }
     {
-        let WithLocal { cells, memories: _ } = self;
+        let (cells, _) = self.into_parts();
         cells
+    }
+
+    /// The cells, and the local tables with what they keep.
+    pub fn into_parts(self) -> (C, LocalTables)
+        ensures { result.0 ≡ self.cells }
+    {
+        let WithLocal { cells, memories } = self;
+        (cells, memories)
     }
 }
 

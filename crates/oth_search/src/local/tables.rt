@@ -40,6 +40,11 @@ impl LocalTables {
         }
     }
 
+    /// Whether these are tables as `of` makes them for a root of `root` empty squares while others search too.
+    pub fn are_for(&self, root: u8) -> bool {
+        self.root == root && !self.has_more
+    }
+
     /// Whether boards of `empties` empty squares (9 and more) go to the second table.
     pub fn remembers(&self, empties: u8) -> bool {
         self.has_more && empties < FEWEST_EMPTIES_IN_TABLE

@@ -38,7 +38,7 @@ pub fn guess<C: Cells, O: Observer<C>>(
         let at = bracket.at;
         let found = least_seen(moves, &mut seen, at, cells, observer);
         let is_reached = found <= at;
-        observer.tell_seen(&root, -at - 1, is_reached);
+        observer.tell_seen(&root, -at - 1, -found);
         bracket = if is_reached {
             bracket.at_most(found)
         } else {
@@ -91,8 +91,8 @@ fn least_seen<C: Cells, O: Observer<C>>(
                 upper: 64,
             };
             least = lesser(least, found);
-            if let Some(is_reached) = observer.seen(&root, -at - 1) {
-                return told(moves, at, is_reached, observer);
+            if let Some(told_of_root) = observer.seen(&root, -at - 1) {
+                return told(moves, at, -told_of_root <= at, observer);
             }
         }
     }
@@ -135,7 +135,7 @@ fn told<C: Cells, O: Observer<C>>(
     }
     for place in 0..moves.len() {
         if let Some(root_move) = moves.get(place) {
-            if observer.seen(&root_move.child.board, at) == Some(false) {
+            if is_told_below(&root_move.child.board, at, observer) {
                 moves.move_to_front(place);
                 return at;
             }
@@ -144,8 +144,18 @@ fn told<C: Cells, O: Observer<C>>(
     at
 }
 
-// Returns a bound, on its side of `alpha`, of the value that the board after a root's move seems to have: what another
-// worker told, or else by a glance at all its moves.
+// Whether it was told of this board that it seems to have at most `at`.
+fn is_told_below<C: Cells, O: Observer<C>>(board: &Board, at: i8, observer: &mut O) -> bool
+    requires { IsThreshold at }
+{
+    match observer.seen(board, at) {
+        Some(told) => told <= at,
+        None => false,
+    }
+}
+
+// Returns a bound, on its side of `alpha`, of the value that the board after a root's move seems to have: what was told
+// of it, or else by a glance at all its moves.
 fn glance_after_move<C: Cells, O: Observer<C>>(
     reply: &Solved,
     alpha: i8,
@@ -157,22 +167,14 @@ fn glance_after_move<C: Cells, O: Observer<C>>(
     ensures fixed { C.fixed cells.new ≡ C.fixed cells.old }
 {
     let board = reply.board;
-    if let Some(is_above) = observer.seen(&board, alpha) {
-        return beside(alpha, is_above);
+    if let Some(told) = observer.seen(&board, alpha) {
+        return told;
     }
     observer.begin(&board);
     let found = glance_all(&board, alpha, cells, observer, reply.scoring);
-    observer.tell_seen(&board, alpha, found > alpha);
+    observer.tell_seen(&board, alpha, found);
     observer.end(&board);
     found
-}
-
-// The bound of a value that seems to be above `alpha`, or not: `alpha + 1`, or `alpha`.
-fn beside(alpha: i8, is_above: bool) -> i8
-    requires { IsThreshold alpha }
-    ensures { IsScore result }
-{
-    if is_above { alpha + 1 } else { alpha }
 }
 
 // As `glance_after_move`, but always glances: at all moves of the board, or at those after a forced pass.
@@ -232,8 +234,8 @@ fn glance_at_all_moves<C: Cells, O: Observer<C>>(
                 return reply;
             }
             best = greater(best, reply);
-            if let Some(is_above) = observer.seen(&node.board, alpha) {
-                return beside(alpha, is_above);
+            if let Some(told) = observer.seen(&node.board, alpha) {
+                return told;
             }
         }
     }
@@ -241,7 +243,7 @@ fn glance_at_all_moves<C: Cells, O: Observer<C>>(
 }
 
 // Returns a bound, on its side of `alpha`, of the value that the board after a reply to a root's move seems to have:
-// what another worker told, or else by `seeming_value`. Once the guess ends that is `alpha`.
+// what was told of it, or else by `seeming_value`. Once the guess ends that is `alpha`.
 fn glance_after_reply<C: Cells, O: Observer<C>>(
     board: Board,
     alpha: i8,
@@ -253,15 +255,15 @@ fn glance_after_reply<C: Cells, O: Observer<C>>(
     ensures score { IsScore result }
     ensures fixed { C.fixed cells.new ≡ C.fixed cells.old }
 {
-    if let Some(is_above) = observer.seen(&board, alpha) {
-        return beside(alpha, is_above);
+    if let Some(told) = observer.seen(&board, alpha) {
+        return told;
     }
     if observer.ends_guess(cells) {
         return alpha;
     }
     observer.begin(&board);
     let found = seeming_value(board, alpha, cells, scoring);
-    observer.tell_seen(&board, alpha, found > alpha);
+    observer.tell_seen(&board, alpha, found);
     observer.end(&board);
     found
 }

@@ -1,5 +1,5 @@
 //! The hooks of the root driver.
-ghost use Rattle.std.specs.Prelude.{◌≡◌, negsuc, pos, ◌≤ℤ◌};
+ghost use Rattle.std.specs.Prelude.{◌≡◌, negsuc, pos, ◌≤ℤ◌, IfSome};
 ghost use Rattle.oth_rules.specs.Laws.{IsScore};
 ghost use Rattle.oth_search.specs.Bounds.Interval.{IsThreshold};
 
@@ -64,16 +64,19 @@ pub trait Observer<C: Cells> {
         known.child.decided_at(alpha, cells)
     }
 
-    /// During a first guess: whether the board seems to have more than `alpha`, if another worker told it.
-    fn seen(&mut self, _board: &Board, _alpha: i8) -> Option<bool>
+    /// During a first guess: a bound, on its side of `alpha`, of what the board seems to have, if another worker told
+    /// it, or this one in a search that was ended.
+    fn seen(&mut self, _board: &Board, _alpha: i8) -> Option<i8>
         requires { IsThreshold _alpha }
+        ensures { IfSome result IsScore }
     {
         None
     }
 
-    /// During a first guess: tells the others whether the board seems to have more than `alpha`.
-    fn tell_seen(&mut self, _board: &Board, _alpha: i8, _is_above: bool)
-        requires { IsThreshold _alpha }
+    /// During a first guess: tells a bound, on its side of `alpha`, of what the board seems to have.
+    fn tell_seen(&mut self, _board: &Board, _alpha: i8, _found: i8)
+        requires threshold { IsThreshold _alpha }
+        requires score { IsScore _found }
     {}
 
     /// During a first guess: whether the board is deferred, since another worker is at it.

@@ -90,7 +90,22 @@ pub(crate) fn settle<C: Cells, O: Observer<C>>(
     ensures root { moves.new ≡ moves.old }
     ensures fixed { C.fixed cells.new ≡ C.fixed cells.old }
 {
-    lead(moves, quest.start, cells, observer);
+    let mut round = Round::first(quest.start);
+    settle_on(moves, quest, &mut round, cells, observer);
+}
+
+/// As `settle`, from the `round` on that the moves were asked in: `quest` starts where its first one did.
+pub(crate) fn settle_on<C: Cells, O: Observer<C>>(
+    moves: &mut RootMoves,
+    quest: Quest,
+    round: &mut Round,
+    cells: &mut C,
+    observer: &mut O,
+)
+    ensures root { moves.new ≡ moves.old }
+    ensures fixed { C.fixed cells.new ≡ C.fixed cells.old }
+{
+    lead_on(moves, round, cells, observer);
     let leader = moves.leader();
     settle_at(moves, leader, quest, cells, observer);
     for place in 0..moves.len() {
@@ -112,16 +127,63 @@ pub fn lead<C: Cells, O: Observer<C>>(
     ensures root { moves.new ≡ moves.old }
     ensures fixed { C.fixed cells.new ≡ C.fixed cells.old }
 {
-    let mut start = first;
-    let mut pace = Pace::new();
+    let mut round = Round::first(first);
+    lead_on(moves, &mut round, cells, observer);
+    round.at
+}
+
+// As `lead`, from this round on. Leaves the round that ended it.
+fn lead_on<C: Cells, O: Observer<C>>(
+    moves: &mut RootMoves,
+    round: &mut Round,
+    cells: &mut C,
+    observer: &mut O,
+)
+    ensures root { moves.new ≡ moves.old }
+    ensures fixed { C.fixed cells.new ≡ C.fixed cells.old }
+{
     for _ in 0..LEAD_ROUNDS {
-        if ask_all(moves, start, cells, observer) {
-            return start;
+        if ask_all(moves, round.at, cells, observer) {
+            return;
         }
-        start = raised(least_lower(moves), pace.step - 1);
-        pace = pace.after(true);
+        *round = round.after(least_lower(moves));
     }
-    start
+}
+
+/// A round in which the boards after a root's moves are asked at one threshold.
+#[derive(Clone, Copy, Debug)]
+pub struct Round {
+    /// The threshold of the first round, and of this one.
+    pub first: i8,
+    pub at: i8,
+    // How far beyond what this one finds the next one asks.
+    pace: Pace,
+    ghost start: { IsThreshold first },
+    ghost threshold: { IsThreshold at },
+}
+
+impl Round {
+    /// The first round, at this threshold.
+    pub fn first(start: i8) -> Round
+        requires { IsThreshold start }
+    {
+        Round {
+            first: start,
+            at: start,
+            pace: Pace::new(),
+        }
+    }
+
+    // The round after this one, by which each of the boards has at least `least`.
+    fn after(self, least: i8) -> Round
+        requires { IsScore least }
+    {
+        Round {
+            first: self.first,
+            at: raised(least, self.pace.step - 1),
+            pace: self.pace.after(true),
+        }
+    }
 }
 
 // The threshold `step` above this score, at most 63.
@@ -160,7 +222,7 @@ fn ask_all<C: Cells, O: Observer<C>>(
             observer.after(&known, &*moves);
         }
     }
-    best(moves, observer) < 64
+    best(moves, observer) < 64 || observer.is_over(cells)
 }
 
 // The move at `place`, if there is one, with what is known of the board after it by now, whoever found it.

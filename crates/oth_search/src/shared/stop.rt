@@ -1,4 +1,5 @@
-//! A search that may be stopped: it ends when its table look-ups are spent, or when another thread sets a flag.
+//! A search that may be stopped: it ends when its table look-ups are spent, or when another thread sets a flag. A
+//! further one takes up what it had come to (`Seen`).
 ghost use Rattle.std.specs.Prelude.{◌≡◌, ◌-◌, IfOk, IfErr, IfSome, true, false};
 ghost use Rattle.oth_rules.specs.Position.{pass};
 ghost use Rattle.oth_rules.specs.Move.{can_move};
@@ -7,11 +8,15 @@ ghost use Rattle.oth_search.specs.Bounds.Full.{IsFullMinimax};
 
 use super::company::Company;
 use super::flag::StopFlag;
-use super::seen::Seen;
-use crate::bounds::{Answer, Cells, Entry, NullWindow, Solved};
-use crate::root::{Observer, RootMove, RootMoves, before_pass, best_moves, ended, settle_moves};
+use super::seen::{Begun, Seen};
+use crate::bounds::{Answer, Cells, Entry, Interval, NullWindow, Solved};
+use crate::root::{
+    Observer, Pace, Quest, RootMove, RootMoves, Round, before_pass, best_moves, ended,
+    first_threshold, settle_on,
+};
 use crate::tuning::FEWEST_EMPTIES_ENDED;
-use oth_rules::{Board, Scoring};
+use arrayvec::ArrayVec;
+use oth_rules::{Board, Scoring, Square};
 use std::mem::replace;
 use thiserror::Error;
 
@@ -22,12 +27,12 @@ pub struct Limited<C> {
     pub cells: C,
     /// How many boards may still be looked up, by `look` and `recall` together.
     pub left: u64,
-    // What the guess of an earlier search saw.
+    // What an earlier search had come to.
     seen: Seen,
 }
 
 impl<C: Cells> Limited<C> {
-    /// The cells, in which `limit` boards may be looked up. What a guess sees is forgotten.
+    /// The cells, in which `limit` boards may be looked up. What the search comes to is forgotten.
     pub fn of(cells: C, limit: u64) -> Limited<C>
         ensures left { result.left ≡ limit }
         ensures fixed { C.fixed result.cells ≡ C.fixed cells }
@@ -35,7 +40,7 @@ impl<C: Cells> Limited<C> {
         Limited::going_on(cells, limit, Seen::none())
     }
 
-    /// The cells, in which `limit` boards may be looked up, for a search that goes on with a guess as far as it was
+    /// The cells, in which `limit` boards may be looked up, for a search that goes on from what an earlier one had
     /// `seen`.
     pub fn going_on(cells: C, limit: u64, seen: Seen) -> Limited<C>
         ensures left { result.left ≡ limit }
@@ -56,7 +61,7 @@ impl<C: Cells> Limited<C> {
         cells
     }
 
-    /// The cells, and what the guess saw.
+    /// The cells, and what the search had come to.
     pub fn into_parts(self) -> (C, Seen)
         ensures { result.0 ≡ self.cells }
     {
@@ -130,6 +135,7 @@ impl<C: Cells> Cells for Limited<C> {
 #[derive(Drop)]
 struct UntilEnded<'s> {
     stop: &'s StopFlag,
+    root: Board,
     scoring: Scoring,
     seen: Seen,
     // Whether its guess was ended, after which what it tells isn't seen.
@@ -137,7 +143,7 @@ struct UntilEnded<'s> {
 }
 
 impl<'s> UntilEnded<'s> {
-    // What its guess saw.
+    // What it had come to.
     fn into_seen(self) -> Seen {
         let UntilEnded { seen, .. } = self;
         seen
@@ -152,6 +158,11 @@ impl<'s, C: Cells> Company<Limited<C>> for UntilEnded<'s> {
     fn gives_up(&mut self, _searched: &Board, cells: &mut Limited<C>) -> bool {
         cells.is_ended(self.stop)
     }
+
+    // As they were kept, since a search that goes on comes to the boards on its way once more.
+    fn order(&mut self, board: &Board) -> ArrayVec<Square, 64> {
+        self.seen.order(board)
+    }
 }
 
 impl<'s, C: Cells> Observer<Limited<C>> for UntilEnded<'s> {
@@ -163,13 +174,19 @@ impl<'s, C: Cells> Observer<Limited<C>> for UntilEnded<'s> {
         child.narrowed_in(NullWindow::at(alpha + 1), cells, self)
     }
 
-    fn seen(&mut self, board: &Board, alpha: i8) -> Option<bool> {
+    // By the bounds alone, so that a search that goes on asks as the ended one did.
+    fn next(&mut self, bounds: Interval, start: i8, _pace: Pace) -> i8 {
+        Pace::by_bounds(bounds, start).onward(bounds, start)
+    }
+
+    fn seen(&mut self, board: &Board, alpha: i8) -> Option<i8> {
         self.seen.told(board, alpha, self.scoring)
     }
 
-    fn tell_seen(&mut self, board: &Board, alpha: i8, is_above: bool) {
-        if !self.is_ended {
-            self.seen.tell(board, alpha, self.scoring, is_above);
+    // Not of the root: which of its moves were asked before tells more.
+    fn tell_seen(&mut self, board: &Board, alpha: i8, found: i8) {
+        if !self.is_ended && *board != self.root {
+            self.seen.tell(board, alpha, self.scoring, found);
         }
     }
 
@@ -256,19 +273,52 @@ fn solve_moves_until<C: Cells>(
     ensures spent { IfErr result (λ s. cells.new.left ≡ 0) }
     ensures fixed { C.fixed cells.new.cells ≡ C.fixed cells.old.cells }
 {
-    let mut moves = RootMoves::of(&Solved::unknown(board, scoring), &[]);
     let seen = replace(&mut cells.seen, Seen::none());
     let mut driver = UntilEnded {
         stop,
+        root: board,
         scoring,
         seen,
         is_ended: false,
     };
-    settle_moves(&mut moves, cells, &mut driver);
+    let begun = taken_up(board, cells, scoring, &mut driver);
+    let Begun {
+        mut moves,
+        mut round,
+    } = begun;
+    let quest = Quest {
+        start: round.first,
+        tells_ties: true,
+    };
+    settle_on(&mut moves, quest, &mut round, cells, &mut driver);
+    let is_guessed = !driver.is_ended;
     cells.seen = driver.into_seen();
     if cells.left == 0 {
+        if is_guessed {
+            let moves = moves.another();
+            cells.seen.keep(Begun { moves, round });
+        }
         let known = moves.backed_up();
         return Err(Stopped { known, moves });
     }
     Ok(best_moves(&moves, cells))
+}
+
+// What an ended search of this root had come to, or else its moves after a guess, which may be ended too.
+fn taken_up<C: Cells>(
+    board: Board,
+    cells: &mut Limited<C>,
+    scoring: Scoring,
+    driver: &mut UntilEnded<'_>,
+) -> Begun
+    ensures board { result.moves.board ≡ board }
+    ensures scoring { result.moves.scoring ≡ scoring }
+    ensures fixed { C.fixed cells.new.cells ≡ C.fixed cells.old.cells }
+{
+    if let Some(begun) = driver.seen.begun(&board, scoring) {
+        return begun;
+    }
+    let mut moves = RootMoves::of(&Solved::unknown(board, scoring), &[]);
+    let round = Round::first(first_threshold(&mut moves, cells, driver));
+    Begun { moves, round }
 }
