@@ -20,7 +20,7 @@ pub use bounds::{
 };
 pub use local::{LocalTable, LocalTables, WithLocal};
 pub use nws::Hearer;
-pub use ordering::order;
+pub use ordering::{MoveOrder, order};
 pub use pvs::search;
 pub use root::{
     MOST_EMPTIES, Observer, Pace, Quest, RootMove, RootMoves, ScoredMove, Scores, TooManyEmpties,

@@ -215,3 +215,6 @@ pub(crate) const MOVE_ROUNDS: u32 = 3;
 
 /// The number of the last of these rounds, from 0.
 pub(crate) const LAST_MOVE_ROUND: u32 = MOVE_ROUNDS - 1;
+
+/// Squares of a kept order: as many as one 64-bit word has room for at six bits each.
+pub(crate) const KEPT_MOVES: u32 = 10;

@@ -11,11 +11,10 @@ ghost use Rattle.std.specs.Prelude.{◌≡◌, ◌<◌, ◌≤ℤ◌, negsuc, If
 mod rule;
 
 use crate::guess::Guess;
-use crate::move_order::MoveOrder;
 use crate::tuning::{MARK_COUNT, SEEN_COUNT};
 use atomic_table::{Seat, Table};
 use oth_rules::{Board, Square};
-use oth_search::board_hash;
+use oth_search::{MoveOrder, board_hash};
 use rule::{Anything, Step};
 use std::alloc::Global;
 use std::marker::Model;

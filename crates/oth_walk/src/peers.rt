@@ -19,7 +19,6 @@ mod goal;
 use crate::announcing::{Announcer, Gate};
 use crate::hints::HintSeat;
 use crate::move_bounds::BoundsSeat;
-use crate::move_order::MoveOrder;
 use crate::root_bound::RootBound;
 use crate::shared::{Search, Seats, Shape};
 use crate::tuning::{FEWEST_EMPTIES_GUESSED_TOGETHER, KEPT_ORDER_MIN_EMPTIES, SMALL_NODE_MARGIN};
@@ -28,7 +27,7 @@ use goal::Goal;
 use oth_pieces::Frontier;
 use oth_rules::{Board, Scoring, Square};
 use oth_search::{
-    Cells, Interval, NullWindow, Observer, Pace, RootMove, RootMoves, Solved, order, put,
+    Cells, Interval, MoveOrder, NullWindow, Observer, Pace, RootMove, RootMoves, Solved, order, put,
 };
 use std::alloc::Global;
 

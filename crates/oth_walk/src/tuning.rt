@@ -49,9 +49,6 @@ pub fn orders_for(empties: u8) -> u16 {
 /// Empty squares: from here on the order of a node's moves is kept. Below it a worker makes it anew in less time.
 pub(crate) const KEPT_ORDER_MIN_EMPTIES: u8 = 12;
 
-/// Squares of a kept order: as many as one 64-bit word has room for at six bits each.
-pub(crate) const KEPT_MOVES: u32 = 10;
-
 // ---- The shared first guess, a selective search by all workers
 
 /// Empty squares of the root: from here on workers make the first guess together. Below it each one searches at once.

@@ -6,10 +6,10 @@ use super::{C, CORNERS};
 use oth_pieces::Frontier;
 use oth_pieces::floor::Root;
 use oth_rules::{Board, Scoring, Square};
-use oth_search::{Interval, NoCells, RootMoves, Solved, order};
+use oth_search::{Interval, MoveOrder, NoCells, RootMoves, Solved, order};
 use oth_walk::{
-    Announced, Announcer, BoundsSeat, HintSeat, Hints, MoveBounds, MoveOrder, Open, RootBound,
-    Search, Seats, Shape, Sharing, Worker, search_item, settle_all,
+    Announced, Announcer, BoundsSeat, HintSeat, Hints, MoveBounds, Open, RootBound, Search, Seats,
+    Shape, Sharing, Worker, search_item, settle_all,
 };
 use std::process::Abort;
 use std::test::Fail;

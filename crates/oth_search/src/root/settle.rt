@@ -151,7 +151,7 @@ fn lead_on<C: Cells, O: Observer<C>>(
 }
 
 /// A round in which the boards after a root's moves are asked at one threshold.
-#[derive(Clone, Copy, Debug)]
+#[derive(Clone, Copy)]
 pub struct Round {
     /// The threshold of the first round, and of this one.
     pub first: i8,

@@ -6,7 +6,7 @@ use crate::bounds::{Interval, greater, lesser};
 use crate::tuning::WIDEST_STEP;
 
 /// The step from a bound of a value to the next threshold, in discs: 1, 3, 7, 15, 31, 63.
-#[derive(Clone, Copy, Debug)]
+#[derive(Clone, Copy)]
 pub struct Pace {
     pub step: i8,
     ghost range: { (pos 1 ≤ℤ step) × (step ≤ℤ pos 63) },

@@ -1,16 +1,15 @@
 //! The order of moves of each board on the way from the root to where a search is. No answer rests on it.
-use crate::ordering::order;
+use crate::ordering::{MoveOrder, order};
 use crate::root::MOST_EMPTIES;
 use arrayvec::ArrayVec;
 use oth_rules::{Board, Square};
 use std::alloc::Global;
 
-// The moves of a board in move order: the first `count` squares, by their numbers.
-#[derive(Clone, Copy, Debug)]
+// A board, and the order of its moves.
+#[derive(Clone, Copy)]
 struct Ordered {
     board: Board,
-    count: usize,
-    numbers: [u8; 64],
+    order: MoveOrder,
 }
 
 impl Ordered {
@@ -18,38 +17,15 @@ impl Ordered {
     fn nothing() -> Ordered {
         Ordered {
             board: Board::default(),
-            count: 0,
-            numbers: [0; 64],
+            order: MoveOrder::of(&[]),
         }
-    }
-
-    // These squares, of which there are at most 64.
-    fn of(board: &Board, squares: &[Square]) -> Ordered {
-        let mut kept = Ordered::nothing();
-        kept.board = *board;
-        kept.count = squares.len();
-        for (place, square) in squares.iter().enumerate() {
-            if place < 64 {
-                kept.numbers[place] = square.number();
-            }
-        }
-        kept
-    }
-
-    // The squares.
-    fn listed(&self) -> ArrayVec<Square, 64> {
-        let mut squares = ArrayVec::new();
-        for number in self.numbers.iter().take(self.count) {
-            let _ = squares.try_push(Square::numbered(*number & 63));
-        }
-        squares
     }
 }
 
 /// The order of moves of the last board with each number of empty squares. A search by one worker comes to no further
-/// board with as many empty squares as a node on its way has, so it keeps the orders of its whole way. It takes 3 KB of
+/// board with as many empty squares as a node on its way has, so it keeps the orders of its whole way. It takes 1 KB of
 /// the heap, or none and keeps nothing.
-#[derive(Drop, Debug)]
+#[derive(Drop)]
 pub(crate) struct Orders {
     last: Option<Vec<Ordered>>,
 }
@@ -73,11 +49,18 @@ impl Orders {
         let place = usize::from(board.empties());
         if let Some(kept) = self.kept(place) {
             if kept.board == *board {
-                return kept.listed();
+                return kept.order.of_moves(board.moves());
             }
         }
         let squares = order(board);
-        self.keep(place, Ordered::of(board, squares.as_slice()));
+        let order = MoveOrder::of(squares.as_slice());
+        self.keep(
+            place,
+            Ordered {
+                board: *board,
+                order,
+            },
+        );
         squares
     }
 

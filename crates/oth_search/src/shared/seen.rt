@@ -23,7 +23,7 @@ const SCORE_BITS: u64 = 0xff;
 /// What a search that was ended had come to, by which a further one goes on with little done twice: what boards seemed
 /// to have in its guess, the order of moves on its way, and what it knew of the root's moves. It takes 11 KB of the
 /// heap, or none and forgets the first two.
-#[derive(Drop, Debug)]
+#[derive(Drop)]
 pub struct Seen {
     words: Option<Vec<u64>>,
     orders: Orders,
@@ -31,7 +31,7 @@ pub struct Seen {
 }
 
 /// How far the root's moves were asked, once the guess was made.
-#[derive(Drop, Debug)]
+#[derive(Drop)]
 pub(crate) struct Begun {
     pub(crate) moves: RootMoves,
     pub(crate) round: Round,

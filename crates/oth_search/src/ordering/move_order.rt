@@ -1,4 +1,4 @@
-//! Orders of the moves of a board, of which the first ten are kept.
+//! Orders of the moves of a board as they are kept for a later search: the first ten squares.
 use crate::tuning::KEPT_MOVES;
 use arrayvec::ArrayVec;
 use oth_rules::Square;
