@@ -209,7 +209,9 @@ uint32_t oth_solve_within(oth_seat *seat, oth_board board, uint64_t most, oth_an
  *     } while (code == OTH_STOPPED && is_time_left());
  *
  * A further call over the same board goes on where the last one from this seat ended, as far as the table has kept what was
- * found, so `most` may be small: but each call takes up some hundred look-ups to come there.
+ * found, so `most` may be small: a hundred calls of a hundredth of the look-ups that one call takes looked up at most 1.06 times
+ * as many boards (40 boards of 18 and 20 empty squares). For that a seat keeps up to 210 KB more after a call that was ended,
+ * until one from it has its answer.
  * Refusals, the first that holds: OTH_OVERLAP, OTH_EMPTIES, OTH_NO_SEAT. */
 uint32_t oth_solve_until(oth_seat *seat, oth_board board, uint64_t most, oth_answer *answer, oth_known *known);
 
