@@ -3,11 +3,15 @@
 --     limit root i      what word i may tell at most: below 64 the value of the board after the move to square i, from there
 --                       on the negated one for square i - 64
 --     AreTrue root words      each word, less 64, is at most what it may tell
-use Rattle.std.specs.Prelude.{◌≡◌, ℕ, ◌-◌, ℤ, pos, neg_ℤ, ◌-ℤ◌, ◌≤ℤ◌, List, nat_le, if◌then◌else◌, slice_index}
+--     IsOfMove root square s      the move to the square is legal, and s has bounds of the board after it, under the scoring of
+--                       the root; of no root there is no such s
+use Rattle.std.specs.Prelude.{◌≡◌, ℕ, ◌-◌, ℤ, pos, neg_ℤ, ◌-ℤ◌, ◌≤ℤ◌, List, Option, Some, None, nat_le, if◌then◌else◌, slice_index}
 use Rattle.atomic_table.specs.Table.{Me, Step}
 use Rattle.oth_rules.specs.Move.{after}
+use Rattle.oth_rules.specs.Laws.{IsLegal}
 use Rattle.oth_rules.specs.Score.{score_of}
 use Rattle.oth_rules.specs.Value.{value}
+use Rattle.oth_search.specs.declared.bounds.solved.Solved.{Solved}
 use Rattle.oth_pieces.specs.declared.floor.root.Root.{Root}
 
 abbrev pub child_value : Root → ℕ → ℤ
@@ -25,3 +29,7 @@ Looked s m found m' = (m'.0 ≡ m.0) × ((pos found -ℤ pos 64) ≤ℤ limit m.
 
 abbrev pub Raised : Step ℕ → Me ℕ Root → ℕ → Me ℕ Root → Type 0
 Raised s m found m' = m'.0 ≡ m.0
+
+abbrev pub IsOfMove : Option Root → ℕ → Solved → Type 0
+IsOfMove None square s = ⊥
+IsOfMove (Some root) square s = IsLegal root.board square × (s.board ≡ after root.board square) × (s.scoring ≡ root.scoring)

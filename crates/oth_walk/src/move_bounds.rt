@@ -5,8 +5,8 @@
 //! They stand in 128 words of an `atomic_table`, two for each square: the greatest lower bound that was told of the
 //! board after the root's move there, plus 64, and 64 less the least upper bound. The steps are load and fetch_max. The
 //! rule (`move_bounds/rule`): no word tells more than is true.
-ghost use Rattle.std.specs.Prelude.{◌≡◌, ◌<◌, ◌≤ℤ◌, ◌-ℤ◌, pos, negsuc, IfSome};
-ghost use Rattle.oth_walk.specs.MoveBounds.{limit};
+ghost use Rattle.std.specs.Prelude.{◌≡◌, ◌<◌, ◌≤ℤ◌, ◌-ℤ◌, pos, negsuc, None, IfSome, option_map};
+ghost use Rattle.oth_walk.specs.MoveBounds.{limit, IsOfMove};
 
 mod rule;
 
@@ -81,7 +81,9 @@ struct Place<'b> {
 
 impl<'b> Place<'b> {
     // A further seat. It takes no memory.
-    fn of(bounds: &'b MoveBounds) -> Place<'b> {
+    fn of(bounds: &'b MoveBounds) -> Place<'b>
+        ensures { result.bounds.now ≡ bounds.now }
+    {
         let (_, seat) = bounds.table.shared.load_new_seat::<Look>(0);
         Place { bounds, seat }
     }
@@ -120,9 +122,21 @@ pub struct BoundsSeat<'b> {
     place: Option<Place<'b>>,
 }
 
+impl<'b> Model for BoundsSeat<'b> {
+    ghost use Rattle.std.specs.Prelude.{Option, option_map};
+    ghost use Rattle.oth_pieces.specs.declared.floor.root.Root.{Root};
+
+    // The root whose moves it tells of, where there are bounds.
+    ghost Value = { Option Root };
+
+    ghost view = { λ s. option_map (λ p. p.bounds.now.root) s.place };
+}
+
 impl<'b> BoundsSeat<'b> {
     /// A further access to the bounds, if there are any. It takes no memory.
-    pub fn of(bounds: &'b Option<MoveBounds>) -> BoundsSeat<'b> {
+    pub fn of(bounds: &'b Option<MoveBounds>) -> BoundsSeat<'b>
+        ensures { result ≡ option_map (λ b. b.root) bounds.now }
+    {
         BoundsSeat {
             place: match bounds {
                 Some(bounds) => Some(Place::of(bounds)),
@@ -132,13 +146,17 @@ impl<'b> BoundsSeat<'b> {
     }
 
     /// No bounds.
-    pub fn none() -> BoundsSeat<'b> {
+    pub fn none() -> BoundsSeat<'b>
+        ensures { result ≡ None }
+    {
         BoundsSeat { place: None }
     }
 
     /// Tells what is known of the board after the root's move to this square. Bounds of another board, or under the
     /// other scoring, are passed over.
-    pub fn tell(&mut self, square: Square, child: &Solved) {
+    pub fn tell(&mut self, square: Square, child: &Solved)
+        ensures { self.new ≡ self.old }
+    {
         if let Some(place) = &mut self.place {
             let bounds = place.bounds;
             let Root { board, scoring } = bounds.root;
@@ -151,7 +169,10 @@ impl<'b> BoundsSeat<'b> {
     }
 
     /// What was told of the board after the root's move to this square, if the move is legal.
-    pub fn hear(&mut self, square: Square) -> Option<Solved> {
+    pub fn hear(&mut self, square: Square) -> Option<Solved>
+        ensures told { IfSome result (IsOfMove self.old square) }
+        ensures same { self.new ≡ self.old }
+    {
         let place = self.place.as_mut()?;
         let bounds = place.bounds;
         let Root { board, scoring } = bounds.root;

@@ -6,8 +6,8 @@ use super::entry::Entry;
 use super::solved::Solved;
 use oth_rules::{Board, Scoring};
 
-/// Where a search stores what it found: by default nowhere. What is stored may be lost. `look` and `recall` promise
-/// only that what they return is of the board and the scoring that were asked for.
+/// Where a search stores what it found. What is stored may be lost. `look` and `recall` promise only that what they
+/// return is of the board and the scoring that were asked for.
 pub trait Cells {
     /// What no call changes, such as the table that the cells belong to.
     ghost Fixed: { Type 0 };
@@ -15,18 +15,14 @@ pub trait Cells {
     ghost fixed: { Self → Fixed };
 
     /// Returns the entry of a canonical board under this scoring, if one is kept.
-    fn look(&mut self, _board: &Board, _scoring: Scoring) -> Option<Entry>
-        requires { IsCanonical _board.now }
-        ensures asked { IfSome result (λ e. (e.board ≡ _board.now) × (e.scoring ≡ _scoring)) }
-        ensures fixed { fixed self.new ≡ fixed self.old }
-    {
-        None
-    }
+    fn look(&mut self, board: &Board, scoring: Scoring) -> Option<Entry>
+        requires { IsCanonical board.now }
+        ensures asked { IfSome result (λ e. (e.board ≡ board.now) × (e.scoring ≡ scoring)) }
+        ensures fixed { fixed self.new ≡ fixed self.old };
 
     /// Offers an entry for storing. The cells are free to drop it.
-    fn put(&mut self, _entry: &Entry)
-        ensures fixed { fixed self.new ≡ fixed self.old }
-    {}
+    fn put(&mut self, entry: &Entry)
+        ensures fixed { fixed self.new ≡ fixed self.old };
 
     /// Whether boards of `empties` empty squares (9 and more) go to the local table instead of the shared one: by
     /// default no.
@@ -63,6 +59,8 @@ impl Cells for NoCells {
     {
         None
     }
+
+    fn put(&mut self, _entry: &Entry) {}
 }
 
 /// Cells that may be missing: then nothing is found and nothing is kept.

@@ -164,6 +164,12 @@ impl Cells for StackCells {
 
     ghost fixed = { λ c. tt };
 
+    fn look(&mut self, _board: &Board, _scoring: Scoring) -> Option<Entry> {
+        None
+    }
+
+    fn put(&mut self, _entry: &Entry) {}
+
     fn recall(&mut self, board: &Board, scoring: Scoring) -> Option<Solved> {
         told_by(&self.places[place(board, PLACES - 1)], board, scoring)
     }

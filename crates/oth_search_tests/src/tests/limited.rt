@@ -108,6 +108,8 @@ impl<'s> Cells for Stopping<'s> {
         None
     }
 
+    fn put(&mut self, _entry: &Entry) {}
+
     fn recall(&mut self, _board: &Board, _scoring: Scoring) -> Option<Solved> {
         self.count();
         None
