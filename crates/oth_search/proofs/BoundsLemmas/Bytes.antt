@@ -1,6 +1,6 @@
 -- A number of type i8, and its negation, as a call and a return read it.
 use Rattle.std.proofs.Common.{◌≡◌, arith, w8, to_z, of_z}
-use Rattle.std.specs.Prelude.{ℤ, pos, neg_ℤ, ◌-ℤ◌}
+use Rattle.std.specs.Prelude.{ℤ, pos, neg_ℤ, ◌+ℤ◌, ◌-ℤ◌}
 use Rattle.std.proofs.lemmas.Int.{ints}
 use Rattle.oth_rules.specs.Laws.{IsScore}
 use Rattle.oth_search.specs.Bounds.Interval.{IsThreshold, IsInterval, IsInner}
@@ -27,3 +27,10 @@ read-reply alpha a = let low = a.low in let high = a.high in omega (arith, ints)
 pub read-reply_read : (alpha : ℤ) → IsThreshold alpha
     → to_z w8 (of_z w8 (to_z w8 (of_z w8 (pos 0 -ℤ to_z w8 (of_z w8 alpha))) -ℤ pos 1)) ≡ neg_ℤ (to_z w8 (of_z w8 alpha)) -ℤ pos 1
 read-reply_read alpha a = let low = a.low in let high = a.high in omega (arith, ints)
+
+pub IsScore-lower : (lower upper : ℤ) → IsInterval lower upper → IsScore lower
+IsScore-lower lower upper i = record { low = i.low; high = omega (arith, ints, i.ordered, i.high) }
+
+-- the number behind the limit of a reply
+pub read-limit : (score z : ℤ) → IsScore z → z ≡ score → to_z w8 (of_z w8 (pos 0 -ℤ z)) +ℤ pos 1 ≡ pos 1 -ℤ score
+read-limit score z s e = let low = s.low in let high = s.high in omega (arith, ints, e)
