@@ -1,3 +1,4 @@
+pub mod Bytes
 pub mod Enclosing
 pub mod Entries
 pub mod Fulls

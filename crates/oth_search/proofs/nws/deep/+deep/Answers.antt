@@ -1,10 +1,11 @@
-use Rattle.std.proofs.Common.{refl, sym, subst, ◌∙◌, arith}
+use Rattle.std.proofs.Common.{refl, sym, subst, ◌∙◌, arith, w8}
 use Rattle.std.specs.Prelude.{ℤ, neg_ℤ}
-use Rattle.std.proofs.lemmas.Int.{ints}
+use Rattle.std.proofs.lemmas.Int.{ints, to_z-of_z}
 use Rattle.std.proofs.lemmas.List.Elements.{All-nil}
 use Rattle.std.specs.List.{All}
 use Rattle.oth_search.specs.Ordering.Keys.{key_square}
 use Rattle.oth_search.specs.Ordering.Children.{IsChild}
+use Rattle.oth_search.proofs.BoundsLemmas.Bytes.{read-lower, read-negated, read-reply, read-reply_read, read-upper}
 use Rattle.oth_search.proofs.OrderingLemmas.KeyLemmas.{All-refill}
 use Rattle.oth_search.proofs.BoundsLemmas.SquareSets.{Takes-same, In-none}
 use Rattle.oth_search.proofs.BoundsLemmas.Enclosing.{BoundsAt-lower, BoundsAt-upper, BoundsAt-same, Encloses-known, Encloses-same, value-known, IsCanonical-canonical}
@@ -21,7 +22,7 @@ nws_kept-returns-then-known-alpha-clause-value g t c =
     BoundsAt-lower _ c.args.alpha k.interval.lower k.interval.upper _
     (Encloses-known c.args.scoring k.scoring c.args.node.board c.canonical.result.0 k.board _ _ c.canonical.ensures.board c.known-known.ensures.board c.known-known.ensures.scoring k.encloses)
     k.interval.is_interval
-    (omega (arith, ints))
+    (read-lower k.interval.lower k.interval.upper k.interval.is_interval)
     (omega (arith, ints, c.if-known-alpha.true))
 
 pub nws_kept-returns-then-known-alpha-2-clause-value : goal.nws_kept-returns-then-known-alpha-2-clause-value
@@ -30,7 +31,7 @@ nws_kept-returns-then-known-alpha-2-clause-value g t c =
     BoundsAt-upper _ c.args.alpha k.interval.lower k.interval.upper _
     (Encloses-known c.args.scoring k.scoring c.args.node.board c.canonical.result.0 k.board _ _ c.canonical.ensures.board c.known-known.ensures.board c.known-known.ensures.scoring k.encloses)
     k.interval.is_interval
-    (omega (arith, ints))
+    (read-upper k.interval.lower k.interval.upper k.interval.is_interval)
     (omega (arith, ints, c.if-known-alpha-2.true))
 
 pub nws_kept-narrowed-requires : goal.nws_kept-narrowed-requires
@@ -38,7 +39,7 @@ nws_kept-narrowed-requires g t c =
     let k = c.known-known.result in
     BoundsAt-same _ _ _ _ _ _
     (value-known c.args.scoring k.scoring c.args.node.board c.canonical.result.0 k.board c.canonical.ensures.board c.known-known.ensures.board c.known-known.ensures.scoring)
-    refl (omega (arith, ints)) c.nws_ordered-found.ensures.value
+    refl (to_z-of_z w8 c.nws_ordered-found.result (record { sfits = c.nws_ordered-found.type_inv })) c.nws_ordered-found.ensures.value
 
 pub nws_kept-canonical-requires-2 : goal.nws_kept-canonical-requires-2
 nws_kept-canonical-requires-2 g t c =
@@ -50,7 +51,7 @@ nws_remembered-returns-then-recalled-alpha-clause-value g t c =
     BoundsAt-lower _ c.args.alpha k.interval.lower k.interval.upper _
     (Encloses-same c.args.scoring k.scoring c.args.node.board k.board _ _ c.recalled-recalled.ensures.board c.recalled-recalled.ensures.scoring k.encloses)
     k.interval.is_interval
-    (omega (arith, ints))
+    (read-lower k.interval.lower k.interval.upper k.interval.is_interval)
     (omega (arith, ints, c.if-recalled-alpha.true))
 
 pub nws_remembered-returns-then-recalled-alpha-2-clause-value : goal.nws_remembered-returns-then-recalled-alpha-2-clause-value
@@ -59,7 +60,7 @@ nws_remembered-returns-then-recalled-alpha-2-clause-value g t c =
     BoundsAt-upper _ c.args.alpha k.interval.lower k.interval.upper _
     (Encloses-same c.args.scoring k.scoring c.args.node.board k.board _ _ c.recalled-recalled.ensures.board c.recalled-recalled.ensures.scoring k.encloses)
     k.interval.is_interval
-    (omega (arith, ints))
+    (read-upper k.interval.lower k.interval.upper k.interval.is_interval)
     (omega (arith, ints, c.if-recalled-alpha-2.true))
 
 pub nws_children-loop-left-init : goal.nws_children-loop-left-init
@@ -89,7 +90,7 @@ nws_children-returns-then-reply-alpha-clause-value g t c =
     let made = c.next_child-child.ensures.child in
     BoundsAt-cut c.args.scoring c.args.node.board (key_square c.next_child-child.result.key) c.args.alpha _ made.legal
     (BoundsAt-reply c.args.scoring c.args.node.board c.node.result.board (key_square c.next_child-child.result.key) c.args.alpha _ _ c.nws_node-reply.result (c.node.ensures ∙ made.board)
-    (omega (arith, ints)) (omega (arith, ints)) c.nws_node-reply.ensures.value)
+    (read-reply c.args.alpha c.requires.threshold) (read-negated c.nws_node-reply.result c.nws_node-reply.ensures.value.score) c.nws_node-reply.ensures.value)
     (omega (arith, ints, c.if-reply-alpha.true))
 
 pub nws_children-loop-left-preserved : goal.nws_children-loop-left-preserved
@@ -101,7 +102,7 @@ nws_children-loop-left-preserved g t c =
       loop = ReplyLoop-keeps c.args.scoring c.args.node.board _ _ (key_square child.key) _ _ r c.loop-left.invariant.loop
           (Takes-same _ _ _ _ c.square.ensures c.next_child-child.ensures.member c.without-left.ensures.rest)
           (BoundsAt-reply c.args.scoring c.args.node.board c.node.result.board (key_square child.key) _ _ r c.nws_node-reply.result (c.node.ensures ∙ made.board)
-          (omega (arith, ints)) refl c.nws_node-reply.ensures.value)
+          (read-reply_read c.args.alpha c.requires.threshold) refl c.nws_node-reply.ensures.value)
           (omega (arith, ints, c.if-reply-best.false));
       fixed = c.nws_node-reply.ensures.fixed ∙ c.loop-left.invariant.fixed;
       each = c.next_child-child.ensures.children;
@@ -115,7 +116,7 @@ nws_children-loop-left-preserved-then-reply-best g t c =
       loop = ReplyLoop-takes c.args.scoring c.args.node.board _ _ (key_square child.key) _ _ _ c.loop-left.invariant.loop
           (Takes-same _ _ _ _ c.square.ensures c.next_child-child.ensures.member c.without-left.ensures.rest)
           (BoundsAt-reply c.args.scoring c.args.node.board c.node.result.board (key_square child.key) _ _ _ c.nws_node-reply.result (c.node.ensures ∙ made.board)
-          (omega (arith, ints)) (omega (arith, ints)) c.nws_node-reply.ensures.value)
+          (read-reply_read c.args.alpha c.requires.threshold) (read-negated c.nws_node-reply.result c.nws_node-reply.ensures.value.score) c.nws_node-reply.ensures.value)
           (omega (arith, ints, c.if-reply-alpha.false))
           (omega (arith, ints, c.if-reply-best.true));
       fixed = c.nws_node-reply.ensures.fixed ∙ c.loop-left.invariant.fixed;
@@ -124,7 +125,7 @@ nws_children-loop-left-preserved-then-reply-best g t c =
 
 pub nws_children-returns-clause-value : goal.nws_children-returns-clause-value
 nws_children-returns-clause-value g t c =
-    ReplyLoop-end c.args.scoring c.args.node.board c.args.alpha _ _ _ c.loop-left.invariant.loop (omega (arith, ints)) (In-none _ c.loop-left-test.false) c.requires.some
+    ReplyLoop-end c.args.scoring c.args.node.board c.args.alpha _ _ _ c.loop-left.invariant.loop (to_z-of_z w8 c.args.alpha c.ranges.alpha) (In-none _ c.loop-left-test.false) c.requires.some
 
 pub nws_children-returns-then-reply-alpha-clause-fixed : goal.nws_children-returns-then-reply-alpha-clause-fixed
 nws_children-returns-then-reply-alpha-clause-fixed g t c = c.nws_node-reply.ensures.fixed ∙ c.loop-left.invariant.fixed
@@ -166,8 +167,8 @@ nws_node-returns-then-passed-ne0-clause-value g t c =
     (c.of-passed.ensures ∙ c.pass.ensures)
     (can_move-from_none c.args.node.board _ c.args.node.legal c.if-node-ne0.false)
     (can_move-from_moves passed.board _ passed.legal c.if-passed-ne0.true)
-    (omega (arith, ints))
-    (omega (arith, ints))
+    (read-reply c.args.alpha c.requires)
+    (read-negated c.nws_kept-then-passed-ne0.result c.nws_kept-then-passed-ne0.ensures.value.score)
     c.nws_kept-then-passed-ne0.ensures.value
 
 pub nws_node-returns-clause-value : goal.nws_node-returns-clause-value

@@ -1,8 +1,9 @@
-use Rattle.std.proofs.Common.{refl, ◌∙◌, arith}
+use Rattle.std.proofs.Common.{refl, ◌∙◌, arith, w8}
 use Rattle.std.specs.Prelude.{ℤ, neg_ℤ}
-use Rattle.std.proofs.lemmas.Int.{ints}
+use Rattle.std.proofs.lemmas.Int.{ints, to_z-of_z}
 use Rattle.oth_search.specs.Ordering.Keys.{key_square}
 use Rattle.oth_search.specs.Ordering.Children.{IsChild}
+use Rattle.oth_search.proofs.BoundsLemmas.Bytes.{read-negated, read-reply, read-reply_read}
 use Rattle.oth_search.proofs.OrderingLemmas.KeyLemmas.{All-refill}
 use Rattle.oth_search.proofs.BoundsLemmas.SquareSets.{Takes-same, In-none}
 use Rattle.oth_search.proofs.BoundsLemmas.Replies.{BoundsAt-reply, BoundsAt-cut, ReplyLoop-start, ReplyLoop-keeps, ReplyLoop-takes, ReplyLoop-end, NoneAbove-moves}
@@ -28,7 +29,7 @@ returns-then-reply-alpha-clause-value g c =
     let made = c.next_child-child.ensures.child in
     BoundsAt-cut c.args.scoring c.args.node.board (key_square c.next_child-child.result.key) c.args.alpha _ made.legal
     (BoundsAt-reply c.args.scoring c.args.node.board c.node.result.board (key_square c.next_child-child.result.key) c.args.alpha _ _ c.nws_node-reply.result (c.node.ensures ∙ made.board)
-    (omega (arith, ints)) (omega (arith, ints)) c.nws_node-reply.ensures.value)
+    (read-reply c.args.alpha c.requires.threshold) (read-negated c.nws_node-reply.result c.nws_node-reply.ensures.value.score) c.nws_node-reply.ensures.value)
     (omega (arith, ints, c.if-reply-alpha.true))
 
 pub loop-left-preserved : goal.loop-left-preserved
@@ -40,7 +41,7 @@ loop-left-preserved g c =
       loop = ReplyLoop-keeps c.args.scoring c.args.node.board _ _ (key_square child.key) _ _ r c.loop-left.invariant.loop
           (Takes-same _ _ _ _ c.square.ensures c.next_child-child.ensures.member c.without-left.ensures.rest)
           (BoundsAt-reply c.args.scoring c.args.node.board c.node.result.board (key_square child.key) _ _ r c.nws_node-reply.result (c.node.ensures ∙ made.board)
-          (omega (arith, ints)) refl c.nws_node-reply.ensures.value)
+          (read-reply_read c.args.alpha c.requires.threshold) refl c.nws_node-reply.ensures.value)
           (omega (arith, ints, c.if-reply-best.false));
       fixed = c.nws_node-reply.ensures.fixed ∙ c.loop-left.invariant.fixed;
       each = All-refill (IsChild c.args.node.board) _ _ _ c.loop-left.invariant.each c.next_child-child.ensures.children;
@@ -54,7 +55,7 @@ loop-left-preserved-then-reply-best g c =
       loop = ReplyLoop-takes c.args.scoring c.args.node.board _ _ (key_square child.key) _ _ _ c.loop-left.invariant.loop
           (Takes-same _ _ _ _ c.square.ensures c.next_child-child.ensures.member c.without-left.ensures.rest)
           (BoundsAt-reply c.args.scoring c.args.node.board c.node.result.board (key_square child.key) _ _ _ c.nws_node-reply.result (c.node.ensures ∙ made.board)
-          (omega (arith, ints)) (omega (arith, ints)) c.nws_node-reply.ensures.value)
+          (read-reply_read c.args.alpha c.requires.threshold) (read-negated c.nws_node-reply.result c.nws_node-reply.ensures.value.score) c.nws_node-reply.ensures.value)
           (omega (arith, ints, c.if-reply-alpha.false))
           (omega (arith, ints, c.if-reply-best.true));
       fixed = c.nws_node-reply.ensures.fixed ∙ c.loop-left.invariant.fixed;
@@ -63,4 +64,4 @@ loop-left-preserved-then-reply-best g c =
 
 pub returns-clause-value : goal.returns-clause-value
 returns-clause-value g c =
-    ReplyLoop-end c.args.scoring c.args.node.board c.args.alpha _ _ _ c.loop-left.invariant.loop (omega (arith, ints)) (In-none _ c.loop-left-test.false) c.requires.some
+    ReplyLoop-end c.args.scoring c.args.node.board c.args.alpha _ _ _ c.loop-left.invariant.loop (to_z-of_z w8 c.args.alpha c.ranges.alpha) (In-none _ c.loop-left-test.false) c.requires.some

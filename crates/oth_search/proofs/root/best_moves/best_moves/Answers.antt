@@ -1,7 +1,8 @@
-use Rattle.std.proofs.Common.{ℕ, map, refl, ◌∙◌, arith, rules}
+use Rattle.std.proofs.Common.{ℕ, map, refl, sym, ◌∙◌, arith, rules}
 use Rattle.std.proofs.lemmas.Int.{ints}
 use Rattle.std.proofs.lemmas.List.{length-map}
 use Rattle.oth_search.specs.Root.Moves.{square_of}
+use Rattle.oth_search.proofs.BoundsLemmas.Bytes.{read-limit, read-negated, IsScore-lower}
 use Rattle.oth_search.proofs.BoundsLemmas.Enclosing.{same_scoring}
 use Rattle.oth_search.proofs.BoundsLemmas.SquareSets.{FromPlace-end, FromPlace}
 use Rattle.oth_search.proofs.BoundsLemmas.Replies.{FromPlace-legal, legal-FromPlace}
@@ -52,13 +53,14 @@ loop-root_move-preserved g c =
     let exactly = gives_exactly root.scoring root.board m.child.board m.square c.loop-root_move.score r.lower r.upper _ _ one.board
     (same_scoring root.scoring m.child.scoring m.child.board _ _ one.scoring c.reply_below-reply.ensures.encloses)
     r.is_interval c.reply_below-reply.ensures.decides
-    (omega (arith, ints)) (omega (arith, ints, c.loop-root_move.score-is)) (omega (arith, ints, c.loop-root_move.score-is, c.if-reply-score.false)) in
+    refl (read-limit c.loop-root_move.score _ c.loop-root_move.invariant.1.range c.loop-root_move.score-is)
+    (omega (arith, ints, c.loop-root_move.score-is, c.if-reply-score.false)) in
     let same = c.reply_below-reply.ensures.fixed ∙ c.loop-root_move.invariant.2 in
     elim c.if-reply-score-2.branch [
       | then-reply-score-2 w ↦ rw (w.score-is, w.best-is) (
         w.with-best.type_inv,
         RootLoop-better root.scoring root.board _ m.square _ _ _ _ _ c.loop-root_move.invariant.1 takes
-            (omega (arith, ints, exactly))
+            (exactly ∙ sym (read-negated r.lower (IsScore-lower r.lower r.upper r.is_interval)))
             (omega (arith, ints, w.if-reply-score-2.true))
             w.with-best.ensures,
         same,
@@ -66,7 +68,7 @@ loop-root_move-preserved g c =
       | else-reply-score-2 w ↦ rw (w.score-is, w.best-is) (
         w.with-best-else-reply-score-2.type_inv,
         RootLoop-equal root.scoring root.board _ m.square _ _ _ _ c.loop-root_move.invariant.1 takes
-            (omega (arith, ints, exactly, w.if-reply-score-2.false, c.if-reply-score.false))
+            (exactly ∙ omega (arith, ints, w.if-reply-score-2.false, c.if-reply-score.false))
             w.with-best-else-reply-score-2.ensures,
         same,
       )

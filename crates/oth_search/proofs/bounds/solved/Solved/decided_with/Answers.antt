@@ -13,3 +13,15 @@ returns-clause-decides g c =
     let found = c.by_heard_window-found.ensures in
     let both = c.joined-solved.ensures.both (found.board ∙ sym known.board) (found.scoring ∙ sym known.scoring) in
     Decides-closer _ _ _ _ _ _ _ _ c.joined-solved.result.interval.is_interval both.0 both.1 (omega (arith, ints)) (omega (arith, ints)) found.decides
+
+pub by_heard_window-found-requires : goal.by_heard_window-found-requires
+by_heard_window-found-requires g c =
+    let o = c.decides-2.ensures.open c.if-decides-2.false in
+    let known = c.joined-known.result.interval.is_interval in
+    record { low = omega (arith, ints, o.below, known.low); high = omega (arith, ints, o.above, known.high) }
+
+pub returns-clause-lower : goal.returns-clause-lower
+returns-clause-lower g c = let known = c.joined-known.ensures.lower in let solved = c.joined-solved.ensures.lower in omega (arith, ints, known, solved)
+
+pub returns-clause-upper : goal.returns-clause-upper
+returns-clause-upper g c = let known = c.joined-known.ensures.upper in let solved = c.joined-solved.ensures.upper in omega (arith, ints, known, solved)
