@@ -95,8 +95,8 @@ pub(crate) fn replies_of<'w, C, G>(jobs: &[Job<'w, C, G>], room: Vec<Reply>) -> 
     replies
 }
 
-/// Returns these replies with what any of the workers found of their items, as far as there is room for them: the worker
-/// that drew an item need not be the one that searched it.
+/// Returns these replies with what any of the workers found of their items, as far as there is room for them: the
+/// worker that drew an item need not be the one that searched it.
 pub(crate) fn told_by_all<'w, G: Gate, C: Cells>(
     jobs: &[Job<'w, C, G>],
     replies: &[Reply],
