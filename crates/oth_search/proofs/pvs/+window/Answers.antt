@@ -10,7 +10,8 @@ use Rattle.oth_search.proofs.pvs.+window.Goals as goal
 
 pub search_moves-loop-square-init : goal.search_moves-loop-square-init
 search_moves-loop-square-init g t c = (
-  w.WithinLoop-start c.args.scoring c.args.board _ _ _ _ refl (w.IsInner-same c.args.alpha c.args.beta _ _ (to_z-of_z w8 c.args.alpha c.ranges.alpha) (to_z-of_z w8 c.args.beta c.ranges.beta) c.requires.window)
+  w.WithinLoop-start c.args.scoring c.args.board _ _ _ _ refl (w.IsInner-same c.args.alpha c.args.beta _ _ (to_z-of_z w8 c.args.alpha c.ranges.alpha)
+      (to_z-of_z w8 c.args.beta c.ranges.beta) c.requires.window)
       (NoneAbove-list c.args.scoring c.args.board c.order-squares.result.items _ _ c.as_slice-square-items.ensures.value c.order-squares.ensures),
   refl,
 )
@@ -25,7 +26,8 @@ search_moves-search_reply-reply-requires g t c =
     let legal = c.loop-square.invariant.0.replies.untried s (c.loop-square.square-index, omega arith, omega (arith, c.loop-square-test.true), search rules) in
     let i = c.loop-square.invariant.0 in
     let n = w.IsInner-next c.args.alpha c.args.beta (to_z w8 c.loop-square.best-bits) c.greater-low.result c.requires.window (let below = i.in_reach in omega (arith, ints, below))
-    (greater-of c.args.alpha (to_z w8 c.loop-square.best-bits) c.greater-low.result _ _ (to_z-of_z w8 c.args.alpha c.ranges.alpha) (omega (arith, ints, c.loop-square.best-is)) c.greater-low.ensures.left
+    (greater-of c.args.alpha (to_z w8 c.loop-square.best-bits) c.greater-low.result _ _ (to_z-of_z w8 c.args.alpha c.ranges.alpha)
+    (omega (arith, ints, c.loop-square.best-is)) c.greater-low.ensures.left
     c.greater-low.ensures.right c.greater-low.ensures.one)
     in
     λ κs within. (
@@ -38,10 +40,12 @@ search_moves-returns-then-reply-beta-clause-value g t c =
     let s : ℕ = c.square-item.result in
     let r = c.search_reply-reply.result in
     let low = c.greater-low.result in
-    w.WithinAt-same _ _ _ _ _ _ _ r refl (sym (to_z-of_z w8 c.args.alpha c.ranges.alpha)) (sym (to_z-of_z w8 c.args.beta c.ranges.beta)) (to_z-of_z w8 c.search_reply-reply.result (record { sfits = c.search_reply-reply.type_inv }))
+    w.WithinAt-same _ _ _ _ _ _ _ r refl (sym (to_z-of_z w8 c.args.alpha c.ranges.alpha)) (sym (to_z-of_z w8 c.args.beta c.ranges.beta))
+    (to_z-of_z w8 c.search_reply-reply.result (record { sfits = c.search_reply-reply.type_inv }))
     (w.WithinAt-cut c.args.scoring c.args.board _ _ _ s (to_z w8 c.loop-square.best-bits) low r c.loop-square.invariant.0
     (c.loop-square.square-index, omega arith, omega (arith, c.loop-square-test.true), search rules)
-    (w.WithinAt-reply c.args.scoring c.args.board c.play_legal.result s _ _ _ _ r c.play_legal.ensures (sym (to_z-of_z w8 c.greater-low.result (record { sfits = c.greater-low.type_inv }))) refl c.search_reply-reply.ensures.value)
+    (w.WithinAt-reply c.args.scoring c.args.board c.play_legal.result s _ _ _ _ r c.play_legal.ensures
+    (sym (to_z-of_z w8 c.greater-low.result (record { sfits = c.greater-low.type_inv }))) refl c.search_reply-reply.ensures.value)
     (greater-of _ (to_z w8 c.loop-square.best-bits) low _ _ refl (omega (arith, ints, c.loop-square.best-is)) c.greater-low.ensures.left c.greater-low.ensures.right
     c.greater-low.ensures.one)
     (w.IsInner-same c.args.alpha c.args.beta _ _ (to_z-of_z w8 c.args.alpha c.ranges.alpha) (to_z-of_z w8 c.args.beta c.ranges.beta) c.requires.window)
@@ -57,31 +61,36 @@ search_moves-loop-square-preserved g t c =
       w.WithinLoop-same c.args.scoring c.args.board _ _ _ _ c.greater-best.result (to_z-of_z w8 c.greater-best.result (record { sfits = c.greater-best.type_inv }))
           (w.WithinLoop-next c.args.scoring c.args.board _ _ _ s _ (to_z w8 c.loop-square.best-bits) low r c.greater-best.result c.loop-square.invariant.0
           (Takes-next xs i s (omega (arith, c.loop-square-test.true)) (search rules))
-          (w.WithinAt-reply c.args.scoring c.args.board c.play_legal.result s _ _ _ _ r c.play_legal.ensures (sym (to_z-of_z w8 c.greater-low.result (record { sfits = c.greater-low.type_inv }))) refl c.search_reply-reply.ensures.value)
+          (w.WithinAt-reply c.args.scoring c.args.board c.play_legal.result s _ _ _ _ r c.play_legal.ensures
+          (sym (to_z-of_z w8 c.greater-low.result (record { sfits = c.greater-low.type_inv }))) refl c.search_reply-reply.ensures.value)
           (greater-of _ (to_z w8 c.loop-square.best-bits) low _ _ refl (omega (arith, ints, c.loop-square.best-is)) c.greater-low.ensures.left
           c.greater-low.ensures.right c.greater-low.ensures.one)
           (omega (arith, ints, c.if-reply-beta.false))
-          (greater-of (to_z w8 c.loop-square.best-bits) r c.greater-best.result _ _ (omega (arith, ints, c.loop-square.best-is)) (to_z-of_z w8 c.search_reply-reply.result (record { sfits = c.search_reply-reply.type_inv })) c.greater-best.ensures.left
+          (greater-of (to_z w8 c.loop-square.best-bits) r c.greater-best.result _ _ (omega (arith, ints, c.loop-square.best-is))
+          (to_z-of_z w8 c.search_reply-reply.result (record { sfits = c.search_reply-reply.type_inv })) c.greater-best.ensures.left
           c.greater-best.ensures.right c.greater-best.ensures.one)),
       c.search_reply-reply.ensures.fixed ∙ c.loop-square.invariant.1,
     )
 
 pub search_moves-returns-clause-value : goal.search_moves-returns-clause-value
 search_moves-returns-clause-value g t c =
-    w.WithinAt-same _ _ _ _ _ _ _ (to_z w8 c.loop-square.best-bits) refl (sym (to_z-of_z w8 c.args.alpha c.ranges.alpha)) (sym (to_z-of_z w8 c.args.beta c.ranges.beta)) (omega (arith, ints, c.loop-square.best-is))
+    w.WithinAt-same _ _ _ _ _ _ _ (to_z w8 c.loop-square.best-bits) refl (sym (to_z-of_z w8 c.args.alpha c.ranges.alpha)) (sym (to_z-of_z w8 c.args.beta c.ranges.beta))
+    (omega (arith, ints, c.loop-square.best-is))
     (w.WithinAt-end c.args.scoring c.args.board _ _ _ (to_z w8 c.loop-square.best-bits) c.loop-square.invariant.0
     (λ s h. FromPlace-end _ _ s (omega (arith, c.loop-square-test.false)) h) c.requires.some)
 
 pub search_reply-returns-then-found-alpha-clause-value : goal.search_reply-returns-then-found-alpha-clause-value
 search_reply-returns-then-found-alpha-clause-value g t c =
     w.WithinAt-nws _ c.args.alpha c.args.beta _
-    (BoundsAt-negated _ c.args.alpha _ _ c.nws_with-found.result (w.reply_threshold c.args.alpha c.args.beta c.requires) (read-negated c.nws_with-found.result c.nws_with-found.ensures.value.score) c.nws_with-found.ensures.value)
+    (BoundsAt-negated _ c.args.alpha _ _ c.nws_with-found.result (w.reply_threshold c.args.alpha c.args.beta c.requires)
+    (read-negated c.nws_with-found.result c.nws_with-found.ensures.value.score) c.nws_with-found.ensures.value)
     (inl (omega (arith, ints, c.if-found-alpha.true))) (let o = c.requires.ordered in omega (arith, ints, o))
 
 pub search_reply-returns-then-found-beta-clause-value : goal.search_reply-returns-then-found-beta-clause-value
 search_reply-returns-then-found-beta-clause-value g t c =
     w.WithinAt-nws _ c.args.alpha c.args.beta _
-    (BoundsAt-negated _ c.args.alpha _ _ c.nws_with-found.result (w.reply_threshold c.args.alpha c.args.beta c.requires) (read-negated c.nws_with-found.result c.nws_with-found.ensures.value.score) c.nws_with-found.ensures.value)
+    (BoundsAt-negated _ c.args.alpha _ _ c.nws_with-found.result (w.reply_threshold c.args.alpha c.args.beta c.requires)
+    (read-negated c.nws_with-found.result c.nws_with-found.ensures.value.score) c.nws_with-found.ensures.value)
     (inr (omega (arith, ints, c.if-found-beta.true))) (let o = c.requires.ordered in omega (arith, ints, o))
 
 pub search_reply-search_window-requires : goal.search_reply-search_window-requires
@@ -93,7 +102,8 @@ search_reply-search_window-requires g t c =
 
 pub search_reply-returns-then-beta-alpha-clause-value : goal.search_reply-returns-then-beta-alpha-clause-value
 search_reply-returns-then-beta-alpha-clause-value g t c =
-    w.WithinAt-negated _ c.args.alpha c.args.beta _ _ _ c.search_window.result (read-negated_beta c.args.alpha c.args.beta c.requires) (read-negated_alpha c.args.alpha c.args.beta c.requires) (read-negated c.search_window.result c.search_window.ensures.value.score) c.search_window.ensures.value
+    w.WithinAt-negated _ c.args.alpha c.args.beta _ _ _ c.search_window.result (read-negated_beta c.args.alpha c.args.beta c.requires) (read-negated_alpha c.args.alpha c.args.beta c.requires)
+    (read-negated c.search_window.result c.search_window.ensures.value.score) c.search_window.ensures.value
 
 pub search_reply-search_window-requires-2 : goal.search_reply-search_window-requires-2
 search_reply-search_window-requires-2 g t c =
@@ -117,7 +127,8 @@ search_reply-returns-clause-value g t c =
     (BoundsAt-negated _ c.args.alpha _ found c.nws_with-found.result (w.reply_threshold c.args.alpha c.args.beta c.requires) refl c.nws_with-found.ensures.value)
     (omega (arith, ints, s.low, s.high, c.if-found-alpha.false))
     refl
-    (w.WithinAt-negated _ found c.args.beta _ _ _ c.search_window-2.result (read-negated_beta c.args.alpha c.args.beta c.requires) (omega (arith, ints, s.low, s.high)) refl c.search_window-2.ensures.value)
+    (w.WithinAt-negated _ found c.args.beta _ _ _ c.search_window-2.result (read-negated_beta c.args.alpha c.args.beta c.requires)
+    (omega (arith, ints, s.low, s.high)) refl c.search_window-2.ensures.value)
     (greater-of found (neg_ℤ c.search_window-2.result) c.greater.result _ _ (omega (arith, ints, s.low, s.high)) (omega (arith, ints, n.low, n.high)) c.greater.ensures.left
     c.greater.ensures.right c.greater.ensures.one))
 
@@ -153,7 +164,8 @@ search_window-returns-then-moves-ne0-2-clause-value g t c =
     c.pass-passed.ensures
     (can_move-from_none c.args.board _ c.moves.ensures c.if-moves-ne0.false)
     (can_move-from_moves c.pass-passed.result _ c.moves-2.ensures c.if-moves-ne0-2.true)
-    (read-negated_beta c.args.alpha c.args.beta c.requires) (read-negated_alpha c.args.alpha c.args.beta c.requires) (read-negated c.search_moves-then-moves-ne0-2.result c.search_moves-then-moves-ne0-2.ensures.value.score)
+    (read-negated_beta c.args.alpha c.args.beta c.requires) (read-negated_alpha c.args.alpha c.args.beta c.requires)
+    (read-negated c.search_moves-then-moves-ne0-2.result c.search_moves-then-moves-ne0-2.ensures.value.score)
     c.search_moves-then-moves-ne0-2.ensures.value
 
 pub search_window-returns-clause-value : goal.search_window-returns-clause-value

@@ -74,7 +74,8 @@ returns c =
     (to_z-of_z w8 c.reply_three-2.result (record { sfits = c.reply_three-2.type_inv })) c.greater-best-2.ensures.left c.greater-best-2.ensures.right c.greater-best-2.ensures.one)
     (omega (arith, ints, c.if-best-alpha-3.false)))
     (l.GivesAt-same g p on.d alpha _ c.reply_three-3.result (to_z-of_z w8 c.args.alpha c.ranges.alpha) c.reply_three-3.ensures)
-    (l.greater-of c.greater-best-2.result c.reply_three-3.result c.greater.result _ _ (to_z-of_z w8 c.greater-best-2.result (record { sfits = c.greater-best-2.type_inv })) (to_z-of_z w8 c.reply_three-3.result (record { sfits = c.reply_three-3.type_inv }))
+    (l.greater-of c.greater-best-2.result c.reply_three-3.result c.greater.result _ _ (to_z-of_z w8 c.greater-best-2.result (record { sfits = c.greater-best-2.type_inv }))
+    (to_z-of_z w8 c.reply_three-3.result (record { sfits = c.reply_three-3.type_inv }))
     c.greater.ensures.left c.greater.ensures.right c.greater.ensures.one))
 
 pub reply_three-requires-3-clause-last : goal.reply_three-requires-3-clause-last
