@@ -12,7 +12,7 @@ VERSIONS = {
     "README.md": "/pahkrin_{version}_amd64.deb",
     "crates/oth_c/specs/Texts.antt": 'version_text = codes "{version} (rattle logic {logic})"\n',
     "crates/oth_c/src/version.rt": 'const LIBRARY_VERSION: &str = "{version} (rattle logic {logic})";\n',
-    "crates/oth_words/src/command_line.rt": 'const VERSION: &str = "{version} (rattle logic {logic})";\n',
+    "crates/oth_words/src/commands.rt": 'const VERSION: &str = "{version} (rattle logic {logic})";\n',
     "docs/FORMATS.md": "`othsolve {version} (rattle logic {logic})`",
     "docs/othsolve.1": '"Pahkrin {version}"',
     "examples/python/othsolve/__init__.py": '__version__ = "{version}"\n',

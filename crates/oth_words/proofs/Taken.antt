@@ -15,9 +15,9 @@ use Rattle.clap.specs.ValueTests.{accepts}
 use Rattle.clap.specs.Walk.{Row, Rule, Text, answers_to, arg_by_id, first_of, one_of, nothing_held}
 use Rattle.clap.specs.declared.builder.value_parser.ValueParser.TheVariants as parser
 use Rattle.oth_words.proofs.RowsPass.{HasText}
-use Rattle.oth_words.proofs.Levels.{IsOrdinary, enters, number_of, text_of}
+use Rattle.oth_words.proofs.Levels.{IsOrdinary, enters, number_of, ordinary, text_of}
 use Rattle.oth_words.proofs.WalkKeeps.{Each, MayEnter}
-use Rattle.oth_words.specs.CommandLine.{AreScorings, HasLast, HasNumbers, IsNumber, Meaning, Means, ScoringWords, add, add_app, files_of, telling_of}
+use Rattle.oth_words.specs.CommandLine.{AreScorings, HasNumbers, IsNumber, Meaning, Means, ScoringWords, add, add_app, files_of, telling_of}
 use Rattle.oth_words.specs.CommandLine.{analyse_app, othsolve, plain_app, program, run, scores_app, scoring_word, solve_app, verify, verify_app}
 use Rattle.oth_rules.specs.declared.scoring.Scoring.{Scoring}
 use Rattle.oth_rules.specs.declared.scoring.Scoring.TheVariants.{Winner, Discs}
@@ -90,19 +90,7 @@ module _ (scorings : ScoringWords) (are : AreScorings scorings) where
   solve_shape = built_sub (solve_app scorings)
 
   solve_ordinary : Each (IsOrdinary solve_shape.rules) solve_shape.rules
-  solve_ordinary = (
-    (refl, inl (refl, refl)),
-    (
-      (refl, inl (refl, refl)),
-      (
-        (refl, inl (refl, refl)),
-        (
-          (refl, inl (refl, refl)),
-          ((refl, inr (inr (inr (refl, tt)))), ((refl, inr (inl (refl, refl))), ((refl, inr (inr (inl refl))), tt))),
-        ),
-      ),
-    ),
-  )
+  solve_ordinary = ordinary solve_shape.rules refl
 
   solve_taken : (words : List Text) → level_passes solve_shape [] nothing_held words false ≡ true → MeansSome (rows_at solve_shape words)
   solve_taken words e =
@@ -128,16 +116,7 @@ module _ (scorings : ScoringWords) (are : AreScorings scorings) where
   scores_shape = built_sub (scores_app scorings)
 
   scores_ordinary : Each (IsOrdinary scores_shape.rules) scores_shape.rules
-  scores_ordinary = (
-    (refl, inl (refl, refl)),
-    (
-      (refl, inl (refl, refl)),
-      (
-        (refl, inl (refl, refl)),
-        ((refl, inr (inr (inr (refl, tt)))), ((refl, inr (inl (refl, refl))), ((refl, inr (inr (inl refl))), tt))),
-      ),
-    ),
-  )
+  scores_ordinary = ordinary scores_shape.rules refl
 
   scores_taken : (words : List Text) → level_passes scores_shape [] nothing_held words false ≡ true → MeansSome (rows_at scores_shape words)
   scores_taken words e =
@@ -164,19 +143,7 @@ module _ (scorings : ScoringWords) (are : AreScorings scorings) where
   analyse_shape = built_sub (analyse_app scorings)
 
   analyse_ordinary : Each (IsOrdinary analyse_shape.rules) analyse_shape.rules
-  analyse_ordinary = (
-    (refl, inl (refl, refl)),
-    (
-      (refl, inl (refl, refl)),
-      (
-        (refl, inl (refl, refl)),
-        (
-          (refl, inl (refl, refl)),
-          ((refl, inr (inr (inr (refl, tt)))), ((refl, inr (inl (refl, refl))), ((refl, inr (inr (inl refl))), tt))),
-        ),
-      ),
-    ),
-  )
+  analyse_ordinary = ordinary analyse_shape.rules refl
 
   analyse_taken : (words : List Text) → level_passes analyse_shape [] nothing_held words false ≡ true → MeansSome (rows_at analyse_shape words)
   analyse_taken words e =
@@ -201,7 +168,7 @@ module _ (scorings : ScoringWords) (are : AreScorings scorings) where
       )
 
 verify_ordinary : Each (IsOrdinary (built_sub verify_app).rules) (built_sub verify_app).rules
-verify_ordinary = ((refl, inl (refl, refl)), ((refl, inr (inr (inl refl))), tt))
+verify_ordinary = ordinary (built_sub verify_app).rules refl
 
 verify_taken : (words : List Text) → level_passes (built_sub verify_app) [] nothing_held words false ≡ true → MeansSome (rows_at (built_sub verify_app) words)
 verify_taken words e =
@@ -209,7 +176,7 @@ verify_taken words e =
     (verify file.text, (refl, file.first))
 
 add_ordinary : Each (IsOrdinary add_shape.rules) add_shape.rules
-add_ordinary = ((refl, inl (refl, refl)), ((refl, inl (refl, refl)), ((refl, inl (refl, refl)), ((refl, inr (inr (inl refl))), tt))))
+add_ordinary = ordinary add_shape.rules refl
 
 add_taken : (words : List Text) → level_passes add_shape [] nothing_held words false ≡ true → MeansSome (rows_at add_shape words)
 add_taken words e =

@@ -1,8 +1,0 @@
-use Rattle.std.proofs.Common.{rules}
-use Rattle.oth_words.proofs.command_line.cells_option.Goals as goal
-
-pub returns-clause-value : goal.returns-clause-value
-returns-clause-value c = search rules
-
-pub returns-clause-rule : goal.returns-clause-rule
-returns-clause-rule c = search rules

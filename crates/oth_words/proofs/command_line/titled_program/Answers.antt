@@ -1,5 +1,0 @@
-use Rattle.std.proofs.Common.{rules}
-use Rattle.oth_words.proofs.command_line.titled_program.Goals as goal
-
-pub returns-clause-app : goal.returns-clause-app
-returns-clause-app c = search rules

@@ -1,0 +1,20 @@
+use Rattle.std.proofs.Common.{◌≡◌, ◌∙◌, ap, ap₂, false}
+use Rattle.std.specs.Prelude.{◌||◌}
+use Rattle.std.proofs.lemmas.Result.{IfOk-weaker}
+use Rattle.clap.specs.Words.{app_of, with_rule}
+use Rattle.clap.specs.declared.builder.command.Command.TheViews.{out-Command}
+use Rattle.oth_words.proofs.commands.with_search_options.Goals as goal
+
+pub returns-clause-app : goal.returns-clause-app
+returns-clause-app c =
+    let first = c.in_ok-arg.ensures.shape c.workers_option.ensures.local ∙ ap (with_rule (app_of c.args.titled)) c.workers_option.ensures.rule in
+    let second = c.in_ok-arg-2.ensures.shape c.cells_option.ensures.local ∙ ap₂ with_rule first c.cells_option.ensures.rule in
+    IfOk-weaker c.arg-3.result _ _ (λ r added. added.shape c.scoring_option.ensures.local ∙ ap₂ with_rule second c.scoring_option.ensures.rule) c.arg-3.ensures
+
+pub returns-clause-local : goal.returns-clause-local
+returns-clause-local c =
+    let first : (out-Command c.in_ok-arg.field-0).has_globals ≡ false =
+    c.in_ok-arg.ensures.globals ∙ ap₂ ◌||◌ c.requires c.workers_option.ensures.local in
+    let second : (out-Command c.in_ok-arg-2.field-0).has_globals ≡ false =
+    c.in_ok-arg-2.ensures.globals ∙ ap₂ ◌||◌ first c.cells_option.ensures.local in
+    IfOk-weaker c.arg-3.result _ _ (λ r added. added.globals ∙ ap₂ ◌||◌ second c.scoring_option.ensures.local) c.arg-3.ensures
