@@ -3,7 +3,7 @@
 ghost use Rattle.std.specs.Prelude.{◌≡◌, ◌≤◌, ◌<◌, ◌↔◌, ◌++◌, ◌∷◌, [], length, true, IfOk};
 ghost use Rattle.oth_rules.specs.Position.{empty_count};
 
-use crate::tuning::{MOST_BOARDS, MOST_EMPTIES_FOR_ONE};
+use crate::tuning::{MOST_BOARDS, ONE_WORKER_MAX_EMPTIES};
 use oth_rules::Board;
 use std::alloc::{AllocError, Global};
 use std::marker::Model;
@@ -45,12 +45,12 @@ impl Boards {
 
     /// Lets the board wait too, behind the others, if fewer than `MOST_BOARDS` wait and one worker is enough for it.
     pub fn push(&mut self, board: Board)
-        ensures waits { empty_count board ≤ MOST_EMPTIES_FOR_ONE → length self.old < MOST_BOARDS
+        ensures waits { empty_count board ≤ ONE_WORKER_MAX_EMPTIES → length self.old < MOST_BOARDS
             → self.new ≡ self.old ++ board ∷ [] }
-        ensures large { MOST_EMPTIES_FOR_ONE < empty_count board → self.new ≡ self.old }
+        ensures large { ONE_WORKER_MAX_EMPTIES < empty_count board → self.new ≡ self.old }
         ensures full { MOST_BOARDS ≤ length self.old → self.new ≡ self.old }
     {
-        if board.empties() <= MOST_EMPTIES_FOR_ONE && !self.is_full() {
+        if board.empties() <= ONE_WORKER_MAX_EMPTIES && !self.is_full() {
             self.list.push_reserved(board);
         }
     }

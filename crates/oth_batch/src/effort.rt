@@ -3,7 +3,7 @@
 ghost use Rattle.std.specs.Prelude.{◌≤◌};
 
 use crate::asked::Asked;
-use crate::tuning::{EFFORT_OF_A_THREAD, EMPTIES_FOR_SCORES, FEWEST_EMPTIES_TOGETHER, effort_of};
+use crate::tuning::{ALL_WORKERS_MIN_EMPTIES, EFFORT_OF_A_THREAD, EMPTIES_FOR_SCORES, effort_of};
 use oth_rules::Board;
 
 /// How long it takes to find what is asked of a board, in units of some 40 nanoseconds.
@@ -17,7 +17,7 @@ pub fn workers_for(asked: Asked, board: &Board, workers: u8) -> u8
     ensures few { result ≤ workers }
     ensures some { 1 ≤ workers → 1 ≤ result }
 {
-    if empties_to_search(asked, board) < FEWEST_EMPTIES_TOGETHER {
+    if empties_to_search(asked, board) < ALL_WORKERS_MIN_EMPTIES {
         workers.min(1)
     } else {
         workers

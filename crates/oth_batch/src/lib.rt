@@ -24,5 +24,5 @@ pub use boards::Boards;
 pub use effort::workers_for;
 pub use found::answer_among;
 pub use jobs::Jobs;
-pub use tuning::{MOST_BOARDS, MOST_EMPTIES_FOR_ONE};
+pub use tuning::{MOST_BOARDS, ONE_WORKER_MAX_EMPTIES};
 pub use verifying::verify_by;

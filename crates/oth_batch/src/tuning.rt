@@ -6,7 +6,7 @@ pub const MOST_BOARDS: usize = 1_024;
 
 /// Empty squares: up to here a board may have one worker for itself. All workers solve a larger one together, so that
 /// the answers behind it do not wait long.
-pub const MOST_EMPTIES_FOR_ONE: u8 = 18;
+pub const ONE_WORKER_MAX_EMPTIES: u8 = 18;
 
 /// Units of some 40 nanoseconds: the work that pays for a further thread, which takes some 0.3 milliseconds to start.
 pub(crate) const EFFORT_OF_A_THREAD: u64 = 1 << 13;
@@ -25,4 +25,4 @@ pub(crate) fn effort_of(empties: u8) -> u64 {
 
 /// Empty squares: from here on all workers together solve a board that no batch has. Below it the caller's thread does,
 /// since starting others takes longer.
-pub(crate) const FEWEST_EMPTIES_TOGETHER: u8 = 13;
+pub(crate) const ALL_WORKERS_MIN_EMPTIES: u8 = 13;

@@ -13,7 +13,7 @@ ghost use Rattle.oth_book.specs.Book.{IsTrueBook};
 use crate::batch::Batch;
 use crate::boards::Boards;
 use crate::found::answer_among;
-use crate::tuning::FEWEST_EMPTIES_TOGETHER;
+use crate::tuning::ALL_WORKERS_MIN_EMPTIES;
 use oth_book::{Book, Claim, Claims, Wrong, verify_knowing};
 use oth_pool::{Open, solve};
 use oth_rules::Board;
@@ -77,7 +77,7 @@ impl<'b, R: Threads + Sync> ClaimSolver<'b, R> {
 
     // The answer of the board by all workers, where that pays.
     fn answer_by_all(&self, board: &Board) -> Option<Answer> {
-        if board.empties() < FEWEST_EMPTIES_TOGETHER || board.is_over() {
+        if board.empties() < ALL_WORKERS_MIN_EMPTIES || board.is_over() {
             return None;
         }
         let batch = &self.batch;

@@ -10,7 +10,7 @@ ghost use Rattle.oth_pieces.specs.Watch.{IsSeatOf};
 
 use crate::book_lookup::{answer_in, bounds_in};
 use crate::run::{Gathered, Links, Means, bounds_for, hints_for, run};
-use crate::tuning::{FEWEST_EMPTIES_CREWED, cells_for};
+use crate::tuning::{CREW_MIN_EMPTIES, cells_for};
 use crate::work::room_for;
 use oth_book::Book;
 use oth_pieces::{Floor, FloorSeat, Frontier, is_crew};
@@ -97,7 +97,7 @@ pub(crate) fn crew(workers: u8, empties: u8) -> u8
     requires { IsCrew workers }
     ensures { IsCrew result }
 {
-    if empties < FEWEST_EMPTIES_CREWED {
+    if empties < CREW_MIN_EMPTIES {
         workers.min(2)
     } else {
         workers

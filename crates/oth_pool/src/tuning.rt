@@ -3,7 +3,7 @@
 
 /// Empty squares of the root: from here on all workers search. Below it two do, since a thread takes longer to start
 /// than the rest of the search.
-pub(crate) const FEWEST_EMPTIES_CREWED: u8 = 12;
+pub(crate) const CREW_MIN_EMPTIES: u8 = 12;
 
 /// Returns how many of `cells` cells a search of `empties` empty squares can use: a large table takes longer to make
 /// than a small search gains.

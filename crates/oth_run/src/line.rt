@@ -14,7 +14,7 @@ ghost use Rattle.oth_text.specs.Report.{moves_line_of, report_line_of};
 
 use crate::game::BegunGame;
 use crate::solver::Solver;
-use crate::tuning::{MOST_EMPTIES_AT_ONCE, MOST_EMPTIES_SCORED_AT_ONCE};
+use crate::tuning::{HELD_ANSWER_MAX_EMPTIES, HELD_SCORES_MAX_EMPTIES};
 use crate::waiting::Waiting;
 use arrayvec::ArrayVec;
 use oth_batch::Jobs;
@@ -106,9 +106,8 @@ impl Line {
     /// (`is_shared`) that of any board, since this one may solve another board while it waits.
     pub fn takes_time(&self, is_shared: bool) -> bool {
         match self {
-            Line::Solve(reader) => is_shared || has_more_empties(reader, MOST_EMPTIES_AT_ONCE),
-            Line::Scores(reader) => is_shared
-                || has_more_empties(reader, MOST_EMPTIES_SCORED_AT_ONCE),
+            Line::Solve(reader) => is_shared || has_more_empties(reader, HELD_ANSWER_MAX_EMPTIES),
+            Line::Scores(reader) => is_shared || has_more_empties(reader, HELD_SCORES_MAX_EMPTIES),
             Line::Moves(_) | Line::Transcript(_) | Line::Play(_) => false,
             Line::Analyse(_) => true,
         }

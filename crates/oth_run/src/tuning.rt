@@ -11,7 +11,7 @@ pub(crate) const WAITING_LEN: usize = 16_384;
 
 /// Empty squares: up to here, by one worker, a board's answer waits for those of the next lines that were read with it,
 /// at most some 40 milliseconds, and one call writes them. A larger board's answer is written at once.
-pub(crate) const MOST_EMPTIES_AT_ONCE: u8 = 8;
+pub(crate) const HELD_ANSWER_MAX_EMPTIES: u8 = 8;
 
-/// As `MOST_EMPTIES_AT_ONCE`, of the scores of all moves.
-pub(crate) const MOST_EMPTIES_SCORED_AT_ONCE: u8 = 6;
+/// As `HELD_ANSWER_MAX_EMPTIES`, of the scores of all moves.
+pub(crate) const HELD_SCORES_MAX_EMPTIES: u8 = 6;

@@ -5,29 +5,29 @@ ghost use Rattle.std.specs.Prelude.{◌<◌};
 // ---- Which nodes are searched how, by their empty squares
 
 /// Empty squares: up to here each of the last squares has a body of its own, ordered by parity alone.
-pub(crate) const MOST_EMPTIES_LAST: u8 = 4;
+pub(crate) const LAST_SQUARES_MAX_EMPTIES: u8 = 4;
 
 /// Empty squares: from here on a position is kept in the local hash table, if the worker has one. Below it a search
 /// takes no longer than a look.
-pub(crate) const FEWEST_EMPTIES_REMEMBERED: u8 = 5;
+pub(crate) const LOCAL_TABLE_MIN_EMPTIES: u8 = 5;
 
 /// Empty squares: from here on moves are sorted by rank. Below it parity orders them, since a rank costs more than it
 /// saves.
-pub(crate) const FEWEST_EMPTIES_ORDERED: u8 = 6;
+pub(crate) const RANK_MIN_EMPTIES: u8 = 6;
 
 /// Empty squares: from here on all children are looked up before one is searched (enhanced transposition cutoff).
-pub(crate) const FEWEST_EMPTIES_RECORDED: u8 = 8;
+pub(crate) const ETC_MIN_EMPTIES: u8 = 8;
 
 /// Empty squares: from here on a position goes into the transposition table, in its canonical form, unless a local
 /// table has it. Below it a look and a store there cost more than they save.
-pub(crate) const FEWEST_EMPTIES_KEPT: u8 = 9;
+pub(crate) const TABLE_MIN_EMPTIES: u8 = 9;
 
 /// Alpha, in discs: from here on the stability cutoff is tried. Below it the opponent seldom has as many stable discs.
 pub(crate) const LEAST_ALPHA_BOUNDED: i8 = 24;
 
 /// Empty squares: a search that may be stopped ends only between nodes of this many and more, so that the inner loop
 /// has no test.
-pub(crate) const FEWEST_EMPTIES_ENDED: u8 = 11;
+pub(crate) const STOP_MIN_EMPTIES: u8 = 11;
 
 // ---- Move ordering: the rank of a move, the lowest first
 
@@ -51,10 +51,10 @@ pub(crate) const OFF_CORNER: u16 = 8;
 pub(crate) const IN_EVEN_QUADRANT: u16 = 8;
 
 /// Empty squares: up to here the rank leaves out potential mobility, which takes longer than it saves.
-pub(crate) const MOST_EMPTIES_SHORT: u8 = 8;
+pub(crate) const SHORT_RANK_MAX_EMPTIES: u8 = 8;
 
 /// Empty squares: from here on the rank adds the evaluation of the child.
-pub(crate) const FEWEST_EMPTIES_LOOKED: u8 = 11;
+pub(crate) const EVALUATION_MIN_EMPTIES: u8 = 11;
 
 // ---- Evaluation: how well a position stands, in points
 
@@ -85,16 +85,16 @@ pub(crate) const MARGIN: i16 = 30;
 
 /// Empty squares of the parent: from here on the evaluation of a child is that after the opponent's best reply, below
 /// it that of the child as it stands.
-pub(crate) const FEWEST_EMPTIES_AHEAD: u8 = 12;
+pub(crate) const LOOKAHEAD_MIN_EMPTIES: u8 = 12;
 
 /// Empty squares of the parent: from here on it is that after three plies, by a search over evaluations.
-pub(crate) const FEWEST_EMPTIES_THREE_AHEAD: u8 = 16;
+pub(crate) const LOOKAHEAD_THREE_MIN_EMPTIES: u8 = 16;
 
 /// Empty squares of the parent: from here on it is that after four plies.
-pub(crate) const FEWEST_EMPTIES_FOUR_AHEAD: u8 = 19;
+pub(crate) const LOOKAHEAD_FOUR_MIN_EMPTIES: u8 = 19;
 
 /// Empty squares of the parent: from here on it is that after five plies.
-pub(crate) const FEWEST_EMPTIES_FIVE_AHEAD: u8 = 21;
+pub(crate) const LOOKAHEAD_FIVE_MIN_EMPTIES: u8 = 21;
 
 /// Moves that are ranked at a node of this search over evaluations; others come last, unranked. Few nodes have more,
 /// and a longer list takes longer to make.
@@ -114,17 +114,17 @@ pub(crate) const FOLD: u32 = 8;
 
 /// Empty squares: from here on a position belongs to the second local table, so that the many positions of few empty
 /// squares do not drive it out.
-pub(crate) const FEWEST_EMPTIES_MORE: u8 = 9;
+pub(crate) const SECOND_LOCAL_MIN_EMPTIES: u8 = 9;
 
 /// Empty squares: from here on a position belongs to the transposition table even where there is a second local one.
-pub(crate) const FEWEST_EMPTIES_IN_TABLE: u8 = 15;
+pub(crate) const TABLE_ALWAYS_MIN_EMPTIES: u8 = 15;
 
 /// Empty squares of the root: from here on a worker makes a local table, which takes time to clear.
-pub(crate) const FEWEST_ROOT_EMPTIES_REMEMBERED: u8 = 10;
+pub(crate) const LOCAL_TABLE_ROOT_MIN_EMPTIES: u8 = 10;
 
 /// Empty squares of the root: from here on a worker that searches alone makes a second one. Where others search too,
 /// the shared table tells all of them what it would have.
-pub(crate) const FEWEST_EMPTIES_ALONE: u8 = 18;
+pub(crate) const SECOND_LOCAL_ROOT_MIN_EMPTIES: u8 = 18;
 
 /// The last place of the first local table, by the empty squares of the root: 4,096 or 8,192 entries. More save nodes,
 /// and take longer to reach.
@@ -151,7 +151,7 @@ pub(crate) fn large_last_below(empties: u8) -> usize
 // ---- The first guess, a selective search, and the null windows that follow it
 
 /// Empty squares of the root: from here on a selective search gives the first guess. Below it the search starts at 0.
-pub(crate) const FEWEST_EMPTIES_GUESSED: u8 = 12;
+pub(crate) const GUESS_MIN_EMPTIES: u8 = 12;
 
 /// Empty squares, by those of the board after a reply: up to here the selective search goes through all moves. At roots
 /// of 22 and 23 a nearer guess saves more than it takes.
@@ -175,11 +175,11 @@ pub(crate) const MANY_PLIES: u8 = 7;
 pub(crate) const MOST_RANKED: usize = 12;
 
 /// Empty squares: from here on it ranks children by their evaluation.
-pub(crate) const FEWEST_EMPTIES_GUESS_LOOKED: u8 = 13;
+pub(crate) const GUESS_EVALUATION_MIN_EMPTIES: u8 = 13;
 
 /// Empty squares: at nodes with more, the guess evaluates children as far ahead as at a node of this many, which is a
 /// ply. Looks of more plies make it dearer and no nearer.
-pub(crate) const MOST_EMPTIES_GUESS_LOOKED: u8 = 14;
+pub(crate) const GUESS_LOOKAHEAD_MAX_EMPTIES: u8 = 14;
 
 /// Null windows of one guess, at the most.
 pub(crate) const GUESS_ROUNDS: u8 = 12;
@@ -203,7 +203,7 @@ pub(crate) const MOST_IN_VAIN: u8 = 4;
 
 /// Empty squares: up to here, where the scores of all moves are asked for, the search of a child starts at the score of
 /// the sibling before. Beyond it a guess that starts there is nearer.
-pub(crate) const MOST_EMPTIES_BY_SIBLING: u8 = 13;
+pub(crate) const SIBLING_START_MAX_EMPTIES: u8 = 13;
 
 /// Discs: the widest step from one null window to the next of a search for a value.
 pub(crate) const WIDEST_STEP: i8 = 63;

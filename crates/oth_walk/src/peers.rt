@@ -21,7 +21,7 @@ use crate::hints::HintSeat;
 use crate::move_bounds::BoundsSeat;
 use crate::root_bound::RootBound;
 use crate::shared::{Search, Seats, Shape};
-use crate::tuning::{FEWEST_EMPTIES_GUESSED_TOGETHER, KEPT_ORDER_MIN_EMPTIES, SMALL_NODE_MARGIN};
+use crate::tuning::{KEPT_ORDER_MIN_EMPTIES, SHARED_GUESS_MIN_EMPTIES, SMALL_NODE_MARGIN};
 use arrayvec::ArrayVec;
 use goal::Goal;
 use oth_pieces::Frontier;
@@ -105,7 +105,7 @@ impl<'w, G> Peers<'w, G> {
 
     /// Whether the workers make the first guess together.
     pub fn guesses(&self) -> bool {
-        self.shares() && self.root_bound.board().empties() >= FEWEST_EMPTIES_GUESSED_TOGETHER
+        self.shares() && self.root_bound.board().empties() >= SHARED_GUESS_MIN_EMPTIES
     }
 
     /// The search of the board after this move of the root begins. Returns its number, where it is an item that the

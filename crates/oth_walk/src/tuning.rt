@@ -52,7 +52,7 @@ pub(crate) const KEPT_ORDER_MIN_EMPTIES: u8 = 12;
 // ---- The shared first guess, a selective search by all workers
 
 /// Empty squares of the root: from here on workers make the first guess together. Below it each one searches at once.
-pub(crate) const FEWEST_EMPTIES_GUESSED_TOGETHER: u8 = 14;
+pub(crate) const SHARED_GUESS_MIN_EMPTIES: u8 = 14;
 
 // ---- The root's moves
 

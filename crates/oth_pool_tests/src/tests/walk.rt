@@ -2,7 +2,7 @@
 
 use super::crews::BOARDS;
 use super::fixtures::{answer_of, board_of, floor_of};
-use super::{C, CORNERS};
+use super::{A, C, CORNERS};
 use oth_pieces::Frontier;
 use oth_pieces::floor::Root;
 use oth_rules::{Board, Scoring, Square};
@@ -143,6 +143,48 @@ fn hints_alone_settle_no_move(rt: HostRuntime) {
             check_settled_beside(&rt, *words, sharing, &hints, &None);
         }
     }
+}
+
+// The value of the board after the root's move to this square, by winner.
+fn value_after(rt: &impl Abort, root: &Board, square: Square) -> Solved {
+    let Some(child) = root.play(square) else {
+        panic!(rt; "no move")
+    };
+    Solved::of_answer(&answer_of(rt, &child, Scoring::Winner))
+}
+
+// A's best move is h1, by which it has -50. Of b1 it is known at first that the opponent has 50 or more: it may be as
+// good. The worker itself finds so, and then hints say that the move is settled by what was told of it.
+#[test]
+fn a_move_that_may_be_as_good_as_the_floor_is_not_settled(rt: HostRuntime) {
+    let root = board_of(&rt, A);
+    let (b1, h1) = (Square::numbered(1), Square::numbered(7));
+    let (floor, seat) = floor_of(&rt, &root);
+    let frontier = Frontier::of(&root, 1);
+    let moves = RootMoves::of(&Solved::unknown(root, Scoring::Winner), &[]);
+    let hints = Hints::new(rt.alloc(), 1);
+    let bounds = bounds_of(&rt, &root);
+    let announced = Announced::of(&root, Some(&frontier), &Open);
+    let seats = Seats {
+        root_bound: RootBound::of(&floor, seat),
+        hints: HintSeat::of(&hints),
+        bounds: BoundsSeat::of(&bounds),
+        announcer: Announcer::of(&announced),
+    };
+    let search = Search::of(&moves, &frontier, Sharing::Apart);
+    let mut worker = Worker::of(&search, rt.alloc(), NoCells, seats, &Open);
+    worker.update(h1, &value_after(&rt, &root, h1));
+    assert!(rt; worker.floor() == -50);
+    let found = value_after(&rt, &root, b1);
+    let Some(as_good) = found.widen(50, 64) else {
+        panic!(rt; "b1 is better")
+    };
+    worker.update(b1, &as_good);
+    assert!(rt; !worker.is_settled(b1));
+    HintSeat::of(&hints).settle(b1);
+    assert!(rt; !worker.is_settled(b1));
+    worker.update(b1, &found);
+    assert!(rt; worker.is_settled(b1));
 }
 
 #[test]

@@ -4,8 +4,8 @@ ghost use Rattle.std.specs.Prelude.{◌≡◌, IfSome};
 use super::table::LocalTable;
 use crate::bounds::Solved;
 use crate::tuning::{
-    FEWEST_EMPTIES_ALONE, FEWEST_EMPTIES_IN_TABLE, FEWEST_EMPTIES_MORE,
-    FEWEST_ROOT_EMPTIES_REMEMBERED,
+    LOCAL_TABLE_ROOT_MIN_EMPTIES, SECOND_LOCAL_MIN_EMPTIES, SECOND_LOCAL_ROOT_MIN_EMPTIES,
+    TABLE_ALWAYS_MIN_EMPTIES,
 };
 use oth_rules::{Board, Scoring};
 use std::alloc::Global;
@@ -36,7 +36,7 @@ impl LocalTables {
             few: None,
             more: None,
             is_wanted: is_remembered(root),
-            has_more: is_alone && root >= FEWEST_EMPTIES_ALONE,
+            has_more: is_alone && root >= SECOND_LOCAL_ROOT_MIN_EMPTIES,
         }
     }
 
@@ -47,14 +47,14 @@ impl LocalTables {
 
     /// Whether boards of `empties` empty squares (9 and more) go to the second table.
     pub fn remembers(&self, empties: u8) -> bool {
-        self.has_more && empties < FEWEST_EMPTIES_IN_TABLE
+        self.has_more && empties < TABLE_ALWAYS_MIN_EMPTIES
     }
 
     /// Returns what the board's table has of it under this scoring.
     pub fn recall(&self, board: &Board, scoring: Scoring) -> Option<Solved>
         ensures asked { IfSome result (λ s. (s.board ≡ board.now) × (s.scoring ≡ scoring)) }
     {
-        let memo = if board.empties() < FEWEST_EMPTIES_MORE {
+        let memo = if board.empties() < SECOND_LOCAL_MIN_EMPTIES {
             &self.few
         } else {
             &self.more
@@ -70,7 +70,7 @@ impl LocalTables {
         if self.is_wanted {
             self.make();
         }
-        let memo = if solved.board.empties() < FEWEST_EMPTIES_MORE {
+        let memo = if solved.board.empties() < SECOND_LOCAL_MIN_EMPTIES {
             &mut self.few
         } else {
             &mut self.more
@@ -95,5 +95,5 @@ impl LocalTables {
 
 /// Whether a local table pays for a root of `empties` empty squares.
 pub fn is_remembered(empties: u8) -> bool {
-    empties >= FEWEST_ROOT_EMPTIES_REMEMBERED
+    empties >= LOCAL_TABLE_ROOT_MIN_EMPTIES
 }

@@ -13,8 +13,8 @@ use super::shallow::{nws, nws_few};
 use crate::bounds::{Cells, Entry, Solved, without};
 use crate::ordering::{Child, add_children, look_at, next_child};
 use crate::tuning::{
-    FEWEST_EMPTIES_KEPT, FEWEST_EMPTIES_LOOKED, FEWEST_EMPTIES_ORDERED, FEWEST_EMPTIES_RECORDED,
-    FEWEST_EMPTIES_REMEMBERED, LEAST_ALPHA_BOUNDED,
+    ETC_MIN_EMPTIES, EVALUATION_MIN_EMPTIES, LEAST_ALPHA_BOUNDED, LOCAL_TABLE_MIN_EMPTIES,
+    RANK_MIN_EMPTIES, TABLE_MIN_EMPTIES,
 };
 use arrayvec::ArrayVec;
 use oth_rules::{Board, Scoring};
@@ -36,7 +36,7 @@ pub fn nws_node<C: Cells>(node: Node, alpha: i8, cells: &mut C, scoring: Scoring
     ensures fixed { C.fixed cells.new ≡ C.fixed cells.old }
 {
     let board = node.board;
-    if board.empties() < FEWEST_EMPTIES_REMEMBERED {
+    if board.empties() < LOCAL_TABLE_MIN_EMPTIES {
         return nws(board, alpha, scoring);
     }
     if node.moves != 0 {
@@ -102,16 +102,16 @@ fn nws_ordered<C: Cells>(node: Node, alpha: i8, cells: &mut C, scoring: Scoring)
     ensures fixed { C.fixed cells.new ≡ C.fixed cells.old }
 {
     let empties = node.board.empties();
-    if empties < FEWEST_EMPTIES_ORDERED {
+    if empties < RANK_MIN_EMPTIES {
         return nws_few(node, alpha, scoring);
     }
     if let Some(most) = most_at(&node.board, alpha, scoring) {
         return most;
     }
-    if empties < FEWEST_EMPTIES_RECORDED {
+    if empties < ETC_MIN_EMPTIES {
         return nws_short(node, alpha, cells, scoring);
     }
-    if empties < FEWEST_EMPTIES_LOOKED {
+    if empties < EVALUATION_MIN_EMPTIES {
         return nws_middle(node, alpha, cells, scoring);
     }
     nws_long(node, alpha, cells, scoring)
@@ -144,7 +144,7 @@ fn nws_middle<C: Cells>(node: Node, alpha: i8, cells: &mut C, scoring: Scoring) 
 {
     let mut list: ArrayVec<Child, 10> = ArrayVec::new();
     add_children(&node, &mut list);
-    if node.board.empties() <= FEWEST_EMPTIES_KEPT || is_remembered(&node.board, cells) {
+    if node.board.empties() <= TABLE_MIN_EMPTIES || is_remembered(&node.board, cells) {
         if let Some(found) = recorded_above(&node.board, list.as_slice(), alpha, cells, scoring) {
             return found;
         }
@@ -247,7 +247,7 @@ pub fn recorded_above<C: Cells>(
 // Whether the board goes to the local table, and not to the transposition table.
 fn is_remembered<C: Cells>(board: &Board, cells: &C) -> bool {
     let empties = board.empties();
-    empties < FEWEST_EMPTIES_KEPT || cells.remembers(empties)
+    empties < TABLE_MIN_EMPTIES || cells.remembers(empties)
 }
 
 // The bounds of the board's value by the table that keeps it: by the local one, or by the entry of its canonical image

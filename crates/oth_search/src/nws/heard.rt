@@ -12,7 +12,7 @@ use super::node::Node;
 use super::shallow::nws;
 use crate::bounds::{Cells, greater, odd_quadrants, preferred, without};
 use crate::ordering::{Child, next_child, ranked};
-use crate::tuning::{FEWEST_EMPTIES_LOOKED, FEWEST_EMPTIES_ORDERED, FEWEST_EMPTIES_RECORDED};
+use crate::tuning::{ETC_MIN_EMPTIES, EVALUATION_MIN_EMPTIES, RANK_MIN_EMPTIES};
 use arrayvec::ArrayVec;
 use oth_rules::{Board, Scoring};
 
@@ -61,10 +61,10 @@ fn nws_heard_moves<C: Cells, H: Hearer>(
     ensures value { BoundsAt (value (score_of scoring) node.board) alpha result }
     ensures fixed { C.fixed cells.new ≡ C.fixed cells.old }
 {
-    if node.board.empties() < FEWEST_EMPTIES_ORDERED {
+    if node.board.empties() < RANK_MIN_EMPTIES {
         return nws_heard_few(node, alpha, scoring, hearer);
     }
-    let mut list: ArrayVec<Child, 32> = ranked(&node, FEWEST_EMPTIES_LOOKED, 64);
+    let mut list: ArrayVec<Child, 32> = ranked(&node, EVALUATION_MIN_EMPTIES, 64);
     if let Some(found) = cutoff(&node.board, list.as_slice(), alpha, cells, scoring) {
         return found;
     }
@@ -127,7 +127,7 @@ fn cutoff<C: Cells>(
     if let Some(most) = most_at(board, alpha, scoring) {
         return Some(most);
     }
-    if board.empties() < FEWEST_EMPTIES_RECORDED {
+    if board.empties() < ETC_MIN_EMPTIES {
         return None;
     }
     recorded_above(board, children, alpha, cells, scoring)

@@ -11,7 +11,7 @@ use super::empties::Empties;
 use super::last::nws_last;
 use super::node::Node;
 use crate::bounds::{preferred, without};
-use crate::tuning::MOST_EMPTIES_LAST;
+use crate::tuning::LAST_SQUARES_MAX_EMPTIES;
 use oth_rules::{Board, Scoring, Twin};
 
 /// Whether the value of the board is above `alpha`: a bound of the value on its side of `alpha`.
@@ -45,7 +45,7 @@ fn nws_at(board: Twin, empties: Empties, alpha: i8, scoring: Scoring) -> i8
     requires empties { empties.all ≡ word_of (is_empty board) }
     ensures { BoundsAt (value (score_of scoring) board) alpha result }
 {
-    if empties.all.count_ones() <= u32::from(MOST_EMPTIES_LAST) {
+    if empties.all.count_ones() <= u32::from(LAST_SQUARES_MAX_EMPTIES) {
         if let Some(found) = nws_last(board, empties, alpha, scoring) {
             return found;
         }

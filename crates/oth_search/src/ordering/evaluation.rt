@@ -6,8 +6,8 @@ use super::rank::{CORNERS, X_SQUARES, around, count};
 use crate::bounds::{first, without};
 use crate::nws::Node;
 use crate::tuning::{
-    CORNER_MOVE, CORNER_TAKEN, DISC, FEWEST_EMPTIES_AHEAD, FEWEST_EMPTIES_FIVE_AHEAD,
-    FEWEST_EMPTIES_FOUR_AHEAD, FEWEST_EMPTIES_THREE_AHEAD, MARGIN, MOVE, OPEN_TO_MOVER,
+    CORNER_MOVE, CORNER_TAKEN, DISC, LOOKAHEAD_FIVE_MIN_EMPTIES, LOOKAHEAD_FOUR_MIN_EMPTIES,
+    LOOKAHEAD_MIN_EMPTIES, LOOKAHEAD_THREE_MIN_EMPTIES, MARGIN, MOVE, OPEN_TO_MOVER,
     OPPOSING_X_SQUARE, STABLE_EDGE_DISC,
 };
 use oth_rules::{Board, NOT_H, Twin};
@@ -74,7 +74,7 @@ impl Evaluation {
 }
 
 /// Evaluates a child for its mover, who has `moves`, to order the children of a board of `empties` empty squares: after
-/// some plies, or below `FEWEST_EMPTIES_AHEAD` as it stands. Less exact from `enough` on.
+/// some plies, or below `LOOKAHEAD_MIN_EMPTIES` as it stands. Less exact from `enough` on.
 pub fn evaluation_of(child: &Board, moves: u64, empties: u8, enough: Evaluation) -> Evaluation {
     match plies_ahead(empties) {
         0 => standing(Twin::of(child), moves),
@@ -85,13 +85,13 @@ pub fn evaluation_of(child: &Board, moves: u64, empties: u8, enough: Evaluation)
 
 // How many plies the children of a board of `empties` empty squares are looked ahead.
 fn plies_ahead(empties: u8) -> u8 {
-    if empties < FEWEST_EMPTIES_AHEAD {
+    if empties < LOOKAHEAD_MIN_EMPTIES {
         0
-    } else if empties < FEWEST_EMPTIES_THREE_AHEAD {
+    } else if empties < LOOKAHEAD_THREE_MIN_EMPTIES {
         1
-    } else if empties < FEWEST_EMPTIES_FOUR_AHEAD {
+    } else if empties < LOOKAHEAD_FOUR_MIN_EMPTIES {
         3
-    } else if empties < FEWEST_EMPTIES_FIVE_AHEAD {
+    } else if empties < LOOKAHEAD_FIVE_MIN_EMPTIES {
         4
     } else {
         5

@@ -8,7 +8,7 @@ use crate::bounds::{Cells, greater, without};
 use crate::nws::{Node, nws_node};
 use crate::ordering::{Child, next_child, ranked};
 use crate::tuning::{
-    FEWEST_EMPTIES_GUESS_LOOKED, MANY_PLIES, MOST_EMPTIES_GUESS_LOOKED, MOST_RANKED, WIDTH,
+    GUESS_EVALUATION_MIN_EMPTIES, GUESS_LOOKAHEAD_MAX_EMPTIES, MANY_PLIES, MOST_RANKED, WIDTH,
     WIDTH_AT_FIRST, most_empties_in_full,
 };
 use arrayvec::ArrayVec;
@@ -96,8 +96,8 @@ fn glance_at_moves<C: Cells>(
 {
     let mut ranked: ArrayVec<Child, MOST_RANKED> = ranked(
         &node,
-        FEWEST_EMPTIES_GUESS_LOOKED,
-        MOST_EMPTIES_GUESS_LOOKED,
+        GUESS_EVALUATION_MIN_EMPTIES,
+        GUESS_LOOKAHEAD_MAX_EMPTIES,
     );
     let mut best = -64;
     let mut left = node.moves;

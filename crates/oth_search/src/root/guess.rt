@@ -13,7 +13,7 @@ use crate::bounds::{Cells, Interval, Solved, greater, lesser, without};
 use crate::nws::Node;
 use crate::ordering::{Child, next_child, ranked, try_again};
 use crate::tuning::{
-    FEWEST_EMPTIES_GUESS_LOOKED, GUESS_ROUNDS, MOST_EMPTIES_GUESS_LOOKED, MOST_RANKED, TURNS,
+    GUESS_EVALUATION_MIN_EMPTIES, GUESS_LOOKAHEAD_MAX_EMPTIES, GUESS_ROUNDS, MOST_RANKED, TURNS,
 };
 use arrayvec::ArrayVec;
 use oth_rules::{Board, Scoring};
@@ -214,8 +214,8 @@ fn glance_at_all_moves<C: Cells, O: Observer<C>>(
 {
     let mut ranked: ArrayVec<Child, MOST_RANKED> = ranked(
         &node,
-        FEWEST_EMPTIES_GUESS_LOOKED,
-        MOST_EMPTIES_GUESS_LOOKED,
+        GUESS_EVALUATION_MIN_EMPTIES,
+        GUESS_LOOKAHEAD_MAX_EMPTIES,
     );
     let mut best = -64;
     let mut left = node.moves;

@@ -13,7 +13,7 @@ use super::moves::{RootMove, RootMoves};
 use super::observer::Observer;
 use super::step::Pace;
 use crate::bounds::{Cells, Interval, lesser};
-use crate::tuning::{FEWEST_EMPTIES_GUESSED, LEAD_ROUNDS, MOST_IN_VAIN};
+use crate::tuning::{GUESS_MIN_EMPTIES, LEAD_ROUNDS, MOST_IN_VAIN};
 
 // Null windows of one search for a value, at the most: each leaves fewer of the 129 scores.
 const MOST_QUESTIONS: u8 = 128;
@@ -74,7 +74,7 @@ pub fn first_threshold<C: Cells, O: Observer<C>>(
     if least < 64 {
         return least;
     }
-    if moves.root().board.empties() < FEWEST_EMPTIES_GUESSED {
+    if moves.root().board.empties() < GUESS_MIN_EMPTIES {
         return 0;
     }
     lesser(63, guess(moves, 0, cells, observer))

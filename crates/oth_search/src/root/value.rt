@@ -8,7 +8,7 @@ use super::moves::RootMoves;
 use super::observer::Observer;
 use super::settle::{Quest, first_threshold, settle};
 use crate::bounds::{Cells, Interval, Solved, greater, known_below, lesser};
-use crate::tuning::MOST_EMPTIES_BY_SIBLING;
+use crate::tuning::SIBLING_START_MAX_EMPTIES;
 
 /// The board with its exact value, by what is known of it and a search. One of the boards after its moves is searched
 /// to its value, and each other until it is known to be no better for the mover. The observer hears of each search of
@@ -66,7 +66,7 @@ fn first_asked<C: Cells, O: Observer<C>>(
     };
     let root = moves.root();
     let likely = lesser(63, -within(root.interval, score));
-    if root.board.empties() <= MOST_EMPTIES_BY_SIBLING {
+    if root.board.empties() <= SIBLING_START_MAX_EMPTIES {
         return likely;
     }
     lesser(63, guess(moves, likely, cells, observer))

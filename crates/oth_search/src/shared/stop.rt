@@ -14,7 +14,7 @@ use crate::root::{
     Observer, Pace, Quest, RootMove, RootMoves, Round, before_pass, best_moves, ended,
     first_threshold, settle_on,
 };
-use crate::tuning::FEWEST_EMPTIES_ENDED;
+use crate::tuning::STOP_MIN_EMPTIES;
 use arrayvec::ArrayVec;
 use oth_rules::{Board, Scoring, Square};
 use std::mem::replace;
@@ -152,7 +152,7 @@ impl<'s> UntilEnded<'s> {
 
 impl<'s, C: Cells> Company<Limited<C>> for UntilEnded<'s> {
     fn fewest(&self) -> u8 {
-        FEWEST_EMPTIES_ENDED
+        STOP_MIN_EMPTIES
     }
 
     fn gives_up(&mut self, _searched: &Board, cells: &mut Limited<C>) -> bool {
