@@ -199,8 +199,8 @@ uint32_t oth_scores_over(oth_seat *seat, oth_board board, oth_move_scores *score
  * Refusals, the first that holds: OTH_OVERLAP, OTH_EMPTIES, OTH_NO_SEAT. */
 uint32_t oth_solve_within(oth_seat *seat, oth_board board, uint64_t most, oth_answer *answer, oth_bounds *bounds);
 
-/* As oth_solve_within, for a program that has to move: where it returns OTH_STOPPED it writes what is known of the board and of each move,
- * so that there is one to play, however small `most` was. The best move of an answer is any bit of `best`.
+/* As oth_solve_within, for a program that has to move: where it returns OTH_STOPPED it writes what is known of the board and of
+ * each move, so that there is one to play, however small `most` was. The best move of an answer is any bit of `best`.
  *
  *     oth_known known;
  *     uint32_t code;
