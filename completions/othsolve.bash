@@ -3,14 +3,14 @@
 # The commands, a line each: its name, its options, and FILE where it takes one, or FILES where it takes several. A new command is a new line; a new option is a case of
 # _othsolve_values too, or of _othsolve_read where it takes no value.
 _othsolve_commands='
-solve --workers --cells --scoring --book --explain FILES
-scores --workers --cells --scoring --explain FILES
-moves --explain FILES
-transcript --explain FILES
-play --explain FILES
-analyse --workers --cells --scoring --last --explain FILES
-book-verify FILE
-book-add --workers --cells FILE
+solve --workers --cells --scoring --book --explain --strict FILES
+scores --workers --cells --scoring --explain --strict FILES
+moves --explain --strict FILES
+transcript --explain --strict FILES
+play --explain --strict FILES
+analyse --workers --cells --scoring --last --explain --strict FILES
+book-verify --explain FILE
+book-add --workers --cells --explain FILE
 '
 
 # Completes the value of an option: words, or files.
@@ -48,7 +48,7 @@ _othsolve_read() {
     command='' given=0
     for word in "${COMP_WORDS[@]:1:COMP_CWORD-1}"; do
         case $word in
-            -h | --help | -V | --version | --explain | = | --*=*) ;;
+            -h | --help | -V | --version | --explain | --strict | = | --*=*) ;;
             -* | *[\<\>]) skip=yes ;;
             *)
                 if [ -n "$skip" ]; then

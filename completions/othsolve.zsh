@@ -21,6 +21,7 @@ local -a scoring=('--scoring=[what a finished game is worth]:scoring:((winner\:"
 local -a last=('--last=[tell the moves made from N empty squares on]:squares:({1..30})')
 local -a book=('--book=[a book that is asked first]:book:_files')
 local -a explain=('--explain[tell each fault in words on standard error]')
+local -a strict=('--strict[end with status 4 where a line has a fault]')
 local -a files=('*:lines:_files')
 local -a help=('(- *)'{-h,--help}'[print help]')
 
@@ -30,14 +31,14 @@ case $state in
     command) _describe command commands -- '(help:print\ help)' ;;
     argument)
         case $words[1] in
-            solve) _arguments $help $search $scoring $book $explain $files ;;
-            scores) _arguments $help $search $scoring $explain $files ;;
-            moves) _arguments $help $explain $files ;;
-            transcript) _arguments $help $explain $files ;;
-            play) _arguments $help $explain $files ;;
-            analyse) _arguments $help $search $scoring $last $explain $files ;;
-            book-verify) _arguments $help '1:book:_files' ;;
-            book-add) _arguments $help $search '1:book:_files' ;;
+            solve) _arguments $help $search $scoring $book $explain $strict $files ;;
+            scores) _arguments $help $search $scoring $explain $strict $files ;;
+            moves) _arguments $help $explain $strict $files ;;
+            transcript) _arguments $help $explain $strict $files ;;
+            play) _arguments $help $explain $strict $files ;;
+            analyse) _arguments $help $search $scoring $last $explain $strict $files ;;
+            book-verify) _arguments $help $explain '1:book:_files' ;;
+            book-add) _arguments $help $search $explain '1:book:_files' ;;
             help) _describe command commands ;;
             *) _arguments $help ;;
         esac

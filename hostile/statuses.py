@@ -153,6 +153,36 @@ def explained(folder):
     yield Case("--explain of a missing file", ["solve", "--explain", "nowhere"], status=1, wrote=b"", said=said, cwd=folder)
 
 
+def strict():
+    """Yields the cases of `--strict`: status 4 where a line has a fault, wherever it stands; else and of all other faults as without it."""
+    good, odd = CORNERS.encode(), b"X"
+    for words in (["solve"], ["solve", "--workers", "4"], ["scores"]):
+        name, given = " ".join(words), [*words, "--strict"]
+        for lines, wrote in (([odd], b"error 1\n"), ([good, odd], b"+64 h8\nerror 1\n"), ([odd, good], b"error 1\n+64 h8\n")):
+            for end in (b"", b"\n"):
+                said = f"strict, {name}, {len(lines)} lines, last {lines[-1][:1]}{end}"
+                yield Case(said, given, b"\n".join(lines) + end, status=4, wrote=wrote, said=b"")
+        yield Case(f"strict, {name}, no fault", given, good, wrote=b"+64 h8\n", said=b"")
+        yield Case(f"strict, {name}, no line", given, b"", wrote=b"", said=b"")
+        yield Case(f"strict, {name}, too many empty squares", given, START.encode(), status=4, wrote=b"error 5 60\n", said=b"")
+    yield Case("strict, moves of the start", ["moves", "--strict"], START.encode(), wrote=b"d3 c4 f5 e6\n", said=b"")
+    yield Case("strict, moves", ["moves", "--strict"], b"\n" + good, status=4, wrote=b"error 1\nh8\n", said=b"")
+    yield Case("strict, transcript", ["transcript", "--strict"], b"\nf5f5\n", status=4, wrote=f"{START}\nerror 3 at 2\n".encode(), said=b"")
+    yield Case("strict, transcripts", ["transcript", "--strict"], b"\nf5d6c3d3c4", wrote=f"{START}\n{FIVE_MOVES}\n".encode(), said=b"")
+    yield Case("strict, play", ["play", "--strict"], f"{START} f5f\n".encode(), status=4, wrote=b"error 21\n", said=b"")
+    yield Case("strict, play of a board", ["play", "--strict"], START.encode(), wrote=f"{START}\n".encode(), said=b"")
+    for last in (b"f5f5", b"-", b"f5d", f"{START} f5f5".encode()):
+        yield Case(f"strict, analyse {last[:4]}", ["analyse", "--strict"], b"f5\n" + last, status=4, said=b"")
+    yield Case("strict, analyse without a fault", ["analyse", "--strict"], b"f5", wrote=b"1 lost X 0 O 0\n", said=b"")
+    many = (good + b"\n") * 20_000
+    yield Case("strict, a fault before 20,000 lines", ["solve", "--strict"], odd + b"\n" + many, status=4, wrote=b"error 1\n" + b"+64 h8\n" * 20_000, said=b"")
+    said = b"line 1: a board line has 66 bytes\n"
+    yield Case("strict, and in words", ["solve", "--strict", "--explain"], odd, status=4, wrote=b"error 1\n", said=said)
+    yield Case("strict, refused cells", ["solve", "--strict", "--cells", "3"], odd, status=2, wrote=b"", said=b"run error 4\n")
+    yield Case("strict, a missing book", ["solve", "--strict", "--book", "nowhere"], odd, status=1, wrote=b"", said=b"run error 1\n")
+    yield Case("strict, a directory to read", ["solve", "--strict"], status=1, said=b"run error 1\n", stdin=os.open("/", os.O_RDONLY))
+
+
 def lines_of_every_kind():
     """Yields lines of every kind: faulty ones have their fault in their place, whatever their bytes and their length."""
     good = FULL_BOARD.encode()
@@ -289,7 +319,15 @@ def books(folder):
     for name, (text, said) in texts.items():
         file_of(folder, name, text.encode())
         for words in (["book-verify"], ["book-add"], ["solve", "--book"]):
-            yield Case(f"{' '.join(words)}: {name}", [*words, f"{folder}/{name}"], status=3, wrote=b"", said=f"{said}\n".encode())
+            given = [*words, f"{folder}/{name}"]
+            yield Case(f"{' '.join(words)}: {name}", given, status=3, wrote=b"", said=f"{said}\n".encode())
+            in_words = re.compile(rf"{said}\n[^\n]*{re.escape(f'{folder}/{name}')}: [^\n]+\n\Z".encode())
+            yield Case(f"{' '.join(words)} --explain: {name}", [words[0], "--explain", *given[1:]], status=3, wrote=b"", said=in_words)
+    for command in ("book-verify", "book-add"):
+        said = b"run error 1\nnowhere: no such file\n"
+        yield Case(f"{command} --explain: no file", [command, "--explain", "nowhere"], status=1, wrote=b"", said=said, cwd=folder)
+    wrote = b"line 1: error 1\n"
+    yield Case("book-add --explain: a faulty line", ["book-add", "--explain", f"{folder}/empty.book"], b"X\n", wrote=EMPTY_BOOK, said=wrote)
 
 
 def is_answered_at_once(program, words, lines):
@@ -335,7 +373,7 @@ def steps(program, in_little_memory=True):
     """Yields a step for each run, also in little memory unless these are left out: its name, and what is wrong with it, if anything."""
     with tempfile.TemporaryDirectory() as folder:
         file_of(folder, "empty.book", EMPTY_BOOK)
-        of_lines = (files_of_lines(folder), lines_of_every_kind(), explained(folder))
+        of_lines = (files_of_lines(folder), lines_of_every_kind(), explained(folder), strict())
         for cases in (done(folder), *of_lines, command_line(folder), devices(folder), books(folder)):
             for case in cases:
                 if not in_little_memory and case.how.get("preexec_fn") is little_memory:

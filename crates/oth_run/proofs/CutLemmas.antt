@@ -1,5 +1,5 @@
 -- Cutting an input byte by byte, from the left.
-use Rattle.std.proofs.Common.{◌≡◌, ◌==◌, ◌≢◌, ℕ, List, [], ◌∷◌, ◌++◌, Bool, true, false, cond, Option, Err, refl, sym, ap, ◌∙◌, subst, append_assoc, append-nil}
+use Rattle.std.proofs.Common.{◌≡◌, ◌==◌, ◌≢◌, ◌||◌, ℕ, List, [], ◌∷◌, ◌++◌, Bool, true, false, cond, Option, Err, refl, sym, ap, ◌∙◌, subst, append_assoc, append-nil}
 use Rattle.std.specs.Prelude.{All}
 use Rattle.std.specs.List.{AllByRecursion}
 use Rattle.std.proofs.lemmas.List.Elements.{recursion_from_All}
@@ -8,14 +8,19 @@ use Rattle.std.specs.Io.KnownBytes.{Appends}
 use Rattle.std.proofs.KnownBytes.{Appends-nil}
 use Rattle.oth_text.specs.Transcript.{is_nil}
 use Rattle.oth_text.specs.Device.{AppendsBeginning, IsBeginning}
+use Rattle.std.proofs.lemmas.List.Folds.{list_any-append}
+use Rattle.oth_words.specs.declared.settings.Command.{Command}
 use Rattle.oth_words.specs.declared.settings.Settings.{Settings}
 use Rattle.oth_run.specs.declared.engine.Engine.{Engine}
 use Rattle.oth_run.specs.declared.fault.RunFault.{RunFault}
+use Rattle.oth_run.specs.declared.line.Line.{Line}
 use Rattle.oth_run.specs.declared.fault.RunFault.TheVariants.{Read, Write, Workers, Cells}
 use Rattle.oth_run.specs.Gathered.{IsGathered}
 use Rattle.oth_run.specs.Reply.{reply}
-use Rattle.oth_run.specs.Report.{Cut, after_end, cut, ended_report, last_report, line_number, next_number, number_behind, onto_first, report, report_from, with_end}
-use Rattle.oth_run.specs.Halfway.{IsUpTo, WritesEnded}
+use Rattle.oth_run.specs.Report.{Cut, after_end, cut, ended_report, last_line, last_report, line_number, lines_of, next_number, number_behind, onto_first, report, report_from, with_end}
+use Rattle.oth_run.specs.Faulty.{has_faulty, is_faulty}
+use Rattle.oth_run.specs.Halfway.{IsBehind, IsUpTo, WritesEnded}
+use Rattle.oth_run.specs.Line.{Holds}
 use Rattle.oth_run.specs.Run.{AreLawful, RefusesBy, Writes}
 use Rattle.oth_run.proofs.GatherLemmas.{beginning_within}
 
@@ -105,10 +110,11 @@ cut_part xs part none = cut_plain xs part (recursion_from_All (λ b. b ≢ 10) p
 number_part : (xs part : List ℕ) → HasNoEnd part → line_number (xs ++ part) ≡ line_number xs
 number_part xs part none = ap (λ (c : Cut). number_behind 1 c.lines) (cut_part xs part none)
 
-number_line : (xs part : List ℕ) → HasNoEnd part → line_number (xs ++ (part ++ 10 ∷ [])) ≡ next_number (line_number xs)
-number_line xs part none =
-    ap line_number (sym (append_assoc xs part (10 ∷ []))) ∙ ap (λ (c : Cut). number_behind 1 c.lines) (cut_end (xs ++ part) 10 refl)
-    ∙ number_more 1 (cut (xs ++ part)).lines (cut (xs ++ part)).rest ∙ ap next_number (number_part xs part none)
+-- the last part of a line and its end end the line
+cut_line : (xs part : List ℕ) → HasNoEnd part → cut (xs ++ (part ++ 10 ∷ [])) ≡ record { lines = (cut xs).lines ++ ((cut xs).rest ++ part) ∷ []; rest = [] }
+cut_line xs part none =
+    ap cut (sym (append_assoc xs part (10 ∷ []))) ∙ cut_end (xs ++ part) 10 refl
+    ∙ ap (λ (c : Cut). let d : Cut = record { lines = c.lines ++ c.rest ∷ []; rest = [] } in d) (cut_part xs part none)
 
 module _ (reply : ℕ → List ℕ → List ℕ) where
   ended_report_part : (xs part : List ℕ) → HasNoEnd part → ended_report reply (xs ++ part) ≡ ended_report reply xs
@@ -123,25 +129,21 @@ module _ (reply : ℕ → List ℕ → List ℕ) where
       ∙ ap (λ n. ended_report reply xs ++ with_end reply n (cut (xs ++ part)).rest) (number_part xs part none)
       ∙ ap (λ (c : Cut). ended_report reply xs ++ with_end reply (line_number xs) c.rest) (cut_part xs part none)
 
-  rest_line : (xs part : List ℕ) → (cut (xs ++ (part ++ 10 ∷ []))).rest ≡ []
-  rest_line xs part = ap (λ l. (cut l).rest) (sym (append_assoc xs part (10 ∷ []))) ∙ ap (λ (c : Cut). c.rest) (cut_end (xs ++ part) 10 refl)
-
   module _ (before : Option (List ℕ)) (xs part : List ℕ) (none : HasNoEnd part) where
     -- the line goes on
-    pub up_to_part : (holds holds' : ℕ → List ℕ → Type 0) (a : Option (List ℕ)) (waiting : List ℕ) → IsUpTo reply holds before a waiting xs
-        → holds' (line_number xs) ((cut xs).rest ++ part) → IsUpTo reply holds' before a waiting (xs ++ part)
-    up_to_part holds holds' a waiting so_far more = record {
-      line = subst (holds' (line_number (xs ++ part))) (sym (ap (λ (c : Cut). c.rest) (cut_part xs part none)))
-          (subst (λ n. holds' n ((cut xs).rest ++ part)) (sym (number_part xs part none)) more);
+    pub up_to_part : (behind behind' : List (List ℕ) → List ℕ → Type 0) (a : Option (List ℕ)) (waiting : List ℕ) → IsUpTo reply behind before a waiting xs
+        → behind' (cut xs).lines ((cut xs).rest ++ part) → IsUpTo reply behind' before a waiting (xs ++ part)
+    up_to_part behind behind' a waiting so_far more = record {
+      lines = subst (λ (c : Cut). behind' c.lines c.rest) (sym (cut_part xs part none)) more;
       gathered = subst (IsGathered before a waiting) (sym (ended_report_part xs part none)) so_far.gathered;
     }
 
     -- the line ends, and its report is gathered
-    pub up_to_line : (holds : ℕ → List ℕ → Type 0) (a : Option (List ℕ)) (waiting : List ℕ)
+    pub up_to_line : (behind : List (List ℕ) → List ℕ → Type 0) (a : Option (List ℕ)) (waiting : List ℕ)
         → IsGathered before a waiting (ended_report reply xs ++ with_end reply (line_number xs) ((cut xs).rest ++ part))
-        → holds (next_number (line_number xs)) [] → IsUpTo reply holds before a waiting (xs ++ (part ++ 10 ∷ []))
-    up_to_line holds a waiting gathered empty = record {
-      line = subst (holds (line_number (xs ++ (part ++ 10 ∷ [])))) (sym (rest_line xs part)) (subst (λ n. holds n []) (sym (number_line xs part none)) empty);
+        → behind ((cut xs).lines ++ ((cut xs).rest ++ part) ∷ []) [] → IsUpTo reply behind before a waiting (xs ++ (part ++ 10 ∷ []))
+    up_to_line behind a waiting gathered ended = record {
+      lines = subst (λ (c : Cut). behind c.lines c.rest) (sym (cut_line xs part none)) ended;
       gathered = subst (IsGathered before a waiting) (sym (ended_report_line xs part none)) gathered;
     }
 
@@ -149,6 +151,42 @@ module _ (reply : ℕ → List ℕ → List ℕ) where
     pub part_of_line : (a : Option (List ℕ)) → AppendsBeginning before a (ended_report reply xs ++ with_end reply (line_number xs) ((cut xs).rest ++ part))
         → AppendsBeginning before a (ended_report reply (xs ++ (part ++ 10 ∷ [])))
     part_of_line a written = subst (AppendsBeginning before a) (sym (ended_report_line xs part none)) written
+
+-- ---- faults of lines
+
+or_none : (b : Bool) → (b || false) ≡ b
+or_none true = refl
+or_none false = refl
+
+-- one line more
+pub faulty_more : (command : Command) (lines : List (List ℕ)) (line : List ℕ) → has_faulty command (lines ++ line ∷ []) ≡ (has_faulty command lines || is_faulty command line)
+faulty_more command lines line =
+    list_any-append (is_faulty command) lines (line ∷ []) ∙ ap (λ b. has_faulty command lines || b) (or_none (is_faulty command line))
+
+-- the engine behind the line that it ended
+pub behind_line : (settings : Settings) (kept : Line) (found found' : Bool) (lines : List (List ℕ)) (line : List ℕ) → found ≡ has_faulty settings.command lines
+    → Holds settings.command kept (next_number (number_behind 1 lines)) [] → found' ≡ (found || is_faulty settings.command line)
+    → IsBehind settings kept found' (lines ++ line ∷ []) []
+behind_line settings kept found found' lines line so_far held more = record {
+  held = subst (λ n. Holds settings.command kept n []) (sym (number_more 1 lines line)) held;
+  faulty = more ∙ ap (λ b. b || is_faulty settings.command line) so_far ∙ sym (faulty_more settings.command lines line);
+}
+
+-- of a last line, unless it is empty
+pub last_faulty_some : (command : Command) (text : List ℕ) (b : Bool) → b ≡ is_nil text → b ≡ false → has_faulty command (last_line text) ≡ is_faulty command text
+last_faulty_some command [] b is isnt = absurd (let bad : true ≡ false = sym is ∙ isnt in cc)
+last_faulty_some command (x ∷ xs) b is isnt = or_none (is_faulty command (x ∷ xs))
+
+pub last_faulty_none : (command : Command) (text : List ℕ) (b found : Bool) → b ≡ is_nil text → b ≡ true → found ≡ (found || has_faulty command (last_line text))
+last_faulty_none command [] b found is empty = sym (or_none found)
+last_faulty_none command (x ∷ xs) b found is empty = absurd (let bad : true ≡ false = sym empty ∙ is in cc)
+
+-- of all lines
+pub faulty_all : (command : Command) (input : List ℕ) (found found' : Bool) → found ≡ has_faulty command (cut input).lines
+    → found' ≡ (found || has_faulty command (last_line (cut input).rest)) → found' ≡ has_faulty command (lines_of input)
+faulty_all command input found found' so_far last =
+    last ∙ ap (λ b. b || has_faulty command (last_line (cut input).rest)) so_far
+    ∙ sym (list_any-append (is_faulty command) (cut input).lines (last_line (cut input).rest))
 
 -- ---- a loop over the lines of further bytes
 
@@ -168,24 +206,23 @@ last-some reply n (x ∷ xs) b is isnt = refl
 -- ---- a run
 
 -- nothing is read and gathered yet
-pub up_to_none : (reply : ℕ → List ℕ → List ℕ) (holds : ℕ → List ℕ → Type 0) (a : Option (List ℕ)) → holds 1 [] → IsUpTo reply holds a a [] []
+pub up_to_none : (reply : ℕ → List ℕ → List ℕ) (behind : List (List ℕ) → List ℕ → Type 0) (a : Option (List ℕ)) → behind [] [] → IsUpTo reply behind a a [] []
 unfolding cut ended_report
-up_to_none reply holds a empty = record { line = empty; gathered = ([], Appends-nil a, refl) }
+up_to_none reply behind a empty = record { lines = empty; gathered = ([], Appends-nil a, refl) }
 
 -- nothing waits
-pub up_to_waiting : (reply : ℕ → List ℕ → List ℕ) (holds : ℕ → List ℕ → Type 0) (before a : Option (List ℕ)) (waiting input : List ℕ) → waiting ≡ [] → IsUpTo reply holds before a [] input
-    → IsUpTo reply holds before a waiting input
-up_to_waiting reply holds before a waiting input none so_far = subst (λ w. IsUpTo reply holds before a w input) (sym none) so_far
+module _ (reply : ℕ → List ℕ → List ℕ) (behind : List (List ℕ) → List ℕ → Type 0) (before : Option (List ℕ)) where
+  pub up_to_waiting : (a : Option (List ℕ)) (waiting input : List ℕ) → waiting ≡ [] → IsUpTo reply behind before a [] input → IsUpTo reply behind before a waiting input
+  up_to_waiting a waiting input none so_far = subst (λ w. IsUpTo reply behind before a w input) (sym none) so_far
 
-pub up_to_no_waiting : (reply : ℕ → List ℕ → List ℕ) (holds : ℕ → List ℕ → Type 0) (before a : Option (List ℕ)) (waiting input : List ℕ) → waiting ≡ [] → IsUpTo reply holds before a waiting input
-    → IsUpTo reply holds before a [] input
-up_to_no_waiting reply holds before a waiting input none so_far = subst (λ w. IsUpTo reply holds before a w input) none so_far
+  pub up_to_no_waiting : (a : Option (List ℕ)) (waiting input : List ℕ) → waiting ≡ [] → IsUpTo reply behind before a waiting input → IsUpTo reply behind before a [] input
+  up_to_no_waiting a waiting input none so_far = subst (λ w. IsUpTo reply behind before a w input) none so_far
 
--- what was gathered is written
-pub up_to_written : (reply : ℕ → List ℕ → List ℕ) (holds : ℕ → List ℕ → Type 0) (before a b : Option (List ℕ)) (waiting waiting' input : List ℕ) → IsUpTo reply holds before a waiting input
-    → Appends before b (ended_report reply input) → waiting' ≡ [] → IsUpTo reply holds before b waiting' input
-up_to_written reply holds before a b waiting waiting' input so_far written none =
-    record { line = so_far.line; gathered = (ended_report reply input, written, sym (ap (λ l. ended_report reply input ++ l) none ∙ append-nil _)) }
+  -- what was gathered is written
+  pub up_to_written : (a b : Option (List ℕ)) (waiting waiting' input : List ℕ) → IsUpTo reply behind before a waiting input
+      → Appends before b (ended_report reply input) → waiting' ≡ [] → IsUpTo reply behind before b waiting' input
+  up_to_written a b waiting waiting' input so_far written none =
+      record { lines = so_far.lines; gathered = (ended_report reply input, written, sym (ap (λ l. ended_report reply input ++ l) none ∙ append-nil _)) }
 
 -- the whole report, of the lines that ended and the last one
 pub written_report : (reply : ℕ → List ℕ → List ℕ) (before now : Option (List ℕ)) (input : List ℕ)

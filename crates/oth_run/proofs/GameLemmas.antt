@@ -1,15 +1,15 @@
 -- The analysis of a game, line by line.
-use Rattle.std.proofs.Common.{◌≡◌, ◌+◌, ◌*◌, ◌<◌, ◌≤◌, ◌∙◌, ℕ, List, [], ◌∷◌, ◌++◌, Option, Some, None, length, take, drop, slice_index_or, refl, sym, ap, ap₂, subst, arith, append_assoc, append-nil}
+use Rattle.std.proofs.Common.{◌≡◌, ◌+◌, ◌<◌, ◌∙◌, ℕ, List, [], ◌∷◌, ◌++◌, Option, length, take, drop, slice_index_or, sym, ap, ap₂, subst, arith, append_assoc, append-nil}
 use Rattle.std.specs.List.{flat_map}
 use Rattle.std.proofs.lemmas.List.{take-append-drop, take_more}
 use Rattle.std.proofs.lemmas.List.Concat.{flat_map-append}
 use Rattle.oth_rules.specs.declared.scoring.Scoring.{Scoring}
 use Rattle.oth_text.specs.Analysis.{analysis_of, fault_of, fault_part, if_by, loss, lost_by, lost_line, lost_text, told_turns, turn_line, turn_part}
-use Rattle.oth_text.specs.Device.{AppendsBeginning, IsBeginning}
+use Rattle.oth_text.specs.Device.{AppendsBeginning}
 use Rattle.oth_text.specs.declared.analysis.Turn.{Turn}
 use Rattle.oth_text.specs.declared.position.Side.{Side}
 use Rattle.oth_text.specs.declared.position.Side.TheVariants.{Black, White}
-use Rattle.oth_run.specs.Gathered.{Gathers, IsGathered}
+use Rattle.oth_run.specs.Gathered.{IsGathered}
 use Rattle.oth_run.proofs.GatherLemmas.{beginning_within}
 
 -- ---- one turn more

@@ -1,3 +1,4 @@
+pub mod Faulty
 pub mod Gathered
 pub mod Halfway
 pub mod Line

@@ -1,5 +1,7 @@
 -- A run over an input.
 --     Writes reply result input written      what a run wrote of what it read, by how it ended
+--     ending result      how a run ended that tells whether a line has a fault
+--     Judges command result input      it tells whether one of all lines has
 --     FailsBy result reader writer      a device has failed exactly where the run says so
 --     AreLawful settings      neither number of the settings is refused
 --     RefusesBy workers cells result      the workers are refused, else the cells, exactly where they are no lawful number
@@ -7,10 +9,12 @@ use Rattle.std.specs.Prelude.{◌≡◌, ⊤, ℕ, Bool, true, false, List, [], 
 use Rattle.oth_text.specs.Device.{IsBeginning}
 use Rattle.oth_pieces.specs.Hands.{IsCrew}
 use Rattle.oth_table.specs.Sizes.{IsSizeOrNone}
+use Rattle.oth_words.specs.declared.settings.Command.{Command}
 use Rattle.oth_words.specs.declared.settings.Settings.{Settings}
 use Rattle.oth_run.specs.declared.fault.RunFault.{RunFault}
 use Rattle.oth_run.specs.declared.fault.RunFault.TheVariants.{Read, Write, Workers, Cells}
-use Rattle.oth_run.specs.Report.{ended_report, report}
+use Rattle.oth_run.specs.Faulty.{has_faulty}
+use Rattle.oth_run.specs.Report.{ended_report, lines_of, report}
 
 abbrev pub Writes : (ℕ → List ℕ → List ℕ) → Result (Unit {0}) RunFault → List ℕ → List ℕ → Type 0
 Writes reply (Ok done) input written = written ≡ report reply input
@@ -18,6 +22,14 @@ Writes reply (Err Read) input written = written ≡ ended_report reply input
 Writes reply (Err Write) input written = IsBeginning written (report reply input)
 Writes reply (Err Workers) input written = (input ≡ []) × (written ≡ [])
 Writes reply (Err Cells) input written = (input ≡ []) × (written ≡ [])
+
+abbrev pub ending : Result Bool RunFault → Result (Unit {0}) RunFault
+ending (Ok found) = Ok tt
+ending (Err fault) = Err fault
+
+abbrev pub Judges : Command → Result Bool RunFault → List ℕ → Type 0
+Judges command (Ok found) input = found ≡ has_faulty command (lines_of input)
+Judges command (Err fault) input = ⊤
 
 abbrev pub FailsBy : Result (Unit {0}) RunFault → Bool → Bool → Type 0
 FailsBy (Ok done) reader writer = (reader ≡ false) × (writer ≡ false)

@@ -1,11 +1,12 @@
 //! The engine: the line that has begun, and the bytes of the report that wait to be written.
 
-ghost use Rattle.std.specs.Prelude.{◌≡◌, ◌≢◌, ℕ, List, [], ◌∷◌, ◌++◌, All, false, true, OnOk, OnErr};
+ghost use Rattle.std.specs.Prelude.{◌≡◌, ◌≢◌, ◌||◌, ℕ, List, [], ◌∷◌, ◌++◌, All, false, true, OnOk, OnErr};
 ghost use Rattle.std.specs.Io.KnownBytes.{Consumes, IsAtEnd};
+ghost use Rattle.oth_run.specs.Faulty.{has_faulty, is_faulty};
 ghost use Rattle.oth_run.specs.Halfway.{Answers, Ends, StopsInside, StopsWithin, Takes, WritesEnded};
 ghost use Rattle.oth_run.specs.Line.{Holds};
 ghost use Rattle.oth_run.specs.Reply.{reply};
-ghost use Rattle.oth_run.specs.Report.{last_report, next_number, with_end};
+ghost use Rattle.oth_run.specs.Report.{last_line, last_report, next_number, with_end};
 ghost use Rattle.oth_run.specs.Run.{FailsBy};
 
 use crate::ahead::jobs_of;
@@ -28,6 +29,8 @@ use std::thread::Threads;
 pub struct Engine {
     line: Line,
     waiting: Waiting,
+    /// Whether a line that was answered has a fault.
+    is_faulty: bool,
 }
 
 impl Engine {
@@ -35,11 +38,20 @@ impl Engine {
     pub fn new(command: Command) -> Self
         ensures line { Holds command result.line 1 [] }
         ensures waiting { result.waiting.bytes.items ≡ [] }
+        ensures faulty { result.is_faulty ≡ false }
     {
         Engine {
             line: Line::new(command),
             waiting: Waiting::new(),
+            is_faulty: false,
         }
+    }
+
+    /// Whether a line that was answered has a fault.
+    pub fn is_faulty(&self) -> bool
+        ensures { result ≡ self.now.is_faulty }
+    {
+        self.is_faulty
     }
 
     // Answers the line that has begun, and begins a new one.
@@ -52,6 +64,9 @@ impl Engine {
         ensures line { OnOk result ((number : ℕ) (line : List ℕ)
             → Holds solver.now.settings.command self.old.line number line
             → Holds solver.now.settings.command self.new.line (next_number number) []) }
+        ensures faulty { OnOk result ((number : ℕ) (line : List ℕ)
+            → Holds solver.now.settings.command self.old.line number line
+            → self.new.is_faulty ≡ (self.old.is_faulty || is_faulty solver.now.settings.command line)) }
         ensures ok { OnOk result (Answers (with_end (reply solver.now.settings)) solver.now.settings self.old self.new
             (W.contents writer.old) (W.contents writer.new)) }
         ensures err { OnErr result (StopsInside (with_end (reply solver.now.settings)) solver.now.settings self.old
@@ -61,6 +76,7 @@ impl Engine {
     {
         self.line.tell(solver, jobs, &mut self.waiting, writer)?;
         self.waiting.push_text(writer, b"\n")?;
+        self.is_faulty |= self.line.is_faulty();
         self.line.clear();
         Ok(())
     }
@@ -181,6 +197,7 @@ impl Engine {
         requires writer { W.failed writer.old ≡ false }
         requires line { Holds solver.now.settings.command self.old.line 1 [] }
         requires waiting { self.old.waiting.bytes.items ≡ [] }
+        requires faulty { self.old.is_faulty ≡ false }
         ensures bytes { (input : List ℕ) × Consumes (R.remaining reader.old) (R.remaining reader.new) input
             × WritesEnded solver.now.settings self.new (W.contents writer.old) (W.contents writer.new) result input }
         ensures empty { OnOk result (self.new.waiting.bytes.items ≡ []) }
@@ -212,6 +229,9 @@ impl Engine {
     ) -> Result<(), Failed>
         ensures ok { OnOk result (Answers (last_report (reply solver.now.settings)) solver.now.settings
             self.old self.new (W.contents writer.old) (W.contents writer.new)) }
+        ensures faulty { OnOk result ((number : ℕ) (line : List ℕ)
+            → Holds solver.now.settings.command self.old.line number line
+            → self.new.is_faulty ≡ (self.old.is_faulty || has_faulty solver.now.settings.command (last_line line))) }
         ensures err { OnErr result (StopsInside (last_report (reply solver.now.settings)) solver.now.settings self.old
             (W.contents writer.old) (W.contents writer.new)) }
         ensures works { OnOk result (W.failed writer.new ≡ W.failed writer.old) }
@@ -233,6 +253,9 @@ impl Engine {
     ) -> Result<(), Failed>
         ensures ok { OnOk result (Ends (last_report (reply solver.now.settings)) solver.now.settings self.old
             (W.contents writer.old) (W.contents writer.new)) }
+        ensures faulty { OnOk result ((number : ℕ) (line : List ℕ)
+            → Holds solver.now.settings.command self.old.line number line
+            → self.new.is_faulty ≡ (self.old.is_faulty || has_faulty solver.now.settings.command (last_line line))) }
         ensures flushed { OnOk result (W.flushed writer.new ≡ true) }
         ensures err { OnErr result (StopsInside (last_report (reply solver.now.settings)) solver.now.settings self.old
             (W.contents writer.old) (W.contents writer.new)) }

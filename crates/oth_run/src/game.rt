@@ -1,6 +1,6 @@
 //! A game that is analysed.
 
-ghost use Rattle.std.specs.Prelude.{◌≡◌, ◌≤◌, ◌++◌, ℕ, List, [], All, length, IfOk, OnOk, OnErr, true};
+ghost use Rattle.std.specs.Prelude.{◌≡◌, ◌≤◌, ◌++◌, ℕ, List, [], All, length, is_some, IfOk, OnOk, OnErr, true};
 ghost use Rattle.std.specs.List.{flat_map};
 ghost use Rattle.oth_text.specs.Analysis.{HasFewEmpties, KeepsAnalysed, analysis_of, fault_of, fault_part, lost_by};
 ghost use Rattle.oth_text.specs.Analysis.{turn_part};
@@ -63,6 +63,13 @@ impl BegunGame {
         ensures { (line : List ℕ) → KeepsAnalysed self.now.reader line → result ≡ is_nil line }
     {
         self.reader.is_empty()
+    }
+
+    /// Whether the game has a fault.
+    pub fn is_faulty(&self) -> bool
+        ensures { (line : List ℕ) → KeepsAnalysed self.now.reader line → result ≡ is_some (fault_of line) }
+    {
+        self.reader.fault().is_some()
     }
 
     /// Adds the analysis of the game to what waits, without its last byte 10. Never inlined, so that its turns are not

@@ -34,5 +34,5 @@ pub use ahead::Ahead;
 pub use checking::{Lawful, check_settings};
 pub use fault::RunFault;
 pub use lines::split_line;
-pub use running::run;
+pub use running::{run, run_judged};
 pub use solver::Solver;

@@ -5,6 +5,7 @@ ghost use Rattle.oth_text.specs.BoardLine.{KeepsLine, reading, solvable_reading}
 ghost use Rattle.oth_text.specs.Game.{KeepsGame, game_reading};
 ghost use Rattle.oth_text.specs.Transcript.{StandsFor, is_nil, transcript_reading};
 ghost use Rattle.oth_words.specs.declared.settings.Command.{Command as CommandGiven};
+ghost use Rattle.oth_run.specs.Faulty.{is_faulty};
 ghost use Rattle.oth_run.specs.Gathered.{Gathers, StopsInText};
 ghost use Rattle.oth_run.specs.Line.{Holds, IsShort};
 ghost use Rattle.oth_run.specs.Report.{next_number};
@@ -99,6 +100,21 @@ impl Line {
             Line::Transcript(reader) => reader.is_empty(),
             Line::Play(reader) => reader.is_empty(),
             Line::Analyse(game) => game.is_empty(),
+        }
+    }
+
+    /// Whether the line has a fault, with which it is answered.
+    pub fn is_faulty(&self) -> bool
+        ensures { (command : CommandGiven) (number : ℕ) (line : List ℕ) → Holds command self.now number line
+            → result ≡ is_faulty command line }
+    {
+        match self {
+            Line::Solve(reader) => reader.read_solvable().is_err(),
+            Line::Scores(reader) => reader.read_solvable().is_err(),
+            Line::Moves(reader) => reader.read().is_err(),
+            Line::Transcript(reader) => reader.read().is_err(),
+            Line::Play(reader) => reader.read().is_err(),
+            Line::Analyse(game) => game.is_faulty(),
         }
     }
 

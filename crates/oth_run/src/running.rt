@@ -3,7 +3,7 @@
 ghost use Rattle.std.specs.Prelude.{◌≡◌, ℕ, List, [], false, true, OnOk};
 ghost use Rattle.std.specs.Io.KnownBytes.{Appends, Consumes, IsAtEnd};
 ghost use Rattle.oth_run.specs.Reply.{reply};
-ghost use Rattle.oth_run.specs.Run.{FailsBy, OnRefusal, RefusesBy, Writes};
+ghost use Rattle.oth_run.specs.Run.{FailsBy, Judges, OnRefusal, RefusesBy, Writes, ending};
 
 use crate::checking::Lawful;
 use crate::engine::Engine;
@@ -49,6 +49,33 @@ pub fn run<T: Wait + Threads + Sync, R: Source, W: Sink, G: Gate>(
     ensures refused { RefusesBy settings.now.workers settings.now.cells result }
     ensures untouched { OnRefusal result ((reader.new ≡ reader.old) × (writer.new ≡ writer.old)) }
 {
+    match run_judged(rt, alloc, reader, writer, settings, gate, book) {
+        Ok(_) => Ok(()),
+        Err(fault) => Err(fault),
+    }
+}
+
+/// As `run`, and tells at `Ok` whether a line has a fault, with which it is answered.
+pub fn run_judged<T: Wait + Threads + Sync, R: Source, W: Sink, G: Gate>(
+    rt: &T,
+    alloc: Global,
+    reader: &mut R,
+    writer: &mut W,
+    settings: &Settings,
+    gate: &G,
+    book: Option<&Book>,
+) -> Result<bool, RunFault>
+    requires reader { R.failed reader.old ≡ false }
+    requires writer { W.failed writer.old ≡ false }
+    ensures bytes { (input written : List ℕ) × Consumes (R.remaining reader.old) (R.remaining reader.new) input
+        × Appends (W.contents writer.old) (W.contents writer.new) written
+        × Writes (reply settings.now) (ending result) input written × Judges settings.now.command result input }
+    ensures end { OnOk result (IsAtEnd (R.remaining reader.new)) }
+    ensures flushed { OnOk result (W.flushed writer.new ≡ true) }
+    ensures devices { FailsBy (ending result) (R.failed reader.new) (W.failed writer.new) }
+    ensures refused { RefusesBy settings.now.workers settings.now.cells (ending result) }
+    ensures untouched { OnRefusal (ending result) ((reader.new ≡ reader.old) × (writer.new ≡ writer.old)) }
+{
     let lawful = Lawful::of(settings)?;
     let solver = Solver {
         rt,
@@ -60,7 +87,7 @@ pub fn run<T: Wait + Threads + Sync, R: Source, W: Sink, G: Gate>(
     let mut engine = Engine::new(settings.command);
     engine.run_ended(&solver, reader, writer)?;
     match engine.finish(&solver, writer) {
-        Ok(()) => Ok(()),
+        Ok(()) => Ok(engine.is_faulty()),
         Err(_) => Err(RunFault::Write),
     }
 }

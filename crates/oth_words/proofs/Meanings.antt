@@ -23,8 +23,8 @@ differ a b k e = ap (λ t. slice_index t k) e
 
 pub solve_means : (rows : List Row) (m : Meaning) → Means (Some (codes "solve", rows)) m
     → (s : Settings) × HasNumbers rows s × (first_of (codes "scoring") rows ≡ Some (scoring_word s.scoring))
-solve_means rows (verify file) m = absurd (let bad : 115 ≡ 98 = differ _ _ 0 m.0 in omega arith)
-solve_means rows (add s file) m = absurd (let bad : 115 ≡ 98 = differ _ _ 0 m.0 in omega arith)
+solve_means rows (verify telling file) m = absurd (let bad : 115 ≡ 98 = differ _ _ 0 m.0 in omega arith)
+solve_means rows (add s telling file) m = absurd (let bad : 115 ≡ 98 = differ _ _ 0 m.0 in omega arith)
 solve_means rows (run s telling book files) m = go s.command m.0
   where
     go : (t : Command) → MeansRun t (codes "solve", rows) s book
@@ -38,8 +38,8 @@ solve_means rows (run s telling book files) m = go s.command m.0
 
 pub scores_means : (rows : List Row) (m : Meaning) → Means (Some (codes "scores", rows)) m
     → (s : Settings) × HasNumbers rows s × (first_of (codes "scoring") rows ≡ Some (scoring_word s.scoring))
-scores_means rows (verify file) m = absurd (let bad : 115 ≡ 98 = differ _ _ 0 m.0 in omega arith)
-scores_means rows (add s file) m = absurd (let bad : 115 ≡ 98 = differ _ _ 0 m.0 in omega arith)
+scores_means rows (verify telling file) m = absurd (let bad : 115 ≡ 98 = differ _ _ 0 m.0 in omega arith)
+scores_means rows (add s telling file) m = absurd (let bad : 115 ≡ 98 = differ _ _ 0 m.0 in omega arith)
 scores_means rows (run s telling book files) m = go s.command m.0
   where
     go : (t : Command) → MeansRun t (codes "scores", rows) s book
@@ -53,8 +53,8 @@ scores_means rows (run s telling book files) m = go s.command m.0
 
 pub analyse_means : (rows : List Row) (m : Meaning) → Means (Some (codes "analyse", rows)) m
     → (s : Settings) × HasNumbers rows s × (first_of (codes "scoring") rows ≡ Some (scoring_word s.scoring)) × ((last : ℕ) × HasLast rows last)
-analyse_means rows (verify file) m = absurd (let bad : 97 ≡ 98 = differ _ _ 0 m.0 in omega arith)
-analyse_means rows (add s file) m = absurd (let bad : 97 ≡ 98 = differ _ _ 0 m.0 in omega arith)
+analyse_means rows (verify telling file) m = absurd (let bad : 97 ≡ 98 = differ _ _ 0 m.0 in omega arith)
+analyse_means rows (add s telling file) m = absurd (let bad : 97 ≡ 98 = differ _ _ 0 m.0 in omega arith)
 analyse_means rows (run s telling book files) m = go s.command m.0
   where
     go : (t : Command) → MeansRun t (codes "analyse", rows) s book
@@ -76,14 +76,14 @@ reports (Analyse last) sub s book m b = let other : slice_index sub.0 0 ≡ 97 =
 reports Play sub s book m b = let other : slice_index sub.0 0 ≡ 112 = differ _ _ 0 m.0 in omega arith
 
 pub verify_means : (rows : List Row) (m : Meaning) → Means (Some (codes "book-verify", rows)) m → (file : Text) × (first_of (codes "file") rows ≡ Some file)
-verify_means rows (verify file) m = (file, m.1)
-verify_means rows (add s file) m = absurd (let bad : 118 ≡ 97 = differ _ _ 5 m.0 in omega arith)
+verify_means rows (verify telling file) m = (file, m.1)
+verify_means rows (add s telling file) m = absurd (let bad : 118 ≡ 97 = differ _ _ 5 m.0 in omega arith)
 verify_means rows (run s telling book files) m = absurd (reports s.command (codes "book-verify", rows) s book m.0 refl)
 
 pub add_means : (rows : List Row) (m : Meaning) → Means (Some (codes "book-add", rows)) m
     → ((s : Settings) × HasNumbers rows s) × ((file : Text) × (first_of (codes "file") rows ≡ Some file))
-add_means rows (add s file) m = ((s, m.1), (file, m.4))
-add_means rows (verify file) m = absurd (let bad : 97 ≡ 118 = differ _ _ 5 m.0 in omega arith)
+add_means rows (add s telling file) m = ((s, m.1), (file, m.4))
+add_means rows (verify telling file) m = absurd (let bad : 97 ≡ 118 = differ _ _ 5 m.0 in omega arith)
 add_means rows (run s telling book files) m = absurd (reports s.command (codes "book-add", rows) s book m.0 refl)
 
 -- by the entries, as the getters read them

@@ -17,7 +17,7 @@ use Rattle.clap.specs.declared.builder.value_parser.ValueParser.TheVariants as p
 use Rattle.oth_words.proofs.RowsPass.{HasText}
 use Rattle.oth_words.proofs.Levels.{IsOrdinary, enters, number_of, ordinary, text_of}
 use Rattle.oth_words.proofs.WalkKeeps.{Each, MayEnter}
-use Rattle.oth_words.specs.CommandLine.{AreScorings, HasNumbers, IsNumber, Meaning, Means, ScoringWords, add, add_app, files_of, telling_of}
+use Rattle.oth_words.specs.CommandLine.{AreScorings, HasLast, HasNumbers, IsNumber, Meaning, Means, ScoringWords, add, add_app, files_of, telling_of}
 use Rattle.oth_words.specs.CommandLine.{analyse_app, othsolve, plain_app, program, run, scores_app, scoring_word, solve_app, verify, verify_app}
 use Rattle.oth_rules.specs.declared.scoring.Scoring.{Scoring}
 use Rattle.oth_rules.specs.declared.scoring.Scoring.TheVariants.{Winner, Discs}
@@ -173,7 +173,7 @@ verify_ordinary = ordinary (built_sub verify_app).rules refl
 verify_taken : (words : List Text) → level_passes (built_sub verify_app) [] nothing_held words false ≡ true → MeansSome (rows_at (built_sub verify_app) words)
 verify_taken words e =
     let file = text_of (built_sub verify_app) words e verify_ordinary (built_rule (built_sub verify_app) (codes "file")) refl (inr refl) in
-    (verify file.text, (refl, file.first))
+    (verify (telling_of (rows_at (built_sub verify_app) words).1) file.text, (refl, file.first, refl))
 
 add_ordinary : Each (IsOrdinary add_shape.rules) add_shape.rules
 add_ordinary = ordinary add_shape.rules refl
@@ -184,7 +184,7 @@ add_taken words e =
     let text = text_of add_shape words e add_ordinary in
     let file = text (built_rule add_shape (codes "file")) refl (inr refl) in
     let numbers = numbers_taken Solve Winner rows (text (built_rule add_shape (codes "workers")) refl (inl tt)) (text (built_rule add_shape (codes "cells")) refl (inl tt)) in
-    (add numbers.0 file.text, (refl, numbers.1, numbers.2, numbers.3, file.first))
+    (add numbers.0 (telling_of rows) file.text, (refl, numbers.1, numbers.2, numbers.3, file.first, refl))
 
 or_false : (b : Bool) → (b || false) ≡ true → b ≡ true
 or_false true e = refl

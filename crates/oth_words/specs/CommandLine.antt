@@ -80,15 +80,16 @@ files_rule = record (new_rule (codes "files")) {
 }
 
 -- an option without a value
-abbrev pub explain_rule : Rule
-explain_rule = record (new_rule (codes "explain")) { long = Some (codes "explain"); action = Some SetTrue }
+abbrev pub switch_rule : Text → Rule
+switch_rule name = record (new_rule name) { long = Some name; action = Some SetTrue }
 
 abbrev pub file_rule : Rule
 file_rule = record (new_rule (codes "file")) { action = Some Set; required = true; value_names = 1 }
 
 -- a subcommand that reports lines
 abbrev pub lines_app : App → App
-lines_app titled = with_rule (with_rule titled explain_rule) files_rule
+lines_app titled =
+    with_rule (with_rule (with_rule titled (switch_rule (codes "explain"))) (switch_rule (codes "strict"))) files_rule
 
 -- a subcommand with the options of a search
 abbrev pub searcher_app : App → ScoringWords → App
@@ -108,10 +109,12 @@ abbrev pub plain_app : Text → App
 plain_app name = lines_app (new_app name)
 
 abbrev pub verify_app : App
-verify_app = with_rule (new_app (codes "book-verify")) file_rule
+verify_app = with_rule (with_rule (new_app (codes "book-verify")) (switch_rule (codes "explain"))) file_rule
 
 abbrev pub add_app : App
-add_app = with_rule (with_rule (with_rule (new_app (codes "book-add")) workers_rule) cells_rule) file_rule
+add_app = with_rule
+    (with_rule (with_rule (with_rule (new_app (codes "book-add")) workers_rule) cells_rule) (switch_rule (codes "explain")))
+    file_rule
 
 -- the program's name, and that it has a version
 abbrev pub titled : App
@@ -139,13 +142,13 @@ othsolve scorings =
 -- the words of a command line, with a file's name as its text
 pub data Meaning : Type 0 where
   run : Settings → Telling → Option Text → List Text → Meaning
-  verify : Text → Meaning
-  add : Settings → Text → Meaning
+  verify : Telling → Text → Meaning
+  add : Settings → Telling → Text → Meaning
 
 abbrev pub meaning_of : Words → Meaning
 meaning_of (Run settings telling book files) = run settings telling (option_map string_bytes book) (map string_bytes files.items)
-meaning_of (Verify file) = verify (string_bytes file)
-meaning_of (Add settings file) = add settings (string_bytes file)
+meaning_of (Verify telling file) = verify telling (string_bytes file)
+meaning_of (Add settings telling file) = add settings telling (string_bytes file)
 
 -- the text is the number, in decimal digits, where a plus may stand first
 pub record IsNumber (text : Option Text) (n : ℕ) : Type 0 where
@@ -197,15 +200,16 @@ is_yes None = false
 is_yes (Some text) = bytes_eq text (codes "true")
 
 abbrev pub telling_of : List Row → Telling
-telling_of rows = record { explains = is_yes (first_of (codes "explain") rows) }
+telling_of rows = record { explains = is_yes (first_of (codes "explain") rows); is_strict = is_yes (first_of (codes "strict") rows) }
 
 -- a subcommand, by its name and its matches, stands for this
 abbrev pub Means : Option (Text × List Row) → Meaning → Type 0
 Means None m = ⊥
 Means (Some sub) (run s telling book files) = MeansRun s.command sub s book × (files_of sub.1 ≡ files) × (telling_of sub.1 ≡ telling)
-Means (Some sub) (verify file) = (sub.0 ≡ codes "book-verify") × (first_of (codes "file") sub.1 ≡ Some file)
-Means (Some sub) (add s file) = (sub.0 ≡ codes "book-add") × HasNumbers sub.1 s × (s.command ≡ Solve) × (s.scoring ≡ Winner)
-    × (first_of (codes "file") sub.1 ≡ Some file)
+Means (Some sub) (verify telling file) =
+    (sub.0 ≡ codes "book-verify") × (first_of (codes "file") sub.1 ≡ Some file) × (telling_of sub.1 ≡ telling)
+Means (Some sub) (add s telling file) = (sub.0 ≡ codes "book-add") × HasNumbers sub.1 s × (s.command ≡ Solve) × (s.scoring ≡ Winner)
+    × (first_of (codes "file") sub.1 ≡ Some file) × (telling_of sub.1 ≡ telling)
 
 -- why the words are not read: where the command takes them, when out of memory alone; where it finds a fault in them, for that too, or
 -- by an error of that fault's kind

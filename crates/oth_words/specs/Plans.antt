@@ -13,5 +13,5 @@ listed words = unwrap_or (option_map (λ list. map (λ t. t.now) list.now) words
 -- a file's name is the text that the words have
 abbrev pub plan_meaning : Plan → Meaning
 plan_meaning (plan.Run settings telling book files) = run settings telling (option_map (λ t. t.now) book) (listed files)
-plan_meaning (plan.Verify file) = verify file.now
-plan_meaning (plan.Add settings file) = add settings file.now
+plan_meaning (plan.Verify telling file) = verify telling file.now
+plan_meaning (plan.Add settings telling file) = add settings telling file.now

@@ -3,7 +3,7 @@
 ghost use Rattle.std.specs.Prelude.{◌≡◌, codes, false};
 ghost use Rattle.clap.specs.Words.{new_rule, rule_of};
 ghost use Rattle.clap.specs.declared.builder.texts.Texts.TheVariants.{One};
-ghost use Rattle.oth_words.specs.CommandLine.{IsCalled, book_rule, cells_rule, file_rule, explain_rule, files_rule};
+ghost use Rattle.oth_words.specs.CommandLine.{IsCalled, book_rule, cells_rule, file_rule, switch_rule, files_rule};
 ghost use Rattle.oth_words.specs.CommandLine.{last_rule, option_rule, scoring_rule, workers_rule};
 
 use clap::{Arg, ArgAction, value_parser};
@@ -98,15 +98,30 @@ fn argument<'a>(alloc: Global, id: &'a str) -> Arg<'a>
     Arg::new(alloc, id).value_name("FILE")
 }
 
-/// The option `--explain`.
-pub fn explain_option<'a>(alloc: Global) -> Arg<'a>
-    ensures rule { rule_of result ≡ explain_rule }
+// An option with this name that takes no value.
+fn switch<'a>(alloc: Global, name: &'a str) -> Arg<'a>
+    ensures rule { rule_of result ≡ switch_rule name.entry.now }
     ensures local { result.global ≡ false }
 {
-    Arg::new(alloc, "explain")
-        .long("explain")
-        .action(ArgAction::SetTrue)
-        .help("Tell each fault in words on standard error too, with the number of its line")
+    Arg::new(alloc, name).long(name).action(ArgAction::SetTrue)
+}
+
+/// The option `--explain`.
+pub fn explain_option<'a>(alloc: Global) -> Arg<'a>
+    ensures rule { rule_of result ≡ switch_rule (codes "explain") }
+    ensures local { result.global ≡ false }
+{
+    switch(alloc, "explain").help(
+        "Tell each fault in words on standard error too, with the number of its line",
+    )
+}
+
+/// The option `--strict`.
+pub fn strict_option<'a>(alloc: Global) -> Arg<'a>
+    ensures rule { rule_of result ≡ switch_rule (codes "strict") }
+    ensures local { result.global ≡ false }
+{
+    switch(alloc, "strict").help("End with status 4 where a line has a fault")
 }
 
 /// The argument `FILE..` of the commands that report lines.

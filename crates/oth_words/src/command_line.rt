@@ -56,8 +56,10 @@ fn copied(alloc: Global, plan: Plan<'_, '_>) -> Result<Words, AllocError>
             let files = files_copied(alloc, files)?;
             Ok(Words::Run(settings, telling, book, files))
         }
-        Plan::Verify(file) => Ok(Words::Verify(String::from_str(alloc, file)?)),
-        Plan::Add(settings, file) => Ok(Words::Add(settings, String::from_str(alloc, file)?)),
+        Plan::Verify(telling, file) => Ok(Words::Verify(telling, String::from_str(alloc, file)?)),
+        Plan::Add(settings, telling, file) => {
+            Ok(Words::Add(settings, telling, String::from_str(alloc, file)?))
+        }
     }
 }
 
@@ -80,12 +82,12 @@ fn read_with<'a>(
 
 /// Reads the words of a command line, of which the first names the program:
 ///
-/// - `solve [--workers N] [--cells N] [--scoring winner|discs] [--book FILE] [--explain] [FILE]..`
-/// - `scores [--workers N] [--cells N] [--scoring winner|discs] [--explain] [FILE]..`
-/// - `moves`, `transcript`, `play`, each with `[--explain] [FILE]..`: by one worker, without a table
-/// - `analyse [--workers N] [--cells N] [--scoring winner|discs] [--last N] [--explain] [FILE]..`
-/// - `book-verify FILE`
-/// - `book-add [--workers N] [--cells N] FILE`: it solves under `winner`
+/// - `solve [--workers N] [--cells N] [--scoring winner|discs] [--book FILE] [--explain] [--strict] [FILE]..`
+/// - `scores [--workers N] [--cells N] [--scoring winner|discs] [--explain] [--strict] [FILE]..`
+/// - `moves`, `transcript`, `play`, each with `[--explain] [--strict] [FILE]..`: by one worker, without a table
+/// - `analyse [--workers N] [--cells N] [--scoring winner|discs] [--last N] [--explain] [--strict] [FILE]..`
+/// - `book-verify [--explain] FILE`
+/// - `book-add [--workers N] [--cells N] [--explain] FILE`: it solves under `winner`
 ///
 /// The names of `[FILE]..` come in the order of the words, each as often as it stands there; what begins with `-` is
 /// one only behind `--`, but for `-` itself. There are 1 to 16 workers, or 1 by default, and 0 to 262,144 cells, or

@@ -8,7 +8,7 @@ ghost use Rattle.oth_words.specs.CommandLine.{searcher_app, solve_app, titled, v
 
 use crate::arguments::{
     book_option, cells_option, explain_option, file_argument, files_argument, last_option,
-    scoring_option, workers_option,
+    scoring_option, strict_option, workers_option,
 };
 use crate::texts::{
     ADD_NOTES, ANALYSE_ABOUT, ANALYSE_NOTES, ANALYSE_USAGE, MOVES_ABOUT, MOVES_NOTES, MOVES_USAGE,
@@ -49,6 +49,7 @@ fn with_lines<'a>(alloc: Global, command: App<'a>) -> Result<App<'a>, AllocError
 {
     command
         .arg(explain_option(alloc))?
+        .arg(strict_option(alloc))?
         .arg(files_argument(alloc))
 }
 
@@ -126,6 +127,7 @@ fn verify_command<'a>(alloc: Global) -> Result<App<'a>, AllocError>
     App::new(alloc, "book-verify")
         .about("Verifies every entry of the book of FILE")
         .after_help(VERIFY_NOTES)
+        .arg(explain_option(alloc))?
         .arg(file_argument(alloc))
 }
 
@@ -142,6 +144,7 @@ fn add_command<'a>(alloc: Global) -> Result<App<'a>, AllocError>
         .after_help(ADD_NOTES)
         .arg(workers_option(alloc))?
         .arg(cells_option(alloc))?
+        .arg(explain_option(alloc))?
         .arg(file_argument(alloc))
 }
 

@@ -65,6 +65,7 @@ fn telling(matches: &ArgMatches<'_>) -> Telling
 {
     Telling {
         explains: is_given(matches, "explain"),
+        is_strict: is_given(matches, "strict"),
     }
 }
 
@@ -143,7 +144,7 @@ fn verify_plan<'m, 'a>(matches: &'m ArgMatches<'a>) -> Option<Plan<'m, 'a>>
         ((m : Meaning) → Means (Some (codes "book-verify", rows_of (found_of matches.now))) m → ⊥)
         (λ p. Means (Some (codes "book-verify", rows_of (found_of matches.now))) (plan_meaning p)) }
 {
-    Some(Plan::Verify(text(matches, "file")?))
+    Some(Plan::Verify(telling(matches), text(matches, "file")?))
 }
 
 // What `book-add` stands for.
@@ -153,7 +154,7 @@ fn add_plan<'m, 'a>(matches: &'m ArgMatches<'a>) -> Option<Plan<'m, 'a>>
         (λ p. Means (Some (codes "book-add", rows_of (found_of matches.now))) (plan_meaning p)) }
 {
     let settings = search_settings(matches, Command::Solve, Scoring::Winner)?;
-    Some(Plan::Add(settings, text(matches, "file")?))
+    Some(Plan::Add(settings, telling(matches), text(matches, "file")?))
 }
 
 // What the commands that search no board ask for.

@@ -6,6 +6,6 @@ use crate::settings::{Settings, Telling};
 #[derive(Clone, Copy, Debug, Drop)]
 pub enum Plan<'m, 'a> {
     Run(Settings, Telling, Option<&'a str>, Option<&'m [&'a str]>),
-    Verify(&'a str),
-    Add(Settings, &'a str),
+    Verify(Telling, &'a str),
+    Add(Settings, Telling, &'a str),
 }

@@ -36,11 +36,13 @@ pub struct Settings {
     pub scoring: Scoring,
 }
 
-/// What is told beside the report.
+/// What is told beside what is written.
 #[derive(Clone, Copy, Debug, PartialEq, Eq, Drop)]
 pub struct Telling {
     /// Faults of lines are told in words, and so is what ends the work, on a terminal or not.
     pub explains: bool,
+    /// Where a line has a fault, the exit status tells it.
+    pub is_strict: bool,
 }
 
 /// What the words of a command line ask for. The texts are names of files.
@@ -50,7 +52,7 @@ pub enum Words {
     /// list, one after the other, or standard input where it names none.
     Run(Settings, Telling, Option<String>, Vec<String>),
     /// Verify the book of this file.
-    Verify(String),
+    Verify(Telling, String),
     /// Solve each line of the input, and add the answers to the book of this file.
-    Add(Settings, String),
+    Add(Settings, Telling, String),
 }

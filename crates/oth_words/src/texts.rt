@@ -11,12 +11,13 @@ A board line has the 64 cells row by row from a1 (X a black disc, O a white disc
 square), a space, and the side to move. A line that can't be read is answered by its fault.
 
 Statuses, and what is then on standard error:
-    0  done; faults of lines don't change it
+    0  done; faults of lines don't change it without --strict
     1  run error 1: a read failed, or a FILE can't be opened; run error 2: a write failed
     2  the words can't be obeyed; run error 3: the workers aren't 1 to 16; run error 4: the cells are
        neither 0 nor a power of two up to 262144
     3  book error N, book wrong N: FILE is no book, or no true one (see book-verify --help);
-       line I: book error N: an answer can't be added (see book-add --help)";
+       line I: book error N: an answer can't be added (see book-add --help)
+    4  by --strict: done, and a line has a fault";
 
 pub const SOLVE_ABOUT: &str = "Writes the score and all best moves of each board line";
 

@@ -95,7 +95,8 @@ fn solve_has_defaults_and_takes_values(rt: HostRuntime) {
 fn explains(alloc: Global, words: &[&str]) -> Option<bool> {
     match read_words(alloc, words) {
         Ok(Words::Run(_settings, telling, _book, _files)) => Some(telling.explains),
-        Ok(_words) => None,
+        Ok(Words::Verify(telling, _file)) => Some(telling.explains),
+        Ok(Words::Add(_settings, telling, _file)) => Some(telling.explains),
         Err(_error) => None,
     }
 }
@@ -116,8 +117,44 @@ fn each_command_that_reports_lines_explains_where_it_is_asked(rt: HostRuntime) {
         let valued = ["othsolve", command, "--explain=yes"];
         assert!(rt; kind_of_error(rt.alloc(), valued.as_slice()) == Some(ErrorKind::TooManyValues));
     }
+}
+
+#[test]
+fn the_commands_of_the_book_explain_where_they_are_asked(rt: HostRuntime) {
     for command in ["book-add", "book-verify"] {
-        let words = ["othsolve", command, "--explain", "a.book"];
+        let plain = ["othsolve", command, "a.book"];
+        assert!(rt; explains(rt.alloc(), plain.as_slice()) == Some(false));
+        let before = ["othsolve", command, "--explain", "a.book"];
+        assert!(rt; explains(rt.alloc(), before.as_slice()) == Some(true));
+        let behind = ["othsolve", command, "a.book", "--explain"];
+        assert!(rt; explains(rt.alloc(), behind.as_slice()) == Some(true));
+    }
+}
+
+// Whether these words ask for a status of faulty lines.
+fn is_strict(alloc: Global, words: &[&str]) -> Option<bool> {
+    match read_words(alloc, words) {
+        Ok(Words::Run(_settings, telling, _book, _files)) => Some(telling.is_strict),
+        Ok(_words) => None,
+        Err(_error) => None,
+    }
+}
+
+#[test]
+fn each_command_that_reports_lines_is_strict_where_it_is_asked(rt: HostRuntime) {
+    for command in ["solve", "scores", "moves", "transcript", "play", "analyse"] {
+        let plain = ["othsolve", command, "--explain", "a.txt"];
+        assert!(rt; is_strict(rt.alloc(), plain.as_slice()) == Some(false));
+        let strict = ["othsolve", command, "a.txt", "--strict"];
+        assert!(rt; is_strict(rt.alloc(), strict.as_slice()) == Some(true));
+        assert!(rt; explains(rt.alloc(), strict.as_slice()) == Some(false));
+        assert!(rt; reads(rt.alloc(), strict.as_slice(), ["a.txt"].as_slice()));
+        let both = ["othsolve", command, "--strict", "--explain"];
+        assert!(rt; is_strict(rt.alloc(), both.as_slice()) == Some(true));
+        assert!(rt; explains(rt.alloc(), both.as_slice()) == Some(true));
+    }
+    for command in ["book-add", "book-verify"] {
+        let words = ["othsolve", command, "--strict", "a.book"];
         let kind = kind_of_error(rt.alloc(), words.as_slice());
         assert!(rt; kind == Some(ErrorKind::UnknownArgument));
     }
@@ -219,12 +256,16 @@ fn files_come_in_the_order_of_the_words(rt: HostRuntime) {
 fn the_words_of_a_book_name_its_file(rt: HostRuntime) {
     let words = ["othsolve", "book-verify", "a.book"];
     match read_words(rt.alloc(), words.as_slice()).expect(&rt, "words") {
-        Words::Verify(file) => assert!(rt; file.as_str() == "a.book"),
+        Words::Verify(telling, file) => {
+            assert!(rt; !telling.explains && !telling.is_strict);
+            assert!(rt; file.as_str() == "a.book");
+        }
         _ => panic!(rt; "another command"),
     }
     let words = ["othsolve", "book-add", "--cells", "64", "a.book"];
     match read_words(rt.alloc(), words.as_slice()).expect(&rt, "words") {
-        Words::Add(settings, file) => {
+        Words::Add(settings, telling, file) => {
+            assert!(rt; !telling.explains && !telling.is_strict);
             let wanted = Settings {
                 cells: 64,
                 ..DEFAULTS

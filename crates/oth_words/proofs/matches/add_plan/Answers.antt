@@ -1,4 +1,4 @@
-use Rattle.std.proofs.Common.{refl}
+use Rattle.std.proofs.Common.{refl, sym}
 use Rattle.clap.specs.Words.{found_of, rows_of}
 use Rattle.oth_words.proofs.Meanings.{add_means, no_text, some_text}
 use Rattle.oth_words.proofs.matches.add_plan.Goals as goal
@@ -16,4 +16,4 @@ returns-in_err-text c = rw c.from_residual-in_err-text.ensures (λ m means.
 pub returns : goal.returns
 returns c =
     let settings = c.in_ok-settings.ensures in
-    (refl, settings.0, settings.1, settings.2, some_text c.text.result _ c.in_ok-text.field-0 c.text.ensures c.in_ok-text.was)
+    (refl, settings.0, settings.1, settings.2, some_text c.text.result _ c.in_ok-text.field-0 c.text.ensures c.in_ok-text.was, sym c.telling.ensures)

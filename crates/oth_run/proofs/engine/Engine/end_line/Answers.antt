@@ -1,4 +1,4 @@
-use Rattle.std.proofs.Common.{◌∷◌, [], ◌∙◌, refl, sym, append_assoc, rules}
+use Rattle.std.proofs.Common.{◌∷◌, [], ◌∙◌, sym, append_assoc, rules}
 use Rattle.oth_run.proofs.GatherLemmas.{beginning_within, on_err_always}
 use Rattle.oth_run.proofs.engine.Engine.end_line.Goals as goal
 

@@ -6,7 +6,7 @@ use Rattle.oth_run.proofs.engine.Engine.run_ended.Goals as goal
 pub loop-init : goal.loop-init
 loop-init g c = record {
   iterator = (tt, tt);
-  done = ([], Consumes-nil _, up_to_none _ _ _ c.requires.line);
+  done = ([], Consumes-nil _, up_to_none _ _ _ (record { held = c.requires.line; faulty = c.requires.faulty }));
   room = c.longer-buffer.ensures;
   waiting = c.requires.waiting;
   reader = c.requires.reader;

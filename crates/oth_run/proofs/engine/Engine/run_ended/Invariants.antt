@@ -1,16 +1,15 @@
 -- the reports of the lines that ended so far are written
 use Rattle.std.proofs.Common.{◌≡◌, ◌<◌, ℕ, List, [], false, length}
 use Rattle.std.specs.Io.KnownBytes.{Consumes}
-use Rattle.oth_run.specs.Line.{Holds}
 use Rattle.oth_run.specs.Reply.{reply}
-use Rattle.oth_run.specs.Halfway.{IsUpTo}
+use Rattle.oth_run.specs.Halfway.{IsBehind, IsUpTo}
 use Rattle.oth_run.proofs.engine.Engine.run_ended.Given as goal
 
 abbrev pub invariant-loop : goal.invariant-loop
 invariant-loop g l = record {
   iterator : (goal.iterator-loop g).can_next l.iterator' × (goal.iterator-loop g).is_finite l.iterator';
   done : (input : List ℕ) × Consumes (g.R.Source.remaining l.fn.reader) (g.R.Source.remaining l.reader) input
-      × IsUpTo (reply l.solver.settings) (Holds l.solver.settings.command l.self.line) (g.W.Sink.contents l.fn.writer) (g.W.Sink.contents l.writer) [] input;
+      × IsUpTo (reply l.solver.settings) (IsBehind l.solver.settings l.self.line l.self.is_faulty) (g.W.Sink.contents l.fn.writer) (g.W.Sink.contents l.writer) [] input;
   room : 0 < length l.buffer;
   waiting : l.self.waiting.bytes.items ≡ [];
   reader : g.R.Source.failed l.reader ≡ false;

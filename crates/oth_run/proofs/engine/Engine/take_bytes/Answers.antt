@@ -1,7 +1,7 @@
 use Rattle.std.proofs.Common.{[], ◌++◌, ◌∙◌, ap, refl, sym, append_assoc, append-nil}
 use Rattle.oth_run.proofs.CutLemmas.{stops_within, up_to_part}
 use Rattle.oth_run.proofs.GatherLemmas.{on_err_always}
-use Rattle.oth_run.specs.Line.{Holds}
+use Rattle.oth_run.specs.Halfway.{IsBehind}
 use Rattle.oth_run.specs.Reply.{reply}
 use Rattle.oth_run.proofs.engine.Engine.take_bytes.Goals as goal
 
@@ -32,6 +32,7 @@ pub returns-clause-ok : goal.returns-clause-ok
 returns-clause-ok g c = λ before input start.
     let done = c.loop-line.invariant.done in
     let so_far = done.2 before input start in
-    let part = up_to_part (reply c.args.solver.now.settings) before _ _ c.in_default.ensures.none _ (Holds c.args.solver.now.settings.command c.push.new.self) _ _ so_far
-    (c.push.ensures c.args.solver.now.settings.command _ _ so_far.line) in
+    let settings = c.args.solver.now.settings in
+    let part = up_to_part (reply settings) before _ _ c.in_default.ensures.none _ (IsBehind settings c.push.new.self c.loop-line.self.is_faulty) _ _ so_far
+    (record { held = c.push.ensures settings.command _ _ so_far.lines.held; faulty = so_far.lines.faulty }) in
     rw (append_assoc input done.0 _, ← done.1) at part

@@ -1,0 +1,5 @@
+use Rattle.std.proofs.Common.{rules}
+use Rattle.oth_main.proofs.addition.Addition.asked.Goals as goal
+
+pub returns : goal.returns
+returns c = search rules

@@ -1,5 +1,0 @@
-use Rattle.std.proofs.Common.{rules}
-use Rattle.othsolve.proofs.words.Goals as goal
-
-pub returns-in-Err-print : goal.returns-in-Err-print
-returns-in-Err-print g c = search rules
