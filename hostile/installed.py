@@ -245,7 +245,7 @@ COMPLETES = {
     "othsolve solve --book on": "one.book",
     "othsolve solve --workers 2 --b": "--book",
     "othsolve book-verify o": "one.book other",
-    "othsolve book-verify one.book ": "",
+    "othsolve book-verify one.book ": "--explain",
     "othsolve book-add --cells 64 on": "one.book",
     "othsolve book-add --cells=64 on": "one.book",
     "othsolve moves ": "one.book other",
