@@ -40,8 +40,8 @@ MAIN = """fn main() {
 
 # Where the copy counts: a file, a line (or a part of one) that stands in it once, and what takes its place.
 COUNTS = [
-    ("oth_search/nws/deep.rs", " = recalled(&node.board, cells, scoring);\n",
-     " = recalled(&node.board, cells, scoring);\n    crate::counting::count(&node.board);\n"),
+    ("oth_search/nws/deep.rs", " = by_local_table(&node.board, cells, scoring);\n",
+     " = by_local_table(&node.board, cells, scoring);\n    crate::counting::count(&node.board);\n"),
     ("oth_search/root/guess.rs", "    let mut bracket = Bracket::from(likely);\n",
      "    let _guess = crate::counting::For::part(crate::counting::Part::Guess);\n"
      "    let mut bracket = Bracket::from(likely);\n"),

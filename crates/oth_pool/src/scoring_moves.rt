@@ -1,8 +1,8 @@
 //! The score of every move of a board.
 //!
-//! The boards after the moves lie in a queue, of which one atomic number tells how many are taken. Each worker values
-//! the next one over its own seat of one table, or, where there are fewer boards than workers, all of them one after
-//! the other, as `solve` does.
+//! The boards after the moves lie in a queue, one word of which has a bit for each board that is taken. Each worker
+//! takes the next board and values it, over its own seat of one table. Where there are fewer boards than workers, all
+//! workers value one board after the other, as `solve` does.
 ghost use Rattle.std.specs.Prelude.{◌≡◌, IfOk, IfErr, true};
 ghost use Rattle.oth_rules.specs.Move.{can_move};
 ghost use Rattle.oth_pool.specs.Solving.{IsSolvable, Refuses, Accepts};

@@ -16,7 +16,7 @@ use oth_book::Book;
 use oth_pieces::{Floor, FloorSeat, Frontier, is_crew};
 use oth_rules::{Board, Scoring};
 use oth_search::{
-    Answer, Cells, MOST_EMPTIES, RootMoves, Solved, before_pass, ended, known_below, solve_moves,
+    Answer, Cells, MOST_EMPTIES, RootMoves, Solved, backed_up_from, before_pass, ended, solve_moves,
 };
 use oth_table::{SharedTable, TableCells, is_size};
 use oth_walk::{
@@ -290,7 +290,7 @@ fn replies_of<G: Gate, C: Cells>(
 fn take_in_items<G: Gate, C: Cells>(search: &Search, items: &[Solved], worker: &mut Worker<C, G>) {
     for root_move in search.moves.as_slice() {
         if !worker.is_settled(root_move.square) {
-            let found = known_below(root_move.child.board, 1, items, search.scoring);
+            let found = backed_up_from(root_move.child.board, 1, items, search.scoring);
             worker.update(root_move.square, &found);
         }
     }

@@ -2,12 +2,12 @@
 
 ghost use Rattle.std.specs.Prelude.{◌<◌, length};
 
-use crate::tuning::LONG;
+use crate::tuning::HEAP_CHUNK;
 use std::alloc::Global;
 
-/// Makes room of `LONG` bytes on the heap, which leaves the stack to the search; empty where memory is refused.
+/// Makes room of `HEAP_CHUNK` bytes on the heap, which leaves the stack to the search; empty where memory is refused.
 pub fn long_buffer(alloc: Global) -> Vec<u8> {
-    match vec![in alloc; 0; LONG] {
+    match vec![in alloc; 0; HEAP_CHUNK] {
         Ok(buffer) => buffer,
         Err(_) => Vec::new(alloc),
     }

@@ -15,7 +15,7 @@ use crate::fault::RunFault;
 use crate::line::Line;
 use crate::lines::split_line;
 use crate::solver::Solver;
-use crate::tuning::SHORT;
+use crate::tuning::STACK_CHUNK;
 use crate::waiting::Waiting;
 use oth_batch::Jobs;
 use oth_pool::Gate;
@@ -205,7 +205,7 @@ impl Engine {
         ensures devices { FailsBy result (R.failed reader.new) (W.failed writer.new) }
     {
         let mut long = long_buffer(solver.alloc);
-        let mut short = [0; SHORT];
+        let mut short = [0; STACK_CHUNK];
         let buffer = longer(long.as_mut_slice(), &mut short);
         for _ in solver.rt.forever() {
             let Ok(count) = reader.read(buffer) else {

@@ -17,7 +17,7 @@ mod solved;
 mod square_set;
 
 pub use answer::Answer;
-pub use backup::{BackedUp, known_below, known_of};
+pub use backup::{BackedUp, backed_up_from, bounds_among};
 pub use cells::{Cells, NoCells};
 pub use entry::Entry;
 pub use hash::{OPPOSING_FACTOR, OWN_FACTOR, board_hash};

@@ -1,6 +1,6 @@
 //! The search by one thread: null windows, principal variation, move ordering, and bounds true by their types.
 //! Contracts leave free what is searched first and what is kept, since that affects speed only: the order of moves,
-//! ranks and evaluations, guesses, the hooks of `Company` and `Observer`, what tables forget, and the numbers of
+//! ranks and evaluations, guesses, the hooks of `TreePeers` and `RootPeers`, what tables forget, and the numbers of
 //! `tuning`.
 #![tactic(auto)]
 
@@ -16,15 +16,15 @@ mod tuning;
 
 pub use bounds::{
     Answer, Cells, Entry, Interval, Kind, NoCells, NotChild, NullWindow, OPPOSING_FACTOR,
-    OWN_FACTOR, Solved, board_hash, known_below, known_of,
+    OWN_FACTOR, Solved, backed_up_from, board_hash, bounds_among,
 };
 pub use local::{LocalTable, LocalTables, WithLocal};
 pub use nws::Hearer;
 pub use ordering::{MoveOrder, order};
 pub use pvs::search;
 pub use root::{
-    MOST_EMPTIES, Observer, Pace, Quest, RootMove, RootMoves, ScoredMove, Scores, TooManyEmpties,
-    Unobserved, answer_by, before_pass, ended, first_threshold, lead, scores_with, seeming_value,
-    settle_at, settle_moves, solve_alone, solve_moves, solve_with, value_of,
+    MOST_EMPTIES, NoPeers, Pace, RootGoal, RootMove, RootMoves, RootPeers, ScoredMove, Scores,
+    TooManyEmpties, answer_by, before_pass, ended, find_first_bound, first_threshold, scores_with,
+    seeming_value, settle_at, settle_moves, solve_alone, solve_moves, solve_with, value_of,
 };
-pub use shared::{Company, Limited, Seen, StopFlag, Stopped, put, solve_until};
+pub use shared::{Limited, Seen, StopFlag, Stopped, TreePeers, put, solve_until};

@@ -22,6 +22,6 @@ mod node;
 mod quadrant;
 mod shallow;
 
-pub use deep::{known, nws_node, nws_with};
+pub use deep::{by_table, nws_node, nws_with};
 pub use heard::{Hearer, nws_heard};
 pub use node::Node;

@@ -11,7 +11,7 @@ ghost use Rattle.oth_rules.specs.Symmetry.{canonical};
 ghost use Rattle.oth_search.specs.Bounds.Interval.{IsThreshold, IsWindow, Encloses, Decides, IsOpen, WithinAt, IsInner};
 
 use crate::bounds::{Cells, Entry, Interval, Solved, greater, lesser};
-use crate::nws::{Hearer, Node, known, nws_heard, nws_with};
+use crate::nws::{Hearer, Node, by_table, nws_heard, nws_with};
 use crate::ordering::order;
 use oth_rules::{Board, Scoring};
 
@@ -33,7 +33,7 @@ pub fn search<C: Cells>(
     if board.is_over() {
         return Interval::exactly(board.final_score(scoring));
     }
-    let found = known(&board.canonical().0, cells, scoring);
+    let found = by_table(&board.canonical().0, cells, scoring);
     if found.interval.decides(alpha, beta) {
         return found.interval;
     }
@@ -107,7 +107,7 @@ impl Solved {
         ensures scoring { result.scoring ≡ scoring }
         ensures fixed { C.fixed cells.new ≡ C.fixed cells.old }
     {
-        let found = known(&board.canonical().0, cells, scoring);
+        let found = by_table(&board.canonical().0, cells, scoring);
         Solved {
             board: *board,
             scoring,

@@ -2,18 +2,18 @@
 //! root are kept and narrowed by null windows. From 12 empty squares on a first guess says where to begin, below that
 //! 0:
 //!
-//!     guess        the least value that a reply seems to have, by null windows of a selective search
+//!     guess             the least value that a reply seems to have, by null windows of a selective search
 //!       |
-//!     lead         each reply in turn is asked for that value, until one has it; where none has, for more
+//!     find_first_bound  each reply in turn is asked for that value, until one has it; where none has, for more
 //!       |
-//!     settle_at    the leader: null windows ever further below what is known of it, until its value is known
-//!       |          each other reply: a null window at the best value; if it is no worse, on as the leader
-//!     best_moves   reads the score and all best moves, and searches only what is still open
+//!     settle_at         the leader: null windows ever further below what is known of it, until its value is known
+//!       |               each other reply: a null window at the best value; if it is no worse, on as the leader
+//!     best_moves        reads the score and all best moves, and searches only what is still open
 //!
-//! What another worker knows comes in by the `Observer`: bounds of a reply (`hear`), the best value (`best`), that a
+//! What another worker knows comes in by `RootPeers`: bounds of a reply (`hear`), the best value (`best`), that a
 //! reply is settled (`is_done`), which boards others are at and what they saw of them while a guess is made
-//! (`is_left`, `seen`), and how a question is searched (`decide`). For one worker each of these does nothing, and the
-//! compiler leaves nothing of them.
+//! (`is_deferred`, `seen`), and how a question is searched (`decide`). For one worker each of these does nothing, and
+//! the compiler leaves nothing of them.
 //!
 //! `moves`: the root's moves, each legal one once with the board after it, true by the type, in move order; all of the
 //! above narrow what is known of these boards. `glance`: the selective search of the guess. `bracket`: between which
@@ -25,7 +25,7 @@ mod bracket;
 mod glance;
 mod guess;
 mod moves;
-mod observer;
+mod root_peers;
 mod scores;
 mod settle;
 mod step;
@@ -37,9 +37,9 @@ pub use best_moves::{
 };
 pub use glance::seeming_value;
 pub use moves::{RootMove, RootMoves};
-pub use observer::{Observer, Unobserved};
+pub use root_peers::{NoPeers, RootPeers};
 pub use scores::{ScoredMove, Scores, answer_by, scores_with};
 pub(crate) use settle::{Round, settle_on};
-pub use settle::{Quest, first_threshold, lead, settle_at, settle_moves};
+pub use settle::{RootGoal, find_first_bound, first_threshold, settle_at, settle_moves};
 pub use step::Pace;
 pub use value::value_of;

@@ -185,7 +185,7 @@ pub(crate) const GUESS_LOOKAHEAD_MAX_EMPTIES: u8 = 14;
 pub(crate) const GUESS_ROUNDS: u8 = 12;
 
 /// Rounds through the moves of a node of the guess: in the first, moves that another worker is at are deferred.
-pub(crate) const TURNS: u8 = 2;
+pub(crate) const GUESS_DEFERRAL_ROUNDS: u8 = 2;
 
 /// Discs that a guess leaves open: it ends where its bounds are no further apart. To close them takes longer than it
 /// saves.
@@ -196,10 +196,10 @@ pub(crate) const FIRST_GUESS_STEP: i8 = 8;
 
 /// Rounds: how often a first guess that no move reaches is lowered, the first time to the most that the root may still
 /// reach.
-pub(crate) const LEAD_ROUNDS: u8 = 6;
+pub(crate) const FIRST_BOUND_ROUNDS: u8 = 6;
 
 /// Null windows of a root move that may bring nothing new before a worker leaves it to the others. One worker has none.
-pub(crate) const MOST_IN_VAIN: u8 = 4;
+pub(crate) const MOST_FRUITLESS: u8 = 4;
 
 /// Empty squares: up to here, where the scores of all moves are asked for, the search of a child starts at the score of
 /// the sibling before. Beyond it a guess that starts there is nearer.

@@ -12,7 +12,7 @@ use oth_rules::samples::after_least_moves;
 use oth_rules::{Board, Scoring};
 use oth_search::{
     Cells, Entry, Interval, Kind, LocalTable, LocalTables, NoCells, Solved, TooManyEmpties,
-    known_below, search, seeming_value, solve_alone, solve_with,
+    backed_up_from, search, seeming_value, solve_alone, solve_with,
 };
 use std::process::Abort;
 use std::test::Fail;
@@ -192,7 +192,7 @@ fn combines_what_is_known(rt: HostRuntime) -> Result<(), Fail> {
         Solved::by_search(&first, -65, 65, &mut NoCells, Scoring::Winner),
         Solved::by_search(&second, -65, 65, &mut NoCells, Scoring::Winner),
     ];
-    let combined = known_below(root, 1, &known, Scoring::Winner).interval;
+    let combined = backed_up_from(root, 1, &known, Scoring::Winner).interval;
     check_bounds(&rt, combined, -50, -50);
     Ok(())
 }
@@ -209,7 +209,7 @@ fn a_null_window_tells_one_threshold(rt: HostRuntime) -> Result<(), Fail> {
 
 /// Nothing of the board is remembered.
 fn check_forgotten(rt: &impl Abort, memo: &LocalTable, board: &Board, scoring: Scoring) {
-    assert!(rt; memo.recall(board, scoring).is_none());
+    assert!(rt; memo.probe_local(board, scoring).is_none());
 }
 
 #[test]
@@ -217,8 +217,8 @@ fn recalls_what_it_remembers(rt: HostRuntime) -> Result<(), Fail> {
     let board = board_of(&rt, A);
     let mut memo = LocalTable::below(rt.alloc(), 13)?;
     check_forgotten(&rt, &memo, &board, Scoring::Winner);
-    memo.remember(&Solved::by_search(&board, -65, 65, &mut NoCells, Scoring::Winner));
-    let Some(told) = memo.recall(&board, Scoring::Winner) else {
+    memo.store_local(&Solved::by_search(&board, -65, 65, &mut NoCells, Scoring::Winner));
+    let Some(told) = memo.probe_local(&board, Scoring::Winner) else {
         panic!(rt; "nothing is recalled")
     };
     check_bounds(&rt, told.interval, -50, -50);
@@ -239,7 +239,7 @@ fn remembers_more_where_that_pays(rt: HostRuntime) {
     ] {
         let memories = LocalTables::of(rt.alloc(), root, is_alone);
         assert!(rt;
-            memories.remembers(empties) == wanted,
+            memories.keeps_local(empties) == wanted,
             "{empties} below {root}"
         );
     }
@@ -251,9 +251,9 @@ fn recalled_value(rt: &impl Abort, memories: &mut LocalTables, empties: u8) -> O
         panic!(rt; "no line")
     };
     let solved = Solved::by_search(&board, -65, 65, &mut NoCells, Scoring::Winner);
-    assert!(rt; memories.recall(&board, Scoring::Winner).is_none());
-    memories.remember(&solved);
-    let told = memories.recall(&board, Scoring::Winner)?;
+    assert!(rt; memories.probe_local(&board, Scoring::Winner).is_none());
+    memories.store_local(&solved);
+    let told = memories.probe_local(&board, Scoring::Winner)?;
     assert!(rt; told.interval == solved.interval);
     Some(told.interval)
 }
@@ -290,18 +290,18 @@ impl Cells for Remembering {
 
     fn put(&mut self, _entry: &Entry) {}
 
-    fn remembers(&self, _empties: u8) -> bool {
+    fn keeps_local(&self, _empties: u8) -> bool {
         self.is_for_all
     }
 
-    fn recall(&mut self, board: &Board, scoring: Scoring) -> Option<Solved> {
-        let told = self.memo.recall(board, scoring)?;
+    fn probe_local(&mut self, board: &Board, scoring: Scoring) -> Option<Solved> {
+        let told = self.memo.probe_local(board, scoring)?;
         self.recalled = self.recalled.wrapping_add(1);
         Some(told)
     }
 
-    fn remember(&mut self, solved: &Solved) {
-        self.memo.remember(solved);
+    fn store_local(&mut self, solved: &Solved) {
+        self.memo.store_local(solved);
     }
 }
 

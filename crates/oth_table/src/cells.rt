@@ -169,7 +169,7 @@ impl<'a> Cells for TableCells<'a> {
     }
 
     /// Returns nothing, without a step: for boards of few empty squares a search has a local table.
-    fn recall(&mut self, _board: &Board, _scoring: Scoring) -> Option<Solved>
+    fn probe_local(&mut self, _board: &Board, _scoring: Scoring) -> Option<Solved>
         ensures asked { IfSome result (λ s. (s.board ≡ _board.now) × (s.scoring ≡ _scoring)) }
         ensures fixed { fixed_of self.new ≡ fixed_of self.old }
         ensures none { result ≡ None }
@@ -179,7 +179,7 @@ impl<'a> Cells for TableCells<'a> {
     }
 
     /// Drops it, without a step.
-    fn remember(&mut self, _solved: &Solved)
+    fn store_local(&mut self, _solved: &Solved)
         ensures fixed { fixed_of self.new ≡ fixed_of self.old }
         ensures unchanged { self.new ≡ self.old }
     {}

@@ -2,9 +2,9 @@
 //! the others are shared out: young brothers wait (Feldmann, Monien, Mysliwietz and Vornberger, Distributed game-tree
 //! search, 1989).
 //!
-//! Until the root has a floor a worker helps to find one (`lead`). Then it helps with the root's first move until
-//! that is settled, searches the first reply (the elder brother) if its item isn't that one, then its item with a
-//! null window at the floor, and then what is left open of the move (`settle_at`). Without a table, or over a
+//! Until the root has a floor a worker helps to find one (`find_first_bound`). Then it helps with the root's first
+//! move until that is settled, searches the first reply (the elder brother) if its item isn't that one, then its item
+//! with a null window at the floor, and then what is left open of the move (`settle_at`). Without a table, or over a
 //! small one, nothing could be looked up, so a worker takes the item's whole move of the root, unless another one is at
 //! it; until there is a floor it asks the move just once for what the root seems to reach (`Worker::ask`), so that none
 //! but a move that may reach it is searched to its value.
@@ -49,7 +49,7 @@ fn search_below<G: Gate, C: Cells>(
         settle_alone(item.square, worker);
         return;
     }
-    worker.lead();
+    worker.find_first_bound();
     worker.tell();
     settle_before(item.square, worker);
     worker.tell();

@@ -1,4 +1,4 @@
-//! A guess of the root's score and best move, as workers tell it each other.
+//! A guess of the root's score and best move, as workers tell it to each other.
 ghost use Rattle.std.specs.Prelude.{pos, negsuc, ◌≤ℤ◌};
 
 use oth_rules::Square;

@@ -2,19 +2,19 @@
 //! the root's moves, and while it searches below one of these. A node that another worker is at is deferred, as in
 //! ABDADA (Weill, The ABDADA distributed minimax-search algorithm, 1996).
 //!
-//! To the root driver they are the `Observer`: it knows a reply by the table, the best value by the floor, by bounds
-//! that workers tell each other which moves are settled, and by the hints which boards somebody is at and what they
-//! seem to have. What is found goes into the table and to these bounds, and the floor rises by what a move of the root
-//! then tells of it. From 14 empty squares on workers over a table make the first guess together, and the first that is
-//! done tells it; below, that guess is a draw. Without a table each worker guesses by itself.
+//! The root driver asks them as `RootPeers`. The table tells bounds of a board, the floor the best value, the bounds
+//! that workers tell each other which moves of the root are settled, and the hints which boards another worker is at
+//! and what those seem to have. What this worker finds goes into the table and to these bounds, and raises the floor.
+//! From 14 empty squares on workers over a table make the first guess together, and the first that is done tells it;
+//! below, that guess is a draw. Without a table each worker guesses by itself.
 //!
-//! To the search below a move they are the `Company` (`company`).
+//! The search below a move asks them as `TreePeers` (`tree_peers`).
 ghost use Rattle.std.specs.Prelude.{◌≡◌};
 ghost use Rattle.oth_rules.specs.Laws.{IsScore};
 ghost use Rattle.oth_search.specs.Bounds.Interval.{IsThreshold};
 
-mod company;
-mod goal;
+mod path_node;
+mod tree_peers;
 
 use crate::announcing::{Announcer, Gate};
 use crate::hints::HintSeat;
@@ -23,12 +23,13 @@ use crate::root_bound::RootBound;
 use crate::shared::{Search, Seats, Shape};
 use crate::tuning::{KEPT_ORDER_MIN_EMPTIES, SHARED_GUESS_MIN_EMPTIES, SMALL_NODE_MARGIN};
 use arrayvec::ArrayVec;
-use goal::Goal;
 use oth_pieces::Frontier;
 use oth_rules::{Board, Scoring, Square};
 use oth_search::{
-    Cells, Interval, MoveOrder, NullWindow, Observer, Pace, RootMove, RootMoves, Solved, order, put,
+    Cells, Interval, MoveOrder, NullWindow, Pace, RootMove, RootMoves, RootPeers, Solved, order,
+    put,
 };
+use path_node::PathNode;
 use std::alloc::Global;
 
 /// The other workers of a search as one of them knows them, by the table, the floor and the hints, the items that it
@@ -49,7 +50,7 @@ pub(crate) struct Peers<'w, G> {
     child: Board,
     floor_before: i8,
     // The searches under way below that move.
-    goals: Vec<Goal>,
+    path: Vec<PathNode>,
 }
 
 impl<'w, G> Peers<'w, G> {
@@ -73,7 +74,7 @@ impl<'w, G> Peers<'w, G> {
             settled: 0,
             child: Board::default(),
             floor_before: -64,
-            goals: Vec::new(alloc),
+            path: Vec::new(alloc),
         }
     }
 
@@ -202,7 +203,7 @@ impl<'w, G> Peers<'w, G> {
 
     // How many of the last searches under way are looked up once a board of `empties` empty squares was searched: all
     // of them only where that takes little beside the search.
-    fn goals_after(&self, empties: u8) -> usize {
+    fn checked_ancestors(&self, empties: u8) -> usize {
         let fewest = self.shape.fewest;
         if empties < fewest {
             1
@@ -218,10 +219,10 @@ impl<'w, G> Peers<'w, G> {
         ensures fixed { C.fixed cells.new ≡ C.fixed cells.old }
     {
         let scoring = self.root_bound.scoring();
-        let goals = self.goals.as_slice();
-        let first = goals.len().saturating_sub(most);
-        for place in first..goals.len() {
-            if goals[place].is_decided(cells, scoring) {
+        let path = self.path.as_slice();
+        let first = path.len().saturating_sub(most);
+        for place in first..path.len() {
+            if path[place].is_decided(cells, scoring) {
                 return true;
             }
         }
@@ -242,7 +243,7 @@ fn unknown_items(alloc: Global, frontier: &Frontier, scoring: Scoring) -> Vec<So
     items
 }
 
-impl<'w, G: Gate, C: Cells> Observer<C> for Peers<'w, G> {
+impl<'w, G: Gate, C: Cells> RootPeers<C> for Peers<'w, G> {
     fn before(&mut self, root_move: &RootMove) {
         self.hints.begin(&root_move.child.board);
     }
@@ -281,7 +282,7 @@ impl<'w, G: Gate, C: Cells> Observer<C> for Peers<'w, G> {
             self.gate.before(number);
             self.announcer.tell(number);
         }
-        let found = child.narrowed_in(NullWindow::at(alpha + 1), cells, self);
+        let found = child.narrowed_by_abdada(NullWindow::at(alpha + 1), cells, self);
         if let Some(number) = self.announcer.end_below() {
             self.gate.after(number);
         }
@@ -307,7 +308,7 @@ impl<'w, G: Gate, C: Cells> Observer<C> for Peers<'w, G> {
         self.hints.tell_seen(board, alpha + 1, found > alpha);
     }
 
-    fn is_left(&mut self, board: &Board) -> bool {
+    fn is_deferred(&mut self, board: &Board) -> bool {
         self.guesses() && self.hints.is_searched(board)
     }
 

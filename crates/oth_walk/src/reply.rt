@@ -4,7 +4,7 @@ ghost use Rattle.std.specs.Prelude.{◌≡◌, negsuc, pos, ◌≤ℤ◌};
 use crate::announcing::Gate;
 use crate::worker::Worker;
 use oth_pieces::Item;
-use oth_search::{Cells, Interval, NullWindow, RootMove, Solved, known_below, put};
+use oth_search::{Cells, Interval, NullWindow, RootMove, Solved, backed_up_from, put};
 
 /// Searches the item of this number, of whose board this is known, unless bounds settle its move of the root, and tells
 /// the others what follows from it alone. Returns what is known of the board then.
@@ -29,7 +29,7 @@ pub(crate) fn search_reply<G: Gate, C: Cells>(
     let score = asked(worker.tested_score(), child.interval);
     begin(number, &root_move, known, worker);
     let window = window_of(item, score);
-    let found = known.narrowed_in(window, &mut worker.cells, &mut worker.peers);
+    let found = known.narrowed_by_abdada(window, &mut worker.cells, &mut worker.peers);
     end(number, &found, worker);
     share(&root_move, &found, worker);
     found
@@ -96,7 +96,7 @@ fn share<G: Gate, C: Cells>(root_move: &RootMove, found: &Solved, worker: &mut W
     if found.interval == Interval::all() {
         return;
     }
-    let known = known_below(root_move.child.board, 1, &[*found], found.scoring);
+    let known = backed_up_from(root_move.child.board, 1, &[*found], found.scoring);
     put(&known, &mut worker.cells);
     worker.update(root_move.square, &known);
 }

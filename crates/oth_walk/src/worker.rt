@@ -8,7 +8,8 @@ use crate::peers::Peers;
 use crate::shared::{Search, Seats};
 use oth_rules::Square;
 use oth_search::{
-    Cells, Observer, Quest, RootMove, RootMoves, Solved, first_threshold, lead, settle_at,
+    Cells, RootGoal, RootMove, RootMoves, RootPeers, Solved, find_first_bound, first_threshold,
+    settle_at,
 };
 use std::alloc::Global;
 
@@ -117,22 +118,22 @@ impl<'w, C: Cells, G: Gate> Worker<'w, C, G> {
 
     /// Asks the root's moves at the guessed score until there is a floor, the move that seems best first. Where no move
     /// reaches it, asks at lower scores.
-    pub(crate) fn lead(&mut self) {
+    pub(crate) fn find_first_bound(&mut self) {
         if self.floor() > -64 {
             return;
         }
         let guess = self.guess();
         let first = first_asked(guess.score);
-        let asked = lead(&mut self.moves, first, &mut self.cells, &mut self.peers);
+        let asked = find_first_bound(&mut self.moves, first, &mut self.cells, &mut self.peers);
         self.guess = Some(Guess::of(-asked, guess.square));
     }
 
     /// Searches the move at this place until its value is exact, or is known to give the root less than the floor.
     pub(crate) fn settle_at(&mut self, place: usize) {
         let _ = self.heard(place);
-        let quest = self.quest();
+        let goal = self.goal();
         let moves = &mut self.moves;
-        settle_at(moves, place, quest, &mut self.cells, &mut self.peers);
+        settle_at(moves, place, goal, &mut self.cells, &mut self.peers);
         if let Some(known) = self.moves.get(place) {
             self.peers.note_if_settled(&known);
         }
@@ -157,13 +158,13 @@ impl<'w, C: Cells, G: Gate> Worker<'w, C, G> {
         found.interval.lower <= most
     }
 
-    // The quest for the root's moves: it starts at the guessed score, or without a guess at the floor.
-    fn quest(&mut self) -> Quest {
+    // The goal for the root's moves: it starts at the guessed score, or without a guess at the floor.
+    fn goal(&mut self) -> RootGoal {
         let score = match self.known_guess() {
             Some(guess) => guess.score,
             None => self.tested_score(),
         };
-        Quest {
+        RootGoal {
             start: first_asked(score),
             tells_ties: true,
         }

@@ -79,7 +79,7 @@ impl BackedUp {
 }
 
 /// The bounds of `board` that stand in `known`, under this scoring: the first ones, or all scores if there are none.
-pub fn known_of(board: Board, known: &[Solved], scoring: Scoring) -> Solved
+pub fn bounds_among(board: Board, known: &[Solved], scoring: Scoring) -> Solved
     ensures board { result.board ≡ board }
     ensures scoring { result.scoring ≡ scoring }
 {
@@ -93,7 +93,7 @@ pub fn known_of(board: Board, known: &[Solved], scoring: Scoring) -> Solved
 
 /// Backs up the bounds of the boards `plies` plies below that stand in `known`. A forced pass is no ply.
 #[cycle(combining)]
-pub fn known_below(board: Board, plies: u8, known: &[Solved], scoring: Scoring) -> Solved
+pub fn backed_up_from(board: Board, plies: u8, known: &[Solved], scoring: Scoring) -> Solved
     ensures board { result.board ≡ board }
     ensures scoring { result.scoring ≡ scoring }
 {
@@ -104,10 +104,10 @@ pub fn known_below(board: Board, plies: u8, known: &[Solved], scoring: Scoring) 
     if passed.moves() != 0 {
         return known_by_moves(passed, plies, known, scoring).before_pass(&board);
     }
-    known_of(board, known, scoring)
+    bounds_among(board, known, scoring)
 }
 
-// As `known_below`, of a board whose mover has a move.
+// As `backed_up_from`, of a board whose mover has a move.
 #[cycle(combining)]
 fn known_by_moves(board: Board, plies: u8, known: &[Solved], scoring: Scoring) -> Solved
     requires { can_move board ≡ true }
@@ -115,13 +115,13 @@ fn known_by_moves(board: Board, plies: u8, known: &[Solved], scoring: Scoring) -
     ensures scoring { result.scoring ≡ scoring }
 {
     if plies == 0 {
-        return known_of(board, known, scoring);
+        return bounds_among(board, known, scoring);
     }
     let mut backed_up = BackedUp::of(board, scoring);
     while backed_up.left != 0 {
         let square = first(backed_up.left);
         let child = backed_up.board.play_legal(square);
-        let reply = known_below(child, plies - 1, known, scoring);
+        let reply = backed_up_from(child, plies - 1, known, scoring);
         backed_up = backed_up.with(square, &reply);
     }
     backed_up.solved()

@@ -6,8 +6,8 @@ use super::entry::Entry;
 use super::solved::Solved;
 use oth_rules::{Board, Scoring};
 
-/// Where a search stores what it found. What is stored may be lost. `look` and `recall` promise only that what they
-/// return is of the board and the scoring that were asked for.
+/// Where a search stores what it found. What is stored may be lost. `look` and `probe_local` promise only that what
+/// they return is of the board and the scoring that were asked for.
 pub trait Cells {
     /// What no call changes, such as the table that the cells belong to.
     ghost Fixed: { Type 0 };
@@ -26,13 +26,13 @@ pub trait Cells {
 
     /// Whether boards of `empties` empty squares (9 and more) go to the local table instead of the shared one: by
     /// default no.
-    fn remembers(&self, _empties: u8) -> bool {
+    fn keeps_local(&self, _empties: u8) -> bool {
         false
     }
 
     /// Returns what the local table keeps of a board under this scoring, if anything: by default nothing. A search asks
-    /// for boards of 5 to 8 empty squares, and for those that `remembers` names.
-    fn recall(&mut self, _board: &Board, _scoring: Scoring) -> Option<Solved>
+    /// for boards of 5 to 8 empty squares, and for those that `keeps_local` names.
+    fn probe_local(&mut self, _board: &Board, _scoring: Scoring) -> Option<Solved>
         ensures asked { IfSome result (λ s. (s.board ≡ _board.now) × (s.scoring ≡ _scoring)) }
         ensures fixed { fixed self.new ≡ fixed self.old }
     {
@@ -40,7 +40,7 @@ pub trait Cells {
     }
 
     /// Offers bounds of such a board to the local table. The cells are free to drop them, and by default do.
-    fn remember(&mut self, _solved: &Solved)
+    fn store_local(&mut self, _solved: &Solved)
         ensures fixed { fixed self.new ≡ fixed self.old }
     {}
 }
@@ -82,20 +82,20 @@ impl<C: Cells> Cells for Option<C> {
         }
     }
 
-    fn remembers(&self, empties: u8) -> bool {
+    fn keeps_local(&self, empties: u8) -> bool {
         match self {
-            Some(cells) => cells.remembers(empties),
+            Some(cells) => cells.keeps_local(empties),
             None => false,
         }
     }
 
-    fn recall(&mut self, board: &Board, scoring: Scoring) -> Option<Solved> {
-        self.as_mut()?.recall(board, scoring)
+    fn probe_local(&mut self, board: &Board, scoring: Scoring) -> Option<Solved> {
+        self.as_mut()?.probe_local(board, scoring)
     }
 
-    fn remember(&mut self, solved: &Solved) {
+    fn store_local(&mut self, solved: &Solved) {
         if let Some(cells) = self {
-            cells.remember(solved);
+            cells.store_local(solved);
         }
     }
 }

@@ -110,13 +110,13 @@ impl Solved {
         self.scoring
     }
 
-    /// Whether the board needs no more search, where values above `bar` are all alike: its value is exact, or known to
-    /// be above `bar`.
-    pub fn is_settled(&self, bar: i8) -> bool
+    /// Whether the board needs no more search, where values above `threshold` are all alike: its value is exact, or
+    /// known to be above `threshold`.
+    pub fn is_settled(&self, threshold: i8) -> bool
         ensures { IsTrue result ↔ ((self.now.interval.lower ≡ self.now.interval.upper)
-            ⊎ (bar <ℤ self.now.interval.lower)) }
+            ⊎ (threshold <ℤ self.now.interval.lower)) }
     {
-        self.interval.lower == self.interval.upper || self.interval.lower > bar
+        self.interval.lower == self.interval.upper || self.interval.lower > threshold
     }
 
     /// The board with wider bounds; `None` exactly if they leave -64..64 or do not contain the old ones.

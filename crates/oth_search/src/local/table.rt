@@ -40,14 +40,14 @@ impl LocalTable {
     }
 
     /// Returns what the table has of the board under this scoring.
-    pub fn recall(&self, board: &Board, scoring: Scoring) -> Option<Solved>
+    pub fn probe_local(&self, board: &Board, scoring: Scoring) -> Option<Solved>
         ensures asked { IfSome result (λ s. (s.board ≡ board.now) × (s.scoring ≡ scoring)) }
     {
         told_by(&self.places[place(board, self.last)], board, scoring)
     }
 
     /// Stores these bounds, and so overwrites what was at their place.
-    pub fn remember(&mut self, solved: &Solved) {
+    pub fn store_local(&mut self, solved: &Solved) {
         let place = place(&solved.board, self.last);
         self.places[place] = *solved;
     }
@@ -131,16 +131,16 @@ impl<C: Cells> Cells for WithLocal<C> {
         self.cells.put(entry);
     }
 
-    fn remembers(&self, empties: u8) -> bool {
-        self.memories.remembers(empties)
+    fn keeps_local(&self, empties: u8) -> bool {
+        self.memories.keeps_local(empties)
     }
 
-    fn recall(&mut self, board: &Board, scoring: Scoring) -> Option<Solved> {
-        self.memories.recall(board, scoring)
+    fn probe_local(&mut self, board: &Board, scoring: Scoring) -> Option<Solved> {
+        self.memories.probe_local(board, scoring)
     }
 
-    fn remember(&mut self, solved: &Solved) {
-        self.memories.remember(solved);
+    fn store_local(&mut self, solved: &Solved) {
+        self.memories.store_local(solved);
     }
 }
 
@@ -170,11 +170,11 @@ impl Cells for StackCells {
 
     fn put(&mut self, _entry: &Entry) {}
 
-    fn recall(&mut self, board: &Board, scoring: Scoring) -> Option<Solved> {
+    fn probe_local(&mut self, board: &Board, scoring: Scoring) -> Option<Solved> {
         told_by(&self.places[place(board, PLACES - 1)], board, scoring)
     }
 
-    fn remember(&mut self, solved: &Solved) {
+    fn store_local(&mut self, solved: &Solved) {
         let place = place(&solved.board, PLACES - 1);
         self.places[place] = *solved;
     }

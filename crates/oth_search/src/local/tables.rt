@@ -46,12 +46,12 @@ impl LocalTables {
     }
 
     /// Whether boards of `empties` empty squares (9 and more) go to the second table.
-    pub fn remembers(&self, empties: u8) -> bool {
+    pub fn keeps_local(&self, empties: u8) -> bool {
         self.has_more && empties < TABLE_ALWAYS_MIN_EMPTIES
     }
 
     /// Returns what the board's table has of it under this scoring.
-    pub fn recall(&self, board: &Board, scoring: Scoring) -> Option<Solved>
+    pub fn probe_local(&self, board: &Board, scoring: Scoring) -> Option<Solved>
         ensures asked { IfSome result (λ s. (s.board ≡ board.now) × (s.scoring ≡ scoring)) }
     {
         let memo = if board.empties() < SECOND_LOCAL_MIN_EMPTIES {
@@ -60,13 +60,13 @@ impl LocalTables {
             &self.more
         };
         match memo {
-            Some(memo) => memo.recall(board, scoring),
+            Some(memo) => memo.probe_local(board, scoring),
             None => None,
         }
     }
 
     /// Stores these bounds in their board's table, if there is one.
-    pub fn remember(&mut self, solved: &Solved) {
+    pub fn store_local(&mut self, solved: &Solved) {
         if self.is_wanted {
             self.make();
         }
@@ -76,7 +76,7 @@ impl LocalTables {
             &mut self.more
         };
         if let Some(memo) = memo {
-            memo.remember(solved);
+            memo.store_local(solved);
         }
     }
 

@@ -61,7 +61,7 @@ fn nws_kept<C: Cells>(node: Node, alpha: i8, cells: &mut C, scoring: Scoring) ->
     if is_remembered(&board, cells) {
         return nws_remembered(node, alpha, cells, scoring);
     }
-    let known = known(&board.canonical().0, cells, scoring);
+    let known = by_table(&board.canonical().0, cells, scoring);
     if known.interval.lower > alpha {
         return known.interval.lower;
     }
@@ -81,7 +81,7 @@ fn nws_remembered<C: Cells>(node: Node, alpha: i8, cells: &mut C, scoring: Scori
     ensures value { BoundsAt (value (score_of scoring) node.board) alpha result }
     ensures fixed { C.fixed cells.new ≡ C.fixed cells.old }
 {
-    let recalled = recalled(&node.board, cells, scoring);
+    let recalled = by_local_table(&node.board, cells, scoring);
     if recalled.interval.lower > alpha {
         return recalled.interval.lower;
     }
@@ -89,7 +89,7 @@ fn nws_remembered<C: Cells>(node: Node, alpha: i8, cells: &mut C, scoring: Scori
         return recalled.interval.upper;
     }
     let found = nws_ordered(node, alpha, cells, scoring);
-    cells.remember(&recalled.narrowed(alpha, found));
+    cells.store_local(&recalled.narrowed(alpha, found));
     found
 }
 
@@ -145,7 +145,7 @@ fn nws_middle<C: Cells>(node: Node, alpha: i8, cells: &mut C, scoring: Scoring) 
     let mut list: ArrayVec<Child, 10> = ArrayVec::new();
     add_children(&node, &mut list);
     if node.board.empties() <= TABLE_MIN_EMPTIES || is_remembered(&node.board, cells) {
-        if let Some(found) = recorded_above(&node.board, list.as_slice(), alpha, cells, scoring) {
+        if let Some(found) = bounded_by_child(&node.board, list.as_slice(), alpha, cells, scoring) {
             return found;
         }
     }
@@ -164,7 +164,7 @@ fn nws_long<C: Cells>(node: Node, alpha: i8, cells: &mut C, scoring: Scoring) ->
 {
     let mut list: ArrayVec<Child, 32> = ArrayVec::new();
     add_children(&node, &mut list);
-    if let Some(found) = recorded_above(&node.board, list.as_slice(), alpha, cells, scoring) {
+    if let Some(found) = bounded_by_child(&node.board, list.as_slice(), alpha, cells, scoring) {
         return found;
     }
     look_at(list.as_mut_slice(), node.board.empties());
@@ -221,7 +221,7 @@ pub fn most_at(board: &Board, alpha: i8, scoring: Scoring) -> Option<i8>
 
 /// Enhanced transposition cutoff: a bound above `alpha`, if what a table has of a child gives one. Children whose mover
 /// has no move are not looked up.
-pub fn recorded_above<C: Cells>(
+pub fn bounded_by_child<C: Cells>(
     parent: &Board,
     children: &[Child],
     alpha: i8,
@@ -234,8 +234,8 @@ pub fn recorded_above<C: Cells>(
 {
     for child in children {
         if child.moves != 0 {
-            let recorded = recorded(&child.board, cells, scoring);
-            let reply = -recorded.interval.upper;
+            let told = by_either_table(&child.board, cells, scoring);
+            let reply = -told.interval.upper;
             if reply > alpha {
                 return Some(reply);
             }
@@ -247,23 +247,23 @@ pub fn recorded_above<C: Cells>(
 // Whether the board goes to the local table, and not to the transposition table.
 fn is_remembered<C: Cells>(board: &Board, cells: &C) -> bool {
     let empties = board.empties();
-    empties < TABLE_MIN_EMPTIES || cells.remembers(empties)
+    empties < TABLE_MIN_EMPTIES || cells.keeps_local(empties)
 }
 
 // The bounds of the board's value by the table that keeps it: by the local one, or by the entry of its canonical image
 // in the transposition table.
-fn recorded<C: Cells>(board: &Board, cells: &mut C, scoring: Scoring) -> Solved
+fn by_either_table<C: Cells>(board: &Board, cells: &mut C, scoring: Scoring) -> Solved
     ensures value { Encloses result.interval.lower result.interval.upper (value (score_of scoring) board.now) }
     ensures fixed { C.fixed cells.new ≡ C.fixed cells.old }
 {
     if is_remembered(board, cells) {
-        return recalled(board, cells, scoring);
+        return by_local_table(board, cells, scoring);
     }
-    known(&board.canonical().0, cells, scoring)
+    by_table(&board.canonical().0, cells, scoring)
 }
 
 /// The bounds that the transposition table has of a canonical board: all scores if it has none.
-pub fn known<C: Cells>(board: &Board, cells: &mut C, scoring: Scoring) -> Solved
+pub fn by_table<C: Cells>(board: &Board, cells: &mut C, scoring: Scoring) -> Solved
     requires { IsCanonical board.now }
     ensures board { result.board ≡ board.now }
     ensures scoring { result.scoring ≡ scoring }
@@ -276,12 +276,12 @@ pub fn known<C: Cells>(board: &Board, cells: &mut C, scoring: Scoring) -> Solved
 }
 
 // The bounds that the local table has of a board: all scores if it has none.
-fn recalled<C: Cells>(board: &Board, cells: &mut C, scoring: Scoring) -> Solved
+fn by_local_table<C: Cells>(board: &Board, cells: &mut C, scoring: Scoring) -> Solved
     ensures board { result.board ≡ board.now }
     ensures scoring { result.scoring ≡ scoring }
     ensures fixed { C.fixed cells.new ≡ C.fixed cells.old }
 {
-    match cells.recall(board, scoring) {
+    match cells.probe_local(board, scoring) {
         Some(solved) => solved,
         None => Solved::unknown(*board, scoring),
     }

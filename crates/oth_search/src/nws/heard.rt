@@ -7,7 +7,7 @@ ghost use Rattle.oth_rules.specs.Value.{value};
 ghost use Rattle.oth_search.specs.Bounds.Interval.{BoundsAt, IsThreshold};
 ghost use Rattle.oth_search.specs.Ordering.Children.{IsChild};
 
-use super::deep::{most_at, nws_node, recorded_above};
+use super::deep::{bounded_by_child, most_at, nws_node};
 use super::node::Node;
 use super::shallow::nws;
 use crate::bounds::{Cells, greater, odd_quadrants, preferred, without};
@@ -130,5 +130,5 @@ fn cutoff<C: Cells>(
     if board.empties() < ETC_MIN_EMPTIES {
         return None;
     }
-    recorded_above(board, children, alpha, cells, scoring)
+    bounded_by_child(board, children, alpha, cells, scoring)
 }

@@ -1,7 +1,7 @@
 //! The static evaluation of a board, as it stands or after some plies, for move ordering.
 ghost use Rattle.std.specs.Prelude.{◌<◌, ◌≤◌, pos, neg_ℤ, ◌≤ℤ◌};
 
-use super::lookahead::{Span, look};
+use super::lookahead::{EvalWindow, lookahead};
 use super::rank::{CORNERS, X_SQUARES, around, count};
 use crate::bounds::{first, without};
 use crate::nws::Node;
@@ -79,7 +79,7 @@ pub fn evaluation_of(child: &Board, moves: u64, empties: u8, enough: Evaluation)
     match plies_ahead(empties) {
         0 => standing(Twin::of(child), moves),
         1 => a_ply_ahead(child, moves, enough),
-        plies => look(Node::of(*child), plies, Span::up_to(enough)),
+        plies => lookahead(Node::of(*child), plies, EvalWindow::up_to(enough)),
     }
 }
 

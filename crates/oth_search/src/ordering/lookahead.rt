@@ -10,57 +10,57 @@ use crate::nws::Node;
 use crate::tuning::MOST_LOOKED;
 use arrayvec::ArrayVec;
 
-/// The window of a look: `least`, what the mover already has, and `enough`, from where on the look ends.
+/// The window of a look: `alpha`, what the mover already has, and `beta`, from where on the look ends.
 #[derive(Clone, Copy)]
-pub struct Span {
-    least: Evaluation,
-    enough: Evaluation,
+pub struct EvalWindow {
+    alpha: Evaluation,
+    beta: Evaluation,
 }
 
-impl Span {
-    /// The window from the worst evaluation up to `enough`.
-    pub fn up_to(enough: Evaluation) -> Span {
-        Span {
-            least: Evaluation::WORST,
-            enough,
+impl EvalWindow {
+    /// The window from the worst evaluation up to `beta`.
+    pub fn up_to(beta: Evaluation) -> EvalWindow {
+        EvalWindow {
+            alpha: Evaluation::WORST,
+            beta,
         }
     }
 
     // The window as the opponent sees it.
-    fn turned(self) -> Span {
-        Span {
-            least: self.enough.turned(),
-            enough: self.least.turned(),
+    fn turned(self) -> EvalWindow {
+        EvalWindow {
+            alpha: self.beta.turned(),
+            beta: self.alpha.turned(),
         }
     }
 
     // The window once the mover has `found`.
-    fn having(self, found: Evaluation) -> Span {
-        Span {
-            least: self.least.better(found),
-            enough: self.enough,
+    fn having(self, found: Evaluation) -> EvalWindow {
+        EvalWindow {
+            alpha: self.alpha.better(found),
+            beta: self.beta,
         }
     }
 }
 
-/// Evaluates a node for its mover after `plies` plies, at least one. Less exact outside `span`.
-#[cycle(looking)]
-pub fn look(node: Node, plies: u8, span: Span) -> Evaluation {
+/// Evaluates a node for its mover after `plies` plies, at least one. Less exact outside `window`.
+#[cycle(lookahead)]
+pub fn lookahead(node: Node, plies: u8, window: EvalWindow) -> Evaluation {
     if node.moves != 0 {
-        return look_at_moves(node, plies, span);
+        return lookahead_at_moves(node, plies, window);
     }
     let passed = Node::of(node.board.pass());
     if passed.moves != 0 {
-        return look_at_moves(passed, plies, span.turned()).turned();
+        return lookahead_at_moves(passed, plies, window.turned()).turned();
     }
     by_discs(&node.board)
 }
 
-// As `look`, of a node whose mover has a move, the best-ranked moves first.
-#[cycle(looking)]
-fn look_at_moves(node: Node, plies: u8, span: Span) -> Evaluation {
+// As `lookahead`, of a node whose mover has a move, the best-ranked moves first.
+#[cycle(lookahead)]
+fn lookahead_at_moves(node: Node, plies: u8, window: EvalWindow) -> Evaluation {
     if plies < 2 {
-        return look_past_moves(&node.board, node.moves, span.enough);
+        return look_past_moves(&node.board, node.moves, window.beta);
     }
     let mut list: ArrayVec<Child, MOST_LOOKED> = ArrayVec::new();
     add_children(&node, &mut list);
@@ -69,9 +69,9 @@ fn look_at_moves(node: Node, plies: u8, span: Span) -> Evaluation {
     while left != 0 {
         let child = next_child(&node.board, list.as_mut_slice(), left);
         left = without(left, child.square());
-        let after = look(child.node(), plies - 1, span.having(best).turned());
+        let after = lookahead(child.node(), plies - 1, window.having(best).turned());
         best = best.better(after.turned());
-        if best.reaches(span.enough) {
+        if best.reaches(window.beta) {
             return best;
         }
     }

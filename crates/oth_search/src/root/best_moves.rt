@@ -9,7 +9,7 @@ ghost use Rattle.oth_search.specs.Bounds.Interval.{Encloses, Decides};
 ghost use Rattle.oth_search.specs.Bounds.Full.{IsFullMinimax};
 
 use super::moves::{RootMove, RootMoves};
-use super::observer::{Observer, Unobserved};
+use super::root_peers::{NoPeers, RootPeers};
 use super::settle::settle_moves;
 use crate::bounds::{Answer, Cells, Interval, Kind, NoCells, Solved, with};
 use crate::local::{StackCells, is_remembered};
@@ -86,7 +86,7 @@ fn solve_unobserved<C: Cells>(board: Board, cells: &mut C, scoring: Scoring) -> 
     ensures fixed { C.fixed cells.new ≡ C.fixed cells.old }
 {
     let root = Solved::unknown(board, scoring);
-    solve_moves(RootMoves::of(&root, &[]), cells, &mut Unobserved)
+    solve_moves(RootMoves::of(&root, &[]), cells, &mut NoPeers)
 }
 
 /// The answer of a board that is over.
@@ -122,19 +122,19 @@ pub fn before_pass(board: Board, passed: Answer) -> Answer
 }
 
 /// The answer of a root whose mover has a move. A board after a move is searched only where what is known leaves open
-/// whether the move is exact or worse than the score. The observer hears of these searches; where it ends them early,
+/// whether the move is exact or worse than the score. The peers hear of these searches; where it ends them early,
 /// the rest is searched without it.
-pub fn solve_moves<C: Cells, O: Observer<C>>(
+pub fn solve_moves<C: Cells, O: RootPeers<C>>(
     mut moves: RootMoves,
     cells: &mut C,
-    observer: &mut O,
+    peers: &mut O,
 ) -> Answer
     requires { can_move moves.board ≡ true }
     ensures board { result.board ≡ moves.board }
     ensures scoring { result.scoring ≡ moves.scoring }
     ensures fixed { C.fixed cells.new ≡ C.fixed cells.old }
 {
-    settle_moves(&mut moves, cells, observer);
+    settle_moves(&mut moves, cells, peers);
     best_moves(&moves, cells)
 }
 

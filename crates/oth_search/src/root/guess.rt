@@ -8,23 +8,24 @@ ghost use Rattle.oth_search.specs.Bounds.Interval.{IsThreshold};
 use super::bracket::Bracket;
 use super::glance::seeming_value;
 use super::moves::RootMoves;
-use super::observer::Observer;
+use super::root_peers::RootPeers;
 use crate::bounds::{Cells, Interval, Solved, greater, lesser, without};
 use crate::nws::Node;
 use crate::ordering::{Child, next_child, ranked, try_again};
 use crate::tuning::{
-    GUESS_EVALUATION_MIN_EMPTIES, GUESS_LOOKAHEAD_MAX_EMPTIES, GUESS_ROUNDS, MOST_RANKED, TURNS,
+    GUESS_DEFERRAL_ROUNDS, GUESS_EVALUATION_MIN_EMPTIES, GUESS_LOOKAHEAD_MAX_EMPTIES, GUESS_ROUNDS,
+    MOST_RANKED,
 };
 use arrayvec::ArrayVec;
 use oth_rules::{Board, Scoring};
 
 /// Returns the least value that a board after a move of the root seems to have, by null windows from `likely` on. Moves
 /// the move that seems to lead to it to the front.
-pub fn guess<C: Cells, O: Observer<C>>(
+pub fn guess<C: Cells, O: RootPeers<C>>(
     moves: &mut RootMoves,
     likely: i8,
     cells: &mut C,
-    observer: &mut O,
+    peers: &mut O,
 ) -> i8
     requires { IsThreshold likely }
     ensures score { IsScore result }
@@ -36,9 +37,9 @@ pub fn guess<C: Cells, O: Observer<C>>(
     let mut seen = [Interval::all(); 64];
     for _ in 0..GUESS_ROUNDS {
         let at = bracket.at;
-        let found = least_seen(moves, &mut seen, at, cells, observer);
+        let found = least_seen(moves, &mut seen, at, cells, peers);
         let is_reached = found <= at;
-        observer.tell_seen(&root, -at - 1, -found);
+        peers.tell_seen(&root, -at - 1, -found);
         bracket = if is_reached {
             bracket.at_most(found)
         } else {
@@ -54,12 +55,12 @@ pub fn guess<C: Cells, O: Observer<C>>(
 // Returns a value of at most `at` that a board after a move seems to have, and moves that move to the front; or else
 // the least value that one seems to have, or what another worker told. `seen` has what each seemed to have before, in
 // the order of the moves. In the first round defers boards that another worker is at, but for the one in front.
-fn least_seen<C: Cells, O: Observer<C>>(
+fn least_seen<C: Cells, O: RootPeers<C>>(
     moves: &mut RootMoves,
     seen: &mut [Interval; 64],
     at: i8,
     cells: &mut C,
-    observer: &mut O,
+    peers: &mut O,
 ) -> i8
     requires threshold { IsThreshold at }
     ensures score { IsScore result }
@@ -69,18 +70,18 @@ fn least_seen<C: Cells, O: Observer<C>>(
     let root = moves.root().board;
     let mut asked = [false; 64];
     let mut least = 64;
-    for turn in 0..TURNS {
+    for turn in 0..GUESS_DEFERRAL_ROUNDS {
         for place in 0..moves.len() {
             let Some(root_move) = moves.get(place) else {
                 continue;
             };
             let child = root_move.child;
-            let is_left = turn == 0 && place > 0 && observer.is_left(&child.board);
-            if asked[place] || is_left {
+            let is_deferred = turn == 0 && place > 0 && peers.is_deferred(&child.board);
+            if asked[place] || is_deferred {
                 continue;
             }
             asked[place] = true;
-            let found = least_of(&child, seen[place], at, cells, observer);
+            let found = least_of(&child, seen[place], at, cells, peers);
             if found <= at {
                 moves.move_to_front(place);
                 seen.swap(0, place);
@@ -91,8 +92,8 @@ fn least_seen<C: Cells, O: Observer<C>>(
                 upper: 64,
             };
             least = lesser(least, found);
-            if let Some(told_of_root) = observer.seen(&root, -at - 1) {
-                return told(moves, at, -told_of_root <= at, observer);
+            if let Some(told_of_root) = peers.seen(&root, -at - 1) {
+                return told(moves, at, -told_of_root <= at, peers);
             }
         }
     }
@@ -101,12 +102,12 @@ fn least_seen<C: Cells, O: Observer<C>>(
 
 // Returns a bound of the value that a reply seems to have, on its side of `at`. Looks at the reply only if it may be at
 // most `at` by `seen`, what it seemed to have before.
-fn least_of<C: Cells, O: Observer<C>>(
+fn least_of<C: Cells, O: RootPeers<C>>(
     reply: &Solved,
     seen: Interval,
     at: i8,
     cells: &mut C,
-    observer: &mut O,
+    peers: &mut O,
 ) -> i8
     requires { IsThreshold at }
     ensures score { IsScore result }
@@ -115,16 +116,16 @@ fn least_of<C: Cells, O: Observer<C>>(
     if seen.lower > at {
         return seen.lower;
     }
-    glance_after_move(reply, at, cells, observer)
+    glance_after_move(reply, at, cells, peers)
 }
 
 // Takes over what another worker told of the root: whether a board after a move seems to have at most `at`. Moves that
 // move to the front. Returns `at`, or `at + 1` if there is none.
-fn told<C: Cells, O: Observer<C>>(
+fn told<C: Cells, O: RootPeers<C>>(
     moves: &mut RootMoves,
     at: i8,
     is_reached: bool,
-    observer: &mut O,
+    peers: &mut O,
 ) -> i8
     requires { IsThreshold at }
     ensures score { IsScore result }
@@ -135,7 +136,7 @@ fn told<C: Cells, O: Observer<C>>(
     }
     for place in 0..moves.len() {
         if let Some(root_move) = moves.get(place) {
-            if is_told_below(&root_move.child.board, at, observer) {
+            if is_told_below(&root_move.child.board, at, peers) {
                 moves.move_to_front(place);
                 return at;
             }
@@ -145,10 +146,10 @@ fn told<C: Cells, O: Observer<C>>(
 }
 
 // Whether it was told of this board that it seems to have at most `at`.
-fn is_told_below<C: Cells, O: Observer<C>>(board: &Board, at: i8, observer: &mut O) -> bool
+fn is_told_below<C: Cells, O: RootPeers<C>>(board: &Board, at: i8, peers: &mut O) -> bool
     requires { IsThreshold at }
 {
-    match observer.seen(board, at) {
+    match peers.seen(board, at) {
         Some(told) => told <= at,
         None => false,
     }
@@ -156,33 +157,33 @@ fn is_told_below<C: Cells, O: Observer<C>>(board: &Board, at: i8, observer: &mut
 
 // Returns a bound, on its side of `alpha`, of the value that the board after a root's move seems to have: what was told
 // of it, or else by a glance at all its moves.
-fn glance_after_move<C: Cells, O: Observer<C>>(
+fn glance_after_move<C: Cells, O: RootPeers<C>>(
     reply: &Solved,
     alpha: i8,
     cells: &mut C,
-    observer: &mut O,
+    peers: &mut O,
 ) -> i8
     requires { IsThreshold alpha }
     ensures score { IsScore result }
     ensures fixed { C.fixed cells.new ≡ C.fixed cells.old }
 {
     let board = reply.board;
-    if let Some(told) = observer.seen(&board, alpha) {
+    if let Some(told) = peers.seen(&board, alpha) {
         return told;
     }
-    observer.begin(&board);
-    let found = glance_all(&board, alpha, cells, observer, reply.scoring);
-    observer.tell_seen(&board, alpha, found);
-    observer.end(&board);
+    peers.begin(&board);
+    let found = glance_all(&board, alpha, cells, peers, reply.scoring);
+    peers.tell_seen(&board, alpha, found);
+    peers.end(&board);
     found
 }
 
 // As `glance_after_move`, but always glances: at all moves of the board, or at those after a forced pass.
-fn glance_all<C: Cells, O: Observer<C>>(
+fn glance_all<C: Cells, O: RootPeers<C>>(
     board: &Board,
     alpha: i8,
     cells: &mut C,
-    observer: &mut O,
+    peers: &mut O,
     scoring: Scoring,
 ) -> i8
     requires { IsThreshold alpha }
@@ -191,21 +192,21 @@ fn glance_all<C: Cells, O: Observer<C>>(
 {
     let node = Node::of(*board);
     if node.moves != 0 {
-        return glance_at_all_moves(node, alpha, cells, observer, scoring);
+        return glance_at_all_moves(node, alpha, cells, peers, scoring);
     }
     let passed = Node::of(board.pass());
     if passed.moves != 0 {
-        return -glance_at_all_moves(passed, -alpha - 1, cells, observer, scoring);
+        return -glance_at_all_moves(passed, -alpha - 1, cells, peers, scoring);
     }
     board.final_score(scoring)
 }
 
 // As `glance_all`, of a board whose mover has a move. In the first round defers children that another worker is at.
-fn glance_at_all_moves<C: Cells, O: Observer<C>>(
+fn glance_at_all_moves<C: Cells, O: RootPeers<C>>(
     node: Node,
     alpha: i8,
     cells: &mut C,
-    observer: &mut O,
+    peers: &mut O,
     scoring: Scoring,
 ) -> i8
     requires { IsThreshold alpha }
@@ -219,22 +220,22 @@ fn glance_at_all_moves<C: Cells, O: Observer<C>>(
     );
     let mut best = -64;
     let mut left = node.moves;
-    for turn in 0..TURNS {
+    for turn in 0..GUESS_DEFERRAL_ROUNDS {
         let mut rest = left;
         try_again(ranked.as_mut_slice(), left);
         while rest != 0 {
             let child = next_child(&node.board, ranked.as_mut_slice(), rest);
             rest = without(rest, child.square());
-            if turn == 0 && observer.is_left(&child.board) {
+            if turn == 0 && peers.is_deferred(&child.board) {
                 continue;
             }
             left = without(left, child.square());
-            let reply = -glance_after_reply(child.board, -alpha - 1, cells, observer, scoring);
+            let reply = -glance_after_reply(child.board, -alpha - 1, cells, peers, scoring);
             if reply > alpha {
                 return reply;
             }
             best = greater(best, reply);
-            if let Some(told) = observer.seen(&node.board, alpha) {
+            if let Some(told) = peers.seen(&node.board, alpha) {
                 return told;
             }
         }
@@ -244,26 +245,26 @@ fn glance_at_all_moves<C: Cells, O: Observer<C>>(
 
 // Returns a bound, on its side of `alpha`, of the value that the board after a reply to a root's move seems to have:
 // what was told of it, or else by `seeming_value`. Once the guess ends that is `alpha`.
-fn glance_after_reply<C: Cells, O: Observer<C>>(
+fn glance_after_reply<C: Cells, O: RootPeers<C>>(
     board: Board,
     alpha: i8,
     cells: &mut C,
-    observer: &mut O,
+    peers: &mut O,
     scoring: Scoring,
 ) -> i8
     requires { IsThreshold alpha }
     ensures score { IsScore result }
     ensures fixed { C.fixed cells.new ≡ C.fixed cells.old }
 {
-    if let Some(told) = observer.seen(&board, alpha) {
+    if let Some(told) = peers.seen(&board, alpha) {
         return told;
     }
-    if observer.ends_guess(cells) {
+    if peers.ends_guess(cells) {
         return alpha;
     }
-    observer.begin(&board);
+    peers.begin(&board);
     let found = seeming_value(board, alpha, cells, scoring);
-    observer.tell_seen(&board, alpha, found);
-    observer.end(&board);
+    peers.tell_seen(&board, alpha, found);
+    peers.end(&board);
     found
 }

@@ -4,7 +4,7 @@ ghost use Rattle.oth_rules.specs.Laws.{IsLegal, IsScore};
 ghost use Rattle.oth_rules.specs.Move.{after};
 ghost use Rattle.oth_search.specs.Root.Moves.{IsRootMove, AreRootMoves};
 
-use crate::bounds::{Interval, Solved, greater, known_of};
+use crate::bounds::{Interval, Solved, bounds_among, greater};
 use crate::ordering::order;
 use arrayvec::ArrayVec;
 use oth_rules::{Board, Square};
@@ -47,7 +47,7 @@ impl RootMoves {
             let board = root.board.play_legal(*square);
             list.push(RootMove {
                 square: *square,
-                child: known_of(board, known, root.scoring),
+                child: bounds_among(board, known, root.scoring),
             });
         }
         RootMoves { root: *root, list }

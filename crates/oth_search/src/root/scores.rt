@@ -8,9 +8,9 @@ ghost use Rattle.oth_search.specs.Root.Scores.{AreScores};
 
 use super::best_moves::{solve_moves, solve_with};
 use super::moves::RootMoves;
-use super::observer::Unobserved;
+use super::root_peers::NoPeers;
 use super::value::value_of;
-use crate::bounds::{Answer, Cells, Kind, Solved, first, known_of, without};
+use crate::bounds::{Answer, Cells, Kind, Solved, bounds_among, first, without};
 use arrayvec::ArrayVec;
 use oth_rules::{Board, Scoring, Square};
 
@@ -88,7 +88,7 @@ fn scored_moves<C: Cells>(
         let square = first(rest);
         rest = without(rest, square);
         let child = board.play_legal(square);
-        let told = known_of(child, known, scoring);
+        let told = bounds_among(child, known, scoring);
         let reply = told.exact(cells);
         found.push(ScoredMove {
             square,
@@ -126,7 +126,7 @@ pub fn answer_by<C: Cells>(
     ensures fixed { C.fixed cells.new ≡ C.fixed cells.old }
 {
     let root = Solved::unknown(board, scoring);
-    solve_moves(RootMoves::of(&root, known), cells, &mut Unobserved)
+    solve_moves(RootMoves::of(&root, known), cells, &mut NoPeers)
 }
 
 // The boards after the moves of a board, each with its exact value, in move order. The search of each starts from the
@@ -138,7 +138,7 @@ fn exact_replies<C: Cells>(board: &Board, cells: &mut C, scoring: Scoring) -> Ar
     let moves = RootMoves::of(&Solved::unknown(*board, scoring), &[]);
     for root_move in moves.as_slice() {
         let sibling = replies.as_slice().last();
-        let valued = value_of(&root_move.child, sibling, cells, &mut Unobserved);
+        let valued = value_of(&root_move.child, sibling, cells, &mut NoPeers);
         replies.push(valued);
     }
     replies

@@ -3,24 +3,24 @@
 //! value by null windows ever further below its upper bound, as in MTD(f) (Plaat, Schaeffer, Pijls and de Bruin,
 //! Best-first fixed-depth minimax algorithms, 1996). Each other one is asked whether it is worse, and leads from then
 //! on where it is better. One worker and several search by these functions: what workers tell each other goes through
-//! the observer.
+//! `RootPeers`.
 ghost use Rattle.std.specs.Prelude.{◌≡◌, ◌≤ℤ◌, ◌<ℤ◌, pos, negsuc};
 ghost use Rattle.oth_rules.specs.Laws.{IsScore};
 ghost use Rattle.oth_search.specs.Bounds.Interval.{IsThreshold};
 
 use super::guess::guess;
 use super::moves::{RootMove, RootMoves};
-use super::observer::Observer;
+use super::root_peers::RootPeers;
 use super::step::Pace;
 use crate::bounds::{Cells, Interval, lesser};
-use crate::tuning::{GUESS_MIN_EMPTIES, LEAD_ROUNDS, MOST_IN_VAIN};
+use crate::tuning::{FIRST_BOUND_ROUNDS, GUESS_MIN_EMPTIES, MOST_FRUITLESS};
 
 // Null windows of one search for a value, at the most: each leaves fewer of the 129 scores.
 const MOST_QUESTIONS: u8 = 128;
 
 /// What the search of the boards after a root's moves is to find.
 #[derive(Clone, Copy)]
-pub struct Quest {
+pub struct RootGoal {
     /// The threshold that they are first asked at.
     pub start: i8,
     /// Whether each move that is as good as the best is told from the rest. Without it only the best value is wanted.
@@ -28,10 +28,10 @@ pub struct Quest {
     pub ghost range: { IsThreshold start },
 }
 
-impl Quest {
+impl RootGoal {
     // A child whose value is above this needs no more search, where one is known to have at most `best`: `best` itself
     // if ties are wanted, else one less.
-    fn bar(self, best: i8) -> i8
+    fn threshold(self, best: i8) -> i8
         requires { IsScore best }
         ensures low { negsuc 64 ≤ℤ result }
         ensures high { result ≤ℤ pos 64 }
@@ -41,30 +41,26 @@ impl Quest {
 }
 
 /// Narrows the bounds of the boards after the root's moves: one with the best score is searched to its value, and each
-/// other until it is exact or worse, unless the observer ends the search. A board of which as much is known is not
-/// searched. The observer hears of each search of such a board by `before` and `after`. The first guess, which comes
+/// other until it is exact or worse, unless the peers end the search. A board of which as much is known is not
+/// searched. The peers hear of each search of such a board by `before` and `after`. The first guess, which comes
 /// before them where many squares are empty, calls neither.
-pub fn settle_moves<C: Cells, O: Observer<C>>(
-    moves: &mut RootMoves,
-    cells: &mut C,
-    observer: &mut O,
-)
+pub fn settle_moves<C: Cells, O: RootPeers<C>>(moves: &mut RootMoves, cells: &mut C, peers: &mut O)
     ensures root { moves.new ≡ moves.old }
     ensures fixed { C.fixed cells.new ≡ C.fixed cells.old }
 {
-    let quest = Quest {
-        start: first_threshold(moves, cells, observer),
+    let goal = RootGoal {
+        start: first_threshold(moves, cells, peers),
         tells_ties: true,
     };
-    settle(moves, quest, cells, observer);
+    settle(moves, goal, cells, peers);
 }
 
 /// The threshold of the first null window: the best known bound if there is one, else a guess from 12 empty squares on,
-/// else 0. Of the guess the observer hears only what guesses tell each other.
-pub fn first_threshold<C: Cells, O: Observer<C>>(
+/// else 0. Of the guess the peers hear only what guesses tell each other.
+pub fn first_threshold<C: Cells, O: RootPeers<C>>(
     moves: &mut RootMoves,
     cells: &mut C,
-    observer: &mut O,
+    peers: &mut O,
 ) -> i8
     ensures threshold { IsThreshold result }
     ensures root { moves.new ≡ moves.old }
@@ -77,50 +73,50 @@ pub fn first_threshold<C: Cells, O: Observer<C>>(
     if moves.root().board.empties() < GUESS_MIN_EMPTIES {
         return 0;
     }
-    lesser(63, guess(moves, 0, cells, observer))
+    lesser(63, guess(moves, 0, cells, peers))
 }
 
-/// Narrows the bounds of the boards after the moves until they answer `quest`: of the leader first, then of each other.
-pub(crate) fn settle<C: Cells, O: Observer<C>>(
+/// Narrows the bounds of the boards after the moves until they answer `goal`: of the leader first, then of each other.
+pub(crate) fn settle<C: Cells, O: RootPeers<C>>(
     moves: &mut RootMoves,
-    quest: Quest,
+    goal: RootGoal,
     cells: &mut C,
-    observer: &mut O,
+    peers: &mut O,
 )
     ensures root { moves.new ≡ moves.old }
     ensures fixed { C.fixed cells.new ≡ C.fixed cells.old }
 {
-    let mut round = Round::first(quest.start);
-    settle_on(moves, quest, &mut round, cells, observer);
+    let mut round = Round::first(goal.start);
+    settle_on(moves, goal, &mut round, cells, peers);
 }
 
-/// As `settle`, from the `round` on that the moves were asked in: `quest` starts where its first one did.
-pub(crate) fn settle_on<C: Cells, O: Observer<C>>(
+/// As `settle`, from the `round` on that the moves were asked in: `goal` starts where its first one did.
+pub(crate) fn settle_on<C: Cells, O: RootPeers<C>>(
     moves: &mut RootMoves,
-    quest: Quest,
+    goal: RootGoal,
     round: &mut Round,
     cells: &mut C,
-    observer: &mut O,
+    peers: &mut O,
 )
     ensures root { moves.new ≡ moves.old }
     ensures fixed { C.fixed cells.new ≡ C.fixed cells.old }
 {
-    lead_on(moves, round, cells, observer);
+    find_first_bound_from(moves, round, cells, peers);
     let leader = moves.leader();
-    settle_at(moves, leader, quest, cells, observer);
+    settle_at(moves, leader, goal, cells, peers);
     for place in 0..moves.len() {
-        settle_at(moves, place, quest, cells, observer);
+        settle_at(moves, place, goal, cells, peers);
     }
 }
 
 /// Asks the boards after the moves at the threshold `first`, and while all are above it at higher ones, until an upper
-/// bound below 64 is known of one or the search is over. Returns the threshold of that round, or after `LEAD_ROUNDS`
-/// rounds the one that would come next.
-pub fn lead<C: Cells, O: Observer<C>>(
+/// bound below 64 is known of one or the search is over. Returns the threshold of that round, or after
+/// `FIRST_BOUND_ROUNDS` rounds the one that would come next.
+pub fn find_first_bound<C: Cells, O: RootPeers<C>>(
     moves: &mut RootMoves,
     first: i8,
     cells: &mut C,
-    observer: &mut O,
+    peers: &mut O,
 ) -> i8
     requires { IsThreshold first }
     ensures threshold { IsThreshold result }
@@ -128,22 +124,22 @@ pub fn lead<C: Cells, O: Observer<C>>(
     ensures fixed { C.fixed cells.new ≡ C.fixed cells.old }
 {
     let mut round = Round::first(first);
-    lead_on(moves, &mut round, cells, observer);
+    find_first_bound_from(moves, &mut round, cells, peers);
     round.at
 }
 
-// As `lead`, from this round on. Leaves the round that ended it.
-fn lead_on<C: Cells, O: Observer<C>>(
+// As `find_first_bound`, from this round on. Leaves the round that ended it.
+fn find_first_bound_from<C: Cells, O: RootPeers<C>>(
     moves: &mut RootMoves,
     round: &mut Round,
     cells: &mut C,
-    observer: &mut O,
+    peers: &mut O,
 )
     ensures root { moves.new ≡ moves.old }
     ensures fixed { C.fixed cells.new ≡ C.fixed cells.old }
 {
-    for _ in 0..LEAD_ROUNDS {
-        if ask_all(moves, round.at, cells, observer) {
+    for _ in 0..FIRST_BOUND_ROUNDS {
+        if ask_all(moves, round.at, cells, peers) {
             return;
         }
         *round = round.after(least_lower(moves));
@@ -180,14 +176,14 @@ impl Round {
     {
         Round {
             first: self.first,
-            at: raised(least, self.pace.step - 1),
+            at: threshold_above(least, self.pace.step - 1),
             pace: self.pace.after(true),
         }
     }
 }
 
 // The threshold `step` above this score, at most 63.
-fn raised(least: i8, step: i8) -> i8
+fn threshold_above(least: i8, step: i8) -> i8
     requires least { IsScore least }
     requires shortest { pos 0 ≤ℤ step }
     requires longest { step ≤ℤ pos 63 }
@@ -198,120 +194,123 @@ fn raised(least: i8, step: i8) -> i8
 
 // Asks of each board after a move whether it has at most `most`, until an upper bound below 64 is known of one or the
 // search is over. Returns whether that came.
-fn ask_all<C: Cells, O: Observer<C>>(
+fn ask_all<C: Cells, O: RootPeers<C>>(
     moves: &mut RootMoves,
     most: i8,
     cells: &mut C,
-    observer: &mut O,
+    peers: &mut O,
 ) -> bool
     requires { IsThreshold most }
     ensures root { moves.new ≡ moves.old }
     ensures fixed { C.fixed cells.new ≡ C.fixed cells.old }
 {
     for place in 0..moves.len() {
-        if best(moves, observer) < 64 || observer.is_over(cells) {
+        if best(moves, peers) < 64 || peers.is_over(cells) {
             return true;
         }
-        let Some(known) = heard(moves, place, cells, observer) else {
+        let Some(known) = heard(moves, place, cells, peers) else {
             continue;
         };
         if known.child.interval.lower <= most {
-            observer.before(&known);
-            let found = observer.decide(&known, most, cells);
+            peers.before(&known);
+            let found = peers.decide(&known, most, cells);
             moves.narrow(place, &found);
-            observer.after(&known, &*moves);
+            peers.after(&known, &*moves);
         }
     }
-    best(moves, observer) < 64 || observer.is_over(cells)
+    best(moves, peers) < 64 || peers.is_over(cells)
 }
 
 // The move at `place`, if there is one, with what is known of the board after it by now, whoever found it.
-fn heard<C: Cells, O: Observer<C>>(
+fn heard<C: Cells, O: RootPeers<C>>(
     moves: &mut RootMoves,
     place: usize,
     cells: &mut C,
-    observer: &mut O,
+    peers: &mut O,
 ) -> Option<RootMove>
     ensures root { moves.new ≡ moves.old }
     ensures fixed { C.fixed cells.new ≡ C.fixed cells.old }
 {
     let known = moves.get(place)?;
-    let told = observer.hear(&known.child, cells);
+    let told = peers.hear(&known.child, cells);
     moves.narrow(place, &told);
     moves.get(place)
 }
 
 /// Narrows the bounds of the board after the move at `place` until it is exact or worse than the best, or nobody needs
-/// it. The observer hears of it, unless nothing is to be searched.
-pub fn settle_at<C: Cells, O: Observer<C>>(
+/// it. The peers hear of it, unless nothing is to be searched.
+pub fn settle_at<C: Cells, O: RootPeers<C>>(
     moves: &mut RootMoves,
     place: usize,
-    quest: Quest,
+    goal: RootGoal,
     cells: &mut C,
-    observer: &mut O,
+    peers: &mut O,
 )
     ensures root { moves.new ≡ moves.old }
     ensures fixed { C.fixed cells.new ≡ C.fixed cells.old }
 {
-    if observer.is_over(cells) {
+    if peers.is_over(cells) {
         return;
     }
-    let Some(known) = heard(moves, place, cells, observer) else {
+    let Some(known) = heard(moves, place, cells, peers) else {
         return;
     };
-    let best = best(moves, observer);
-    if known.child.is_settled(quest.bar(best)) || observer.is_done(known.square) {
+    let best = best(moves, peers);
+    if known.child.is_settled(goal.threshold(best)) || peers.is_done(known.square) {
         return;
     }
-    observer.before(&known);
-    pursue(moves, place, quest, cells, observer);
-    observer.after(&known, &*moves);
+    peers.before(&known);
+    settle_by_null_windows(moves, place, goal, cells, peers);
+    peers.after(&known, &*moves);
 }
 
 // Narrows the bounds of the board after the move at `place`, by one null window after the other, as `settle_at`
-// promises. Gives up after `MOST_IN_VAIN` null windows that told nothing new.
-fn pursue<C: Cells, O: Observer<C>>(
+// promises. Gives up after `MOST_FRUITLESS` null windows that told nothing new.
+fn settle_by_null_windows<C: Cells, O: RootPeers<C>>(
     moves: &mut RootMoves,
     place: usize,
-    quest: Quest,
+    goal: RootGoal,
     cells: &mut C,
-    observer: &mut O,
+    peers: &mut O,
 )
     ensures root { moves.new ≡ moves.old }
     ensures fixed { C.fixed cells.new ≡ C.fixed cells.old }
 {
     let mut pace = Pace::new();
     // The best upper bound of the others when the board was last compared with it. Steps widen only below it.
-    let mut edge = 65;
-    let mut vain = 0u8;
+    let mut others_best = 65;
+    let mut fruitless = 0u8;
     for _ in 0..MOST_QUESTIONS {
         let Some(known) = moves.get(place) else {
             return;
         };
         let bounds = known.child.interval;
-        let best = best(moves, observer);
-        let bar = quest.bar(best);
-        if vain == MOST_IN_VAIN || known.child.is_settled(bar) || observer.is_done(known.square) {
+        let best = best(moves, peers);
+        let threshold = goal.threshold(best);
+        if fruitless == MOST_FRUITLESS
+            || known.child.is_settled(threshold)
+            || peers.is_done(known.square)
+        {
             return;
         }
         let is_behind = bounds.upper > best;
         let alpha = if is_behind {
-            bar
+            threshold
         } else {
-            observer.next(bounds, quest.start, pace)
+            peers.next(bounds, goal.start, pace)
         };
-        let found = observer.decide(&known, alpha, cells);
+        let found = peers.decide(&known, alpha, cells);
         moves.narrow(place, &found);
-        if observer.is_over(cells) {
+        if peers.is_over(cells) {
             return;
         }
         if is_behind {
-            edge = best;
-        } else if bounds.upper < edge {
+            others_best = best;
+        } else if bounds.upper < others_best {
             pace = pace.after(leads_on(bounds, found.interval));
         }
         if found.interval == bounds {
-            vain = vain.saturating_add(1);
+            fruitless = fruitless.saturating_add(1);
         }
     }
 }
@@ -322,10 +321,10 @@ fn leads_on(before: Interval, after: Interval) -> bool {
 }
 
 // The least upper bound that is known of a board after a move, whoever searched it, or that the root's bound gives.
-fn best<C: Cells, O: Observer<C>>(moves: &RootMoves, observer: &mut O) -> i8
+fn best<C: Cells, O: RootPeers<C>>(moves: &RootMoves, peers: &mut O) -> i8
     ensures { IsScore result }
 {
-    observer.best(-moves.best())
+    peers.best(-moves.best())
 }
 
 // The least lower bound of the boards after the moves.

@@ -1,11 +1,11 @@
-//! The shared search: null windows over a tree that several workers search, with the hooks of `Company` at each node. A
-//! child that another worker is at is deferred, as in ABDADA (J.-C. Weill, The ABDADA distributed minimax search
-//! algorithm, 1996), and a search that is of no more use is given up.
+//! The shared search: null windows over a tree that several workers search, with the hooks of `TreePeers` at each
+//! node. A child that another worker is at is deferred, as in ABDADA (J.-C. Weill, The ABDADA distributed minimax
+//! search algorithm, 1996), and a search that is of no more use is given up.
 ghost use Rattle.std.specs.Prelude.{◌≡◌, pos, negsuc, ◌≤ℤ◌, true, false};
 ghost use Rattle.oth_rules.specs.Move.{can_move, after};
 ghost use Rattle.oth_search.specs.Bounds.Squares.{In};
 
-use super::company::Company;
+use super::tree_peers::TreePeers;
 use crate::bounds::{BackedUp, Cells, Entry, Interval, NullWindow, Solved, first, holds, without};
 use crate::root::MOST_EMPTIES;
 use crate::tuning::{LAST_MOVE_ROUND, MOVE_ROUNDS};
@@ -14,11 +14,11 @@ use oth_rules::{Board, Square};
 impl Solved {
     /// The board with closer bounds, by a shared search of its moves, which takes no memory. They decide the window
     /// unless the search is given up.
-    pub fn narrowed_in<C: Cells, H: Company<C>>(
+    pub fn narrowed_by_abdada<C: Cells, H: TreePeers<C>>(
         &self,
         window: NullWindow,
         cells: &mut C,
-        company: &mut H,
+        peers: &mut H,
     ) -> Solved
         ensures board { result.board ≡ self.now.board }
         ensures scoring { result.scoring ≡ self.now.scoring }
@@ -30,52 +30,52 @@ impl Solved {
             return *self;
         }
         let unknown = Solved::unknown(self.board, self.scoring);
-        self.joined(&narrow(&unknown, window, MOST_EMPTIES, cells, company))
+        self.joined(&abdada(&unknown, window, MOST_EMPTIES, cells, peers))
     }
 }
 
-// Bounds of the board's value, by a shared search at most `plies` plies deep. They decide the window as `narrowed_in`
-// says.
-#[cycle(narrowing)]
-fn narrow<C: Cells, H: Company<C>>(
+// Bounds of the board's value, by a shared search at most `plies` plies deep. They decide the window as
+// `narrowed_by_abdada` says.
+#[cycle(abdada)]
+fn abdada<C: Cells, H: TreePeers<C>>(
     asked: &Solved,
     window: NullWindow,
     plies: u8,
     cells: &mut C,
-    company: &mut H,
+    peers: &mut H,
 ) -> Solved
     ensures board { result.board ≡ asked.now.board }
     ensures scoring { result.scoring ≡ asked.now.scoring }
     ensures fixed { C.fixed cells.new ≡ C.fixed cells.old }
 {
     let board = asked.board;
-    if plies == 0 || board.empties() < company.fewest() {
+    if plies == 0 || board.empties() < peers.fewest() {
         return window.search(&board, cells, asked.scoring);
     }
     if !board.can_move() {
-        return narrow_past(asked, window, plies - 1, cells, company);
+        return abdada_past(asked, window, plies - 1, cells, peers);
     }
     let known = Solved::looked_up(&board, cells, asked.scoring);
     if window.is_decided(known.interval) {
         return known;
     }
-    let depth = company.enter(&board, window);
-    let found = narrow_moves(asked, window, plies - 1, cells, company);
-    company.leave(depth);
+    let depth = peers.enter(&board, window);
+    let found = abdada_moves(asked, window, plies - 1, cells, peers);
+    peers.leave(depth);
     if window.is_decided(found.interval) {
         return found;
     }
     found.joined(&Solved::looked_up(&board, cells, asked.scoring))
 }
 
-// As `narrow`, of a board whose mover has no move.
-#[cycle(narrowing)]
-fn narrow_past<C: Cells, H: Company<C>>(
+// As `abdada`, of a board whose mover has no move.
+#[cycle(abdada)]
+fn abdada_past<C: Cells, H: TreePeers<C>>(
     asked: &Solved,
     window: NullWindow,
     plies: u8,
     cells: &mut C,
-    company: &mut H,
+    peers: &mut H,
 ) -> Solved
     requires { can_move asked.now.board ≡ false }
     ensures board { result.board ≡ asked.now.board }
@@ -88,25 +88,25 @@ fn narrow_past<C: Cells, H: Company<C>>(
         return window.search(&board, cells, asked.scoring);
     }
     let after = Solved::unknown(passed, asked.scoring);
-    narrow(&after, window.turned(), plies, cells, company).before_pass(&board)
+    abdada(&after, window.turned(), plies, cells, peers).before_pass(&board)
 }
 
 // A board while its moves are searched.
 #[derive(Drop)]
-struct Node {
+struct OpenNode {
     window: NullWindow,
     // How many more moves are searched even if another worker is at them, and whether later ones may be deferred.
-    together: usize,
-    leaves: bool,
+    undeferred: usize,
+    defers: bool,
     // What the moves searched so far tell, and the first of the best among them.
     searched: BackedUp,
     best: Option<Square>,
 }
 
-impl Node {
+impl OpenNode {
     // Whether the search of this child may be deferred.
-    fn may_leave(&self, child: &Board, fewest: u8) -> bool {
-        self.leaves && (child.empties() < fewest || self.together == 0)
+    fn may_defer(&self, child: &Board, fewest: u8) -> bool {
+        self.defers && (child.empties() < fewest || self.undeferred == 0)
     }
 
     // Takes in the bounds of the board after a move.
@@ -120,19 +120,19 @@ impl Node {
         if self.best.is_none() || -upper_of(reply) > self.searched.lower {
             self.best = Some(square);
         }
-        self.together = self.together.saturating_sub(1);
+        self.undeferred = self.undeferred.saturating_sub(1);
         self.searched = self.searched.with(square, reply);
     }
 }
 
 // Bounds of the board's value by its moves, each of which is searched at most `plies` plies deep.
-#[cycle(narrowing)]
-fn narrow_moves<C: Cells, H: Company<C>>(
+#[cycle(abdada)]
+fn abdada_moves<C: Cells, H: TreePeers<C>>(
     asked: &Solved,
     window: NullWindow,
     plies: u8,
     cells: &mut C,
-    company: &mut H,
+    peers: &mut H,
 ) -> Solved
     requires { can_move asked.now.board ≡ true }
     ensures board { result.board ≡ asked.now.board }
@@ -142,17 +142,17 @@ fn narrow_moves<C: Cells, H: Company<C>>(
     if let Some(found) = decided_by_child(asked, window, cells) {
         return asked.joined(&found);
     }
-    let squares = company.order(&asked.board);
-    let mut node = Node {
+    let squares = peers.order(&asked.board);
+    let mut node = OpenNode {
         window,
-        together: company.together(asked.board.empties()),
-        leaves: true,
+        undeferred: peers.undeferred(asked.board.empties()),
+        defers: true,
         searched: BackedUp::of(asked.board, asked.scoring),
         best: None,
     };
     for round in 0..MOVE_ROUNDS {
-        node.leaves = round < LAST_MOVE_ROUND;
-        if let Some(found) = visit_all(&mut node, squares.as_slice(), plies, cells, company) {
+        node.defers = round < LAST_MOVE_ROUND;
+        if let Some(found) = visit_all(&mut node, squares.as_slice(), plies, cells, peers) {
             return asked.joined(&found);
         }
     }
@@ -160,7 +160,7 @@ fn narrow_moves<C: Cells, H: Company<C>>(
     put(&solved, cells);
     if let Some(best) = node.best {
         if solved.interval.lower == solved.interval.upper {
-            company.prefer(&solved.board, best);
+            peers.prefer(&solved.board, best);
         }
     }
     solved
@@ -185,20 +185,20 @@ fn decided_by_child<C: Cells>(asked: &Solved, window: NullWindow, cells: &mut C)
 
 // Makes one round through the moves not searched yet. Returns bounds of the board once no further move is to be
 // searched.
-#[cycle(narrowing)]
-fn visit_all<C: Cells, H: Company<C>>(
-    node: &mut Node,
+#[cycle(abdada)]
+fn visit_all<C: Cells, H: TreePeers<C>>(
+    node: &mut OpenNode,
     squares: &[Square],
     plies: u8,
     cells: &mut C,
-    company: &mut H,
+    peers: &mut H,
 ) -> Option<Solved>
     ensures board { node.new.searched.board ≡ node.old.searched.board }
     ensures scoring { node.new.searched.scoring ≡ node.old.searched.scoring }
     ensures fixed { C.fixed cells.new ≡ C.fixed cells.old }
 {
     for square in squares {
-        let found = visit(node, *square, plies, cells, company);
+        let found = visit(node, *square, plies, cells, peers);
         if found.is_some() {
             return found;
         }
@@ -208,13 +208,13 @@ fn visit_all<C: Cells, H: Company<C>>(
 
 // Searches one move, unless it is deferred. Returns bounds of the board if no further move is to be searched: after a
 // cutoff, or all scores if the search is given up.
-#[cycle(narrowing)]
-fn visit<C: Cells, H: Company<C>>(
-    node: &mut Node,
+#[cycle(abdada)]
+fn visit<C: Cells, H: TreePeers<C>>(
+    node: &mut OpenNode,
     square: Square,
     plies: u8,
     cells: &mut C,
-    company: &mut H,
+    peers: &mut H,
 ) -> Option<Solved>
     ensures board { node.new.searched.board ≡ node.old.searched.board }
     ensures scoring { node.new.searched.scoring ≡ node.old.searched.scoring }
@@ -225,19 +225,19 @@ fn visit<C: Cells, H: Company<C>>(
     }
     let BackedUp { board, scoring, .. } = node.searched;
     let child = board.play_legal(square);
-    if node.may_leave(&child, company.fewest()) && company.is_left(&child) {
+    if node.may_defer(&child, peers.fewest()) && peers.is_deferred(&child) {
         return None;
     }
-    company.begin(&child);
+    peers.begin(&child);
     let asked = Solved::unknown(child, scoring);
-    let solved = narrow(&asked, node.window.turned(), plies, cells, company);
-    company.end(&solved);
+    let solved = abdada(&asked, node.window.turned(), plies, cells, peers);
+    peers.end(&solved);
     if node.window.is_reached(-upper_of(&solved)) {
-        company.prefer(&board, square);
+        peers.prefer(&board, square);
         return Some(lifted(&board, square, &solved, cells));
     }
     node.take(square, &solved);
-    if company.gives_up(&child, cells) {
+    if peers.gives_up(&child, cells) {
         return Some(Solved::unknown(board, scoring));
     }
     None

@@ -6,12 +6,12 @@ ghost use Rattle.oth_rules.specs.Move.{can_move};
 ghost use Rattle.oth_rules.specs.Symmetry.{IsCanonical};
 ghost use Rattle.oth_search.specs.Bounds.Full.{IsFullMinimax};
 
-use super::company::Company;
 use super::flag::StopFlag;
 use super::seen::{Begun, Seen};
+use super::tree_peers::TreePeers;
 use crate::bounds::{Answer, Cells, Entry, Interval, NullWindow, Solved};
 use crate::root::{
-    Observer, Pace, Quest, RootMove, RootMoves, Round, before_pass, best_moves, ended,
+    Pace, RootGoal, RootMove, RootMoves, RootPeers, Round, before_pass, best_moves, ended,
     first_threshold, settle_on,
 };
 use crate::tuning::STOP_MIN_EMPTIES;
@@ -25,7 +25,7 @@ use thiserror::Error;
 pub struct Limited<C> {
     /// Where boards are looked up and stored.
     pub cells: C,
-    /// How many boards may still be looked up, by `look` and `recall` together.
+    /// How many boards may still be looked up, by `look` and `probe_local` together.
     pub left: u64,
     // What an earlier search had come to.
     seen: Seen,
@@ -112,22 +112,22 @@ impl<C: Cells> Cells for Limited<C> {
         self.cells.put(entry);
     }
 
-    fn remembers(&self, empties: u8) -> bool {
-        self.cells.remembers(empties)
+    fn keeps_local(&self, empties: u8) -> bool {
+        self.cells.keeps_local(empties)
     }
 
     /// Recalls the board from the cells, which takes one from what is left.
-    fn recall(&mut self, board: &Board, scoring: Scoring) -> Option<Solved>
+    fn probe_local(&mut self, board: &Board, scoring: Scoring) -> Option<Solved>
         ensures asked { IfSome result (λ s. (s.board ≡ board.now) × (s.scoring ≡ scoring)) }
         ensures fixed { C.fixed self.new.cells ≡ C.fixed self.old.cells }
         ensures one { self.new.left ≡ self.old.left - 1 }
     {
         self.count();
-        self.cells.recall(board, scoring)
+        self.cells.probe_local(board, scoring)
     }
 
-    fn remember(&mut self, solved: &Solved) {
-        self.cells.remember(solved);
+    fn store_local(&mut self, solved: &Solved) {
+        self.cells.store_local(solved);
     }
 }
 
@@ -150,7 +150,7 @@ impl<'s> UntilEnded<'s> {
     }
 }
 
-impl<'s, C: Cells> Company<Limited<C>> for UntilEnded<'s> {
+impl<'s, C: Cells> TreePeers<Limited<C>> for UntilEnded<'s> {
     fn fewest(&self) -> u8 {
         STOP_MIN_EMPTIES
     }
@@ -165,13 +165,13 @@ impl<'s, C: Cells> Company<Limited<C>> for UntilEnded<'s> {
     }
 }
 
-impl<'s, C: Cells> Observer<Limited<C>> for UntilEnded<'s> {
+impl<'s, C: Cells> RootPeers<Limited<C>> for UntilEnded<'s> {
     fn decide(&mut self, known: &RootMove, alpha: i8, cells: &mut Limited<C>) -> Solved {
         let child = known.child;
         if child.interval.decides(alpha, alpha + 1) {
             return child;
         }
-        child.narrowed_in(NullWindow::at(alpha + 1), cells, self)
+        child.narrowed_by_abdada(NullWindow::at(alpha + 1), cells, self)
     }
 
     // By the bounds alone, so that a search that goes on asks as the ended one did.
@@ -286,11 +286,11 @@ fn solve_moves_until<C: Cells>(
         mut moves,
         mut round,
     } = begun;
-    let quest = Quest {
+    let goal = RootGoal {
         start: round.first,
         tells_ties: true,
     };
-    settle_on(&mut moves, quest, &mut round, cells, &mut driver);
+    settle_on(&mut moves, goal, &mut round, cells, &mut driver);
     let is_guessed = !driver.is_ended;
     cells.seen = driver.into_seen();
     if cells.left == 0 {

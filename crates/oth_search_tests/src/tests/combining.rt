@@ -1,7 +1,7 @@
 //! What the values of all boards some plies below a board tell of it, where a side passes on the way.
 
 use oth_rules::{Board, Scoring, Square};
-use oth_search::{NoCells, Solved, known_below};
+use oth_search::{NoCells, Solved, backed_up_from};
 use std::alloc::Global;
 use std::test::Fail;
 
@@ -43,7 +43,7 @@ fn told_by(alloc: Global, root: Board, plies: u8, boards: &[Board]) -> Option<[i
         let solved = Solved::by_search(board, -65, 65, &mut NoCells, Scoring::Winner);
         known.push(solved).ok()?;
     }
-    let told = known_below(root, plies, known.as_slice(), Scoring::Winner).interval;
+    let told = backed_up_from(root, plies, known.as_slice(), Scoring::Winner).interval;
     Some([told.lower, told.upper])
 }
 

@@ -219,13 +219,13 @@ impl Cells for Counted {
 
     fn put(&mut self, _entry: &Entry) {}
 
-    fn recall(&mut self, board: &Board, scoring: Scoring) -> Option<Solved> {
+    fn probe_local(&mut self, board: &Board, scoring: Scoring) -> Option<Solved> {
         self.recalled = self.recalled.wrapping_add(1);
-        self.memo.recall(board, scoring)
+        self.memo.probe_local(board, scoring)
     }
 
-    fn remember(&mut self, solved: &Solved) {
-        self.memo.remember(solved);
+    fn store_local(&mut self, solved: &Solved) {
+        self.memo.store_local(solved);
     }
 }
 

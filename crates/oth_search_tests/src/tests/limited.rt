@@ -110,7 +110,7 @@ impl<'s> Cells for Stopping<'s> {
 
     fn put(&mut self, _entry: &Entry) {}
 
-    fn recall(&mut self, _board: &Board, _scoring: Scoring) -> Option<Solved> {
+    fn probe_local(&mut self, _board: &Board, _scoring: Scoring) -> Option<Solved> {
         self.count();
         None
     }
@@ -165,7 +165,7 @@ impl Kept {
     {
         self.asked = self.asked.wrapping_add(1);
         match &self.table {
-            Some(table) => table.recall(board, scoring),
+            Some(table) => table.probe_local(board, scoring),
             None => None,
         }
     }
@@ -183,11 +183,11 @@ impl Cells for Kept {
 
     fn put(&mut self, entry: &Entry) {
         if let Some(table) = &mut self.table {
-            table.remember(&entry.solved());
+            table.store_local(&entry.solved());
         }
     }
 
-    fn recall(&mut self, _board: &Board, _scoring: Scoring) -> Option<Solved> {
+    fn probe_local(&mut self, _board: &Board, _scoring: Scoring) -> Option<Solved> {
         self.asked = self.asked.wrapping_add(1);
         None
     }

@@ -4,7 +4,7 @@ ghost use Rattle.std.specs.Prelude.{◌≡◌};
 use super::board_of;
 use oth_rules::{Board, Scoring};
 use oth_search::{
-    Cells, Entry, NoCells, RootMoves, Solved, Unobserved, settle_moves, solve_alone, solve_moves,
+    Cells, Entry, NoCells, NoPeers, RootMoves, Solved, settle_moves, solve_alone, solve_moves,
 };
 use std::test::Fail;
 
@@ -31,10 +31,10 @@ impl Cells for Counted {
 fn searches_no_reply_that_is_settled(rt: HostRuntime) -> Result<(), Fail> {
     let board = board_of(&rt, [0xd470_0405_47e5_dd00, 0x0205_7a18_b81a_22fc]);
     let mut moves = RootMoves::of(&Solved::unknown(board, Scoring::Winner), &[]);
-    settle_moves(&mut moves, &mut NoCells, &mut Unobserved);
+    settle_moves(&mut moves, &mut NoCells, &mut NoPeers);
     assert!(rt; moves.len() == board.moves().count_ones() as usize);
     let mut cells = Counted { looks: 0 };
-    settle_moves(&mut moves, &mut cells, &mut Unobserved);
+    settle_moves(&mut moves, &mut cells, &mut NoPeers);
     assert!(rt; cells.looks == 0);
     let mut least = 64;
     for root_move in moves.as_slice() {
@@ -53,7 +53,7 @@ fn answers_by_replies_that_are_settled(rt: HostRuntime) -> Result<(), Fail> {
     let board = board_of(&rt, [0xd470_0405_47e5_dd00, 0x0205_7a18_b81a_22fc]);
     let root = Solved::unknown(board, Scoring::Winner);
     let mut settled = RootMoves::of(&root, &[]);
-    settle_moves(&mut settled, &mut NoCells, &mut Unobserved);
+    settle_moves(&mut settled, &mut NoCells, &mut NoPeers);
     let mut known = [Solved::default(); 64];
     for place in 0..settled.len() {
         if let Some(root_move) = settled.get(place) {
@@ -65,7 +65,7 @@ fn answers_by_replies_that_are_settled(rt: HostRuntime) -> Result<(), Fail> {
         panic!(rt; "no move")
     }
     let moves = RootMoves::of(&root, known.as_slice());
-    let answer = solve_moves(moves, &mut cells, &mut Unobserved);
+    let answer = solve_moves(moves, &mut cells, &mut NoPeers);
     assert!(rt; cells.looks == 0);
     assert!(rt; answer.score == -4);
     Ok(())

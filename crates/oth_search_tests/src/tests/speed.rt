@@ -5,7 +5,7 @@ use super::board_of;
 use super::keeping::Counted;
 use oth_rules::{Board, Scoring, Square};
 use oth_search::{
-    Cells, Entry, LocalTable, NoCells, RootMoves, Solved, Unobserved, first_threshold, search,
+    Cells, Entry, LocalTable, NoCells, NoPeers, RootMoves, Solved, first_threshold, search,
     solve_with,
 };
 use std::test::Fail;
@@ -56,7 +56,7 @@ fn a_guess_is_of_the_movers_side(rt: HostRuntime) -> Result<(), Fail> {
 fn guessed_score(board: Board) -> i8 {
     let root = Solved::unknown(board, Scoring::Winner);
     let mut moves = RootMoves::of(&root, &[]);
-    -first_threshold(&mut moves, &mut NoCells, &mut Unobserved)
+    -first_threshold(&mut moves, &mut NoCells, &mut NoPeers)
 }
 
 /// Keeps nothing but the board that is looked up first after the root.

@@ -6,7 +6,7 @@ use super::announced::Announced;
 use super::announcer::Announcer;
 use super::gate::Gate;
 use oth_rules::Board;
-use oth_search::{Cells, Hearer, Observer, RootMove, RootMoves, Solved};
+use oth_search::{Cells, Hearer, RootMove, RootMoves, RootPeers, Solved};
 
 /// The only worker of a search, which tells a gate of the items that it searches, and how far it is.
 #[derive(Drop)]
@@ -37,7 +37,7 @@ fn known_of(moves: &RootMoves) -> (Solved, u64) {
     (root, settled)
 }
 
-impl<'g, G: Gate, C: Cells> Observer<C> for Alone<'g, G> {
+impl<'g, G: Gate, C: Cells> RootPeers<C> for Alone<'g, G> {
     fn after(&mut self, _root_move: &RootMove, moves: &RootMoves) {
         if self.gate.follows() {
             let (root, settled) = known_of(moves);

@@ -8,7 +8,7 @@ use oth_search::Solved;
 /// settle their move of the root, come last, with nothing between the two calls. A search that opens an item again
 /// isn't announced, nor is a guess of the root's score, which settles nothing.
 ///
-/// Who is about to search an item while another thread is in `before` of it waits a little, but not for a gate that
+/// Whoever is about to search an item while another thread is in `before` of it waits a little, but not for a gate that
 /// takes long. No answer depends on what a gate does. The other calls do nothing by default.
 pub trait Gate: Sync {
     /// The search of the item of this number is about to begin, in the calling thread.

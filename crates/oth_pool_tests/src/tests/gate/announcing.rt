@@ -12,7 +12,7 @@ use super::noting::are_few_searched;
 use oth_pool::{Frontier, Gate, Open, run_workers};
 use oth_rules::samples::least_moves_from;
 use oth_rules::{Board, Scoring};
-use oth_search::known_below;
+use oth_search::backed_up_from;
 use oth_table::TableCells;
 use std::process::Abort;
 use std::sync::atomic::{AtomicU64, Ordering};
@@ -184,7 +184,7 @@ fn bounds_by<'t, R: Threads + Sync + AllocGlobal + Abort>(
     for reply in found.replies.as_slice() {
         let _ = replies.push(reply.solved);
     }
-    let told = known_below(*root, 2, replies.as_slice(), Scoring::Winner);
+    let told = backed_up_from(*root, 2, replies.as_slice(), Scoring::Winner);
     (floor.read(&mut seat), told.interval.lower)
 }
 

@@ -62,7 +62,7 @@ impl<'n> Cells for Noting<'n> {
         self.note(&entry.solved().board);
     }
 
-    fn remember(&mut self, solved: &Solved) {
+    fn store_local(&mut self, solved: &Solved) {
         self.note(&solved.board);
     }
 }

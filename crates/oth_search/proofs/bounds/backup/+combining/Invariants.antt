@@ -1,8 +1,8 @@
 use Rattle.std.proofs.Common.{◌≡◌, ◌+◌, ◌*◌}
 use Rattle.oth_search.proofs.bounds.backup.+combining.Given as goal
 
-abbrev pub decreases-known_below : goal.decreases-known_below
-decreases-known_below l = 2 * l.plies + 1
+abbrev pub decreases-backed_up_from : goal.decreases-backed_up_from
+decreases-backed_up_from l = 2 * l.plies + 1
 
 abbrev pub decreases-known_by_moves : goal.decreases-known_by_moves
 decreases-known_by_moves l = 2 * l.plies

@@ -13,52 +13,52 @@ use Rattle.oth_search.proofs.BoundsLemmas.Replies.{BoundsAt-reply, BoundsAt-cut,
 use Rattle.oth_search.proofs.BoundsLemmas.Replies.{ReplyLoop-end, NoneAbove-moves, can_move-from_moves, can_move-from_none, fewer_after, same_after_pass}
 use Rattle.oth_search.proofs.nws.deep.+deep.Goals as goal
 
-pub nws_kept-known-known-requires : goal.nws_kept-known-known-requires
-nws_kept-known-known-requires g t c = IsCanonical-canonical c.args.node.board c.canonical.result.0 c.canonical.ensures.board
+pub nws_kept-by_table-known-requires : goal.nws_kept-by_table-known-requires
+nws_kept-by_table-known-requires g t c = IsCanonical-canonical c.args.node.board c.canonical.result.0 c.canonical.ensures.board
 
 pub nws_kept-returns-then-known-alpha-clause-value : goal.nws_kept-returns-then-known-alpha-clause-value
 nws_kept-returns-then-known-alpha-clause-value g t c =
-    let k = c.known-known.result in
+    let k = c.by_table-known.result in
     BoundsAt-lower _ c.args.alpha k.interval.lower k.interval.upper _
-    (Encloses-known c.args.scoring k.scoring c.args.node.board c.canonical.result.0 k.board _ _ c.canonical.ensures.board c.known-known.ensures.board c.known-known.ensures.scoring k.encloses)
+    (Encloses-known c.args.scoring k.scoring c.args.node.board c.canonical.result.0 k.board _ _ c.canonical.ensures.board c.by_table-known.ensures.board c.by_table-known.ensures.scoring k.encloses)
     k.interval.is_interval
     (read-lower k.interval.lower k.interval.upper k.interval.is_interval)
     (omega (arith, ints, c.if-known-alpha.true))
 
 pub nws_kept-returns-then-known-alpha-2-clause-value : goal.nws_kept-returns-then-known-alpha-2-clause-value
 nws_kept-returns-then-known-alpha-2-clause-value g t c =
-    let k = c.known-known.result in
+    let k = c.by_table-known.result in
     BoundsAt-upper _ c.args.alpha k.interval.lower k.interval.upper _
-    (Encloses-known c.args.scoring k.scoring c.args.node.board c.canonical.result.0 k.board _ _ c.canonical.ensures.board c.known-known.ensures.board c.known-known.ensures.scoring k.encloses)
+    (Encloses-known c.args.scoring k.scoring c.args.node.board c.canonical.result.0 k.board _ _ c.canonical.ensures.board c.by_table-known.ensures.board c.by_table-known.ensures.scoring k.encloses)
     k.interval.is_interval
     (read-upper k.interval.lower k.interval.upper k.interval.is_interval)
     (omega (arith, ints, c.if-known-alpha-2.true))
 
 pub nws_kept-narrowed-requires : goal.nws_kept-narrowed-requires
 nws_kept-narrowed-requires g t c =
-    let k = c.known-known.result in
+    let k = c.by_table-known.result in
     BoundsAt-same _ _ _ _ _ _
-    (value-known c.args.scoring k.scoring c.args.node.board c.canonical.result.0 k.board c.canonical.ensures.board c.known-known.ensures.board c.known-known.ensures.scoring)
+    (value-known c.args.scoring k.scoring c.args.node.board c.canonical.result.0 k.board c.canonical.ensures.board c.by_table-known.ensures.board c.by_table-known.ensures.scoring)
     refl (to_z-of_z w8 c.nws_ordered-found.result (record { sfits = c.nws_ordered-found.type_inv })) c.nws_ordered-found.ensures.value
 
 pub nws_kept-canonical-requires-2 : goal.nws_kept-canonical-requires-2
 nws_kept-canonical-requires-2 g t c =
-    IsCanonical-canonical c.args.node.board c.narrowed.result.board (c.narrowed.ensures.board ∙ c.known-known.ensures.board ∙ c.canonical.ensures.board)
+    IsCanonical-canonical c.args.node.board c.narrowed.result.board (c.narrowed.ensures.board ∙ c.by_table-known.ensures.board ∙ c.canonical.ensures.board)
 
 pub nws_remembered-returns-then-recalled-alpha-clause-value : goal.nws_remembered-returns-then-recalled-alpha-clause-value
 nws_remembered-returns-then-recalled-alpha-clause-value g t c =
-    let k = c.recalled-recalled.result in
+    let k = c.by_local_table-recalled.result in
     BoundsAt-lower _ c.args.alpha k.interval.lower k.interval.upper _
-    (Encloses-same c.args.scoring k.scoring c.args.node.board k.board _ _ c.recalled-recalled.ensures.board c.recalled-recalled.ensures.scoring k.encloses)
+    (Encloses-same c.args.scoring k.scoring c.args.node.board k.board _ _ c.by_local_table-recalled.ensures.board c.by_local_table-recalled.ensures.scoring k.encloses)
     k.interval.is_interval
     (read-lower k.interval.lower k.interval.upper k.interval.is_interval)
     (omega (arith, ints, c.if-recalled-alpha.true))
 
 pub nws_remembered-returns-then-recalled-alpha-2-clause-value : goal.nws_remembered-returns-then-recalled-alpha-2-clause-value
 nws_remembered-returns-then-recalled-alpha-2-clause-value g t c =
-    let k = c.recalled-recalled.result in
+    let k = c.by_local_table-recalled.result in
     BoundsAt-upper _ c.args.alpha k.interval.lower k.interval.upper _
-    (Encloses-same c.args.scoring k.scoring c.args.node.board k.board _ _ c.recalled-recalled.ensures.board c.recalled-recalled.ensures.scoring k.encloses)
+    (Encloses-same c.args.scoring k.scoring c.args.node.board k.board _ _ c.by_local_table-recalled.ensures.board c.by_local_table-recalled.ensures.scoring k.encloses)
     k.interval.is_interval
     (read-upper k.interval.lower k.interval.upper k.interval.is_interval)
     (omega (arith, ints, c.if-recalled-alpha-2.true))

@@ -30,8 +30,8 @@ loop-rest-init g c =
       among = λ s h. h;
     }
 
-pub loop-rest-preserved-then-is_left : goal.loop-rest-preserved-then-is_left
-loop-rest-preserved-then-is_left g c =
+pub loop-rest-preserved-then-is_deferred : goal.loop-rest-preserved-then-is_deferred
+loop-rest-preserved-then-is_deferred g c =
     let before = c.loop-rest.invariant in
     record {
       score = before.score;

@@ -39,8 +39,8 @@ loop-rest-preserved g c =
       scores = scored-more p by c.loop-rest.found.items _ _ c.loop-rest.invariant.scores c.push.ensures.items (record {
         legal = legal;
         score = scored-exactly p r.board by r.scoring c.first-square.result r.interval.lower r.interval.upper _
-            (c.exact-reply.ensures.board ∙ c.known_of-told.ensures.board ∙ c.play_legal-child.ensures)
-            (c.exact-reply.ensures.scoring ∙ c.known_of-told.ensures.scoring)
+            (c.exact-reply.ensures.board ∙ c.bounds_among-told.ensures.board ∙ c.play_legal-child.ensures)
+            (c.exact-reply.ensures.scoring ∙ c.bounds_among-told.ensures.scoring)
             r.encloses
             c.exact-reply.ensures.exact
             (omega (arith, ints));

@@ -13,5 +13,5 @@ loop-square-preserved c =
     let legal = FromPlace-legal c.args.root.now.board _ _ c.as_slice-square-items.ensures.value c.order-squares.ensures c.square-item.result
     (c.loop-square.square-index, omega arith, omega (arith, c.loop-square-test.true), search rules) in
     Listed-more _ c.as_slice-square-items.result.now c.loop-square.square-index c.loop-square.list.items _ _ c.loop-square.invariant (omega (arith, c.loop-square-test.true)) (search rules)
-    (record { legal = legal; board = c.known_of.ensures.board ∙ c.play_legal-board.ensures; scoring = c.known_of.ensures.scoring })
+    (record { legal = legal; board = c.bounds_among.ensures.board ∙ c.play_legal-board.ensures; scoring = c.bounds_among.ensures.scoring })
     c.push.ensures.items

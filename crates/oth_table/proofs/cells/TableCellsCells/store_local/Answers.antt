@@ -1,5 +1,5 @@
 use Rattle.std.proofs.Common.{rules}
-use Rattle.oth_table.proofs.cells.TableCellsCells.remember.Goals as goal
+use Rattle.oth_table.proofs.cells.TableCellsCells.store_local.Goals as goal
 
 pub returns-clause-unchanged : goal.returns-clause-unchanged
 returns-clause-unchanged c = search rules

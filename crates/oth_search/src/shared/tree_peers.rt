@@ -9,18 +9,18 @@ use oth_rules::{Board, Square};
 
 /// Hooks of the shared search: who is at a node, when to give up, which move order to use. The defaults are those of
 /// one worker. No answer depends on them.
-pub trait Company<C: Cells> {
+pub trait TreePeers<C: Cells> {
     /// Boards of fewer empty squares than this are searched to the end, and no hook is called there.
     fn fewest(&self) -> u8;
 
     /// How many of the first moves of a board of `empties` empty squares are searched even if another worker is at
     /// them. Where the children have fewer empty squares than `fewest`, each of them may be deferred.
-    fn together(&self, _empties: u8) -> usize {
+    fn undeferred(&self, _empties: u8) -> usize {
         64
     }
 
     /// Whether the board is deferred, since another worker is at it.
-    fn is_left(&mut self, _board: &Board) -> bool {
+    fn is_deferred(&mut self, _board: &Board) -> bool {
         false
     }
 

@@ -11,7 +11,7 @@ use oth_rules::{Board, Square};
 /// Hooks of the root driver, called in the thread that searches: they hear of the searches of the boards after a root's
 /// moves, tell what other workers found, and choose how such a board is searched. By default one worker searches alone,
 /// each null window to its end. No answer depends on them.
-pub trait Observer<C: Cells> {
+pub trait RootPeers<C: Cells> {
     /// A search of the board after this move is about to begin.
     fn before(&mut self, _root_move: &RootMove) {}
 
@@ -80,7 +80,7 @@ pub trait Observer<C: Cells> {
     {}
 
     /// During a first guess: whether the board is deferred, since another worker is at it.
-    fn is_left(&mut self, _board: &Board) -> bool {
+    fn is_deferred(&mut self, _board: &Board) -> bool {
         false
     }
 
@@ -103,8 +103,8 @@ pub trait Observer<C: Cells> {
     }
 }
 
-/// An observer that does nothing.
+/// The peers of a worker that searches alone: none.
 #[derive(Clone, Copy, Debug)]
-pub struct Unobserved;
+pub struct NoPeers;
 
-impl<C: Cells> Observer<C> for Unobserved {}
+impl<C: Cells> RootPeers<C> for NoPeers {}

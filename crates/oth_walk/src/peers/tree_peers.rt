@@ -1,4 +1,4 @@
-//! The peers of a worker as the `Company` of the search below a move (`shared/abdada` of `oth_search`).
+//! The peers of a worker as `TreePeers` of the search below a move (`shared/abdada` of `oth_search`).
 //!
 //! A worker marks the node that it searches, and defers a node that another has marked to a later round through the
 //! moves, so that workers part at once and meet again where only marked boards are left. What one finds the others
@@ -8,19 +8,19 @@
 //! lost), where bounds settle the move, or where the table decides one of the boards above.
 
 use super::Peers;
-use super::goal::Goal;
+use super::path_node::PathNode;
 use crate::announcing::Gate;
 use crate::tuning::{CHILDREN_TOGETHER, FEW_TOGETHER, KEPT_ORDER_MIN_EMPTIES};
 use arrayvec::ArrayVec;
 use oth_rules::{Board, Square};
-use oth_search::{Cells, Company, NullWindow, Solved};
+use oth_search::{Cells, NullWindow, Solved, TreePeers};
 
-impl<'w, G: Gate, C: Cells> Company<C> for Peers<'w, G> {
+impl<'w, G: Gate, C: Cells> TreePeers<C> for Peers<'w, G> {
     fn fewest(&self) -> u8 {
         self.shape.fewest
     }
 
-    fn together(&self, empties: u8) -> usize {
+    fn undeferred(&self, empties: u8) -> usize {
         if empties <= self.shape.dealt {
             FEW_TOGETHER
         } else {
@@ -29,7 +29,7 @@ impl<'w, G: Gate, C: Cells> Company<C> for Peers<'w, G> {
     }
 
     // Another worker seems to search the board, and this one could learn what it finds.
-    fn is_left(&mut self, board: &Board) -> bool {
+    fn is_deferred(&mut self, board: &Board) -> bool {
         self.shares() && self.hints.is_searched(board)
     }
 
@@ -51,22 +51,22 @@ impl<'w, G: Gate, C: Cells> Company<C> for Peers<'w, G> {
     }
 
     fn enter(&mut self, board: &Board, window: NullWindow) -> usize {
-        let depth = self.goals.len();
+        let depth = self.path.len();
         if self.shares() {
             let (image, _) = board.canonical();
-            let _ = self.goals.push(Goal { image, window });
+            let _ = self.path.push(PathNode { image, window });
         }
         depth
     }
 
     fn leave(&mut self, depth: usize) {
-        self.goals.truncate(depth);
+        self.path.truncate(depth);
     }
 
     // The floor has risen, the root's move is settled, or the table decides one of the searches under way. Without a
     // shared table a search goes on at a higher floor: what it has found by now would be lost.
     fn gives_up(&mut self, searched: &Board, cells: &mut C) -> bool {
-        let most = self.goals_after(searched.empties());
+        let most = self.checked_ancestors(searched.empties());
         self.shares() && self.root_bound.floor() > self.floor_before
             || self.is_out(cells)
             || self.is_any_decided(most, cells)

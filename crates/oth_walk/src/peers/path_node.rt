@@ -1,4 +1,4 @@
-//! A search that one worker has under way below a move of the root.
+//! A node on the way from a move of the root to the node that one worker is at.
 ghost use Rattle.std.specs.Prelude.{◌≡◌};
 
 use oth_rules::{Board, Scoring};
@@ -6,12 +6,12 @@ use oth_search::{Cells, NullWindow, Solved};
 
 /// The canonical image of the board that is searched, and the null window that the search is to decide.
 #[derive(Clone, Copy)]
-pub(super) struct Goal {
+pub(super) struct PathNode {
     pub image: Board,
     pub window: NullWindow,
 }
 
-impl Goal {
+impl PathNode {
     /// Whether the table decides the search.
     pub fn is_decided<C: Cells>(&self, cells: &mut C, scoring: Scoring) -> bool
         ensures fixed { C.fixed cells.new ≡ C.fixed cells.old }
