@@ -15,7 +15,6 @@ use oth_rules::{Board, Scoring};
 use oth_search::{Answer, Interval, Kind, NoCells, Solved, solve_alone};
 use oth_text::fakes::ByteSink;
 use std::process::Abort;
-use std::test::Fail;
 
 // Each board by its own and opposing discs.
 const A: [u64; 2] = [0x8, 0xffff_ffff_ffff_ff74];
@@ -89,12 +88,12 @@ fn book(rt: &HostRuntime, bytes: &[u8]) -> Option<Book> {
 
 // The book has this score and these best moves of the board.
 fn check_found(rt: &impl Abort, book: &Book, words: [u64; 2], known: Option<(i8, u64)>) {
-    assert_eq!(rt; found(book, words), known);
+    assert!(rt; found(book, words) == known);
 }
 
 // The book has these bounds of the board.
 fn check_bounds(rt: &impl Abort, book: &Book, words: [u64; 2], known: Option<(i8, i8)>) {
-    assert_eq!(rt; bounds(book, words), known);
+    assert!(rt; bounds(book, words) == known);
 }
 
 // What is said where the board's answer is added to the book.
@@ -105,7 +104,7 @@ fn check_added(
     scoring: Scoring,
     said: Result<Added, AddError>,
 ) {
-    assert_eq!(rt; add(book, words, scoring), Some(said));
+    assert!(rt; add(book, words, scoring) == Some(said));
 }
 
 // What is said where these bounds of A are added to the book.
@@ -116,7 +115,7 @@ fn check_added_bounds(
     upper: i8,
     said: Result<Added, AddError>,
 ) {
-    assert_eq!(rt; add_bounds(book, lower, upper), Some(said));
+    assert!(rt; add_bounds(book, lower, upper) == Some(said));
 }
 
 fn is_written(book: &Book, expected: &[u8]) -> bool {
@@ -125,10 +124,8 @@ fn is_written(book: &Book, expected: &[u8]) -> bool {
 }
 
 #[test]
-fn answers_are_added_and_found(rt: HostRuntime) -> Result<(), Fail> {
-    let Some(mut book) = book(&rt, BOOK_1) else {
-        panic!(rt; "the book of A")
-    };
+fn answers_are_added_and_found(rt: HostRuntime) {
+    let mut book = book(&rt, BOOK_1).expect(&rt, "the book of A");
     check_found(&rt, &book, A, Some((-50, 0x80)));
     check_found(&rt, &book, FIRST_IMAGE, Some((-50, 1)));
     check_found(&rt, &book, SECOND_IMAGE, Some((-50, 0x0100_0000_0000_0000)));
@@ -146,7 +143,6 @@ fn answers_are_added_and_found(rt: HostRuntime) -> Result<(), Fail> {
     check_added(&rt, &mut book, C, Scoring::Winner, Ok(Added::Present));
     check_found(&rt, &book, C, Some((64, 0x81)));
     assert!(rt; is_written(&book, BOTH));
-    Ok(())
 }
 
 // Bounds of A that are added to a book one after the other, what each addition says, and the bounds that the book has
@@ -177,30 +173,26 @@ fn bounds_are_kept_and_made_closer(rt: HostRuntime) {
 }
 
 #[test]
-fn refuses_31_empties(rt: HostRuntime) -> Result<(), Fail> {
+fn refuses_31_empties(rt: HostRuntime) {
     let mut book = Book::new(rt.alloc(), Scoring::Discs);
     let (Ok(many), Some(bounds)) = (Board::of(0x1_ffff_ffff, 0), Interval::of(-64, 64)) else {
         panic!(rt; "no board")
     };
     let unknown = Solved::unknown(many, Scoring::Discs);
-    assert_eq!(rt; bounds.upper, 64);
-    assert_eq!(rt; book.add_bounds(&unknown), Err(AddError::Empties));
-    assert_eq!(rt; book.scoring(), Scoring::Discs);
+    assert!(rt; bounds.upper == 64);
+    assert!(rt; book.add_bounds(&unknown) == Err(AddError::Empties));
+    assert!(rt; book.scoring() == Scoring::Discs);
     let solved = Solved::unknown(many, Scoring::Winner);
-    assert_eq!(rt; book.add_bounds(&solved), Err(AddError::Scoring));
-    Ok(())
+    assert!(rt; book.add_bounds(&solved) == Err(AddError::Scoring));
 }
 
 #[test]
-fn a_writer_that_fails_has_the_first_bytes(rt: HostRuntime) -> Result<(), Fail> {
-    let Some(book) = book(&rt, BOOK_1) else {
-        panic!(rt; "the book of A")
-    };
+fn a_writer_that_fails_has_the_first_bytes(rt: HostRuntime) {
+    let book = book(&rt, BOOK_1).expect(&rt, "the book of A");
     for count in 0..110usize {
         let mut sink = ByteSink::<128>::new(count);
-        assert_eq!(rt; write(&book, &mut sink), Err(WriteFault));
+        assert!(rt; write(&book, &mut sink) == Err(WriteFault));
         assert!(rt; sink.taken() == front(BOOK_2, count));
         assert!(rt; sink.calls() == count as u64 + 1);
     }
-    Ok(())
 }

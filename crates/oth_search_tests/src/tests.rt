@@ -30,6 +30,11 @@ pub(crate) fn check_bounds(rt: &impl Abort, found: Interval, lower: i8, upper: i
     assert!(rt; found.lower == lower && found.upper == upper);
 }
 
+/// The board that the least-numbered moves lead to from the start, of this many empty squares.
+pub(crate) fn line_of(rt: &impl Abort, empties: u8) -> Board {
+    after_least_moves(empties).expect(rt, "a line")
+}
+
 /// A board by own and opposing discs, with its score and all best moves.
 type Row = (u64, u64, i8, u64, Kind);
 
@@ -49,105 +54,106 @@ fn answers(row: Row, scoring: Scoring) -> bool {
     }
 }
 
-#[test]
-fn solves_the_worked_boards(rt: HostRuntime) -> Result<(), Fail> {
-    let full = u64::MAX;
-    for row in [
-        (full, 0, 64, 0, Kind::End),
-        (0, full, -64, 0, Kind::End),
-        (!(1 << 63), 0, 64, 0, Kind::End),
-        (
-            0x7fbf_8181_8181_81fe,
-            0x0040_7e7e_7e7e_7e00,
-            0,
-            0,
-            Kind::End,
-        ),
-        (!3, 2, 64, 1, Kind::Move),
-        (2, !3, -64, 0, Kind::Pass),
-        (!0xc3, 0x42, 64, 0x81, Kind::Move),
-        (1 << 7, !0x8081, -48, 1, Kind::Move),
-        (A[0], A[1], -50, 0x80, Kind::Move),
-        (A[1], A[0], 50, 0, Kind::Pass),
-        (0x10, 0xffff_ffff_ffff_ff2e, -50, 1, Kind::Move),
-        (0x10 << 56, 0x2eff_ffff_ffff_ffff, -50, 1 << 56, Kind::Move),
-        (!0x0303, 0x0202, 64, 0x0101, Kind::Move),
-        (!0x3fff_ffff, 0, 64, 0, Kind::End),
-    ] {
-        assert!(rt; answers(row, Scoring::Winner), "own {:x}", row.0);
+/// Boards of which one is `A` and one `A` after a pass, by `Winner`.
+const BY_WINNER: [Row; 14] = [
+    (u64::MAX, 0, 64, 0, Kind::End),
+    (0, u64::MAX, -64, 0, Kind::End),
+    (!(1 << 63), 0, 64, 0, Kind::End),
+    (
+        0x7fbf_8181_8181_81fe,
+        0x0040_7e7e_7e7e_7e00,
+        0,
+        0,
+        Kind::End,
+    ),
+    (!3, 2, 64, 1, Kind::Move),
+    (2, !3, -64, 0, Kind::Pass),
+    (!0xc3, 0x42, 64, 0x81, Kind::Move),
+    (1 << 7, !0x8081, -48, 1, Kind::Move),
+    (0x8, 0xffff_ffff_ffff_ff74, -50, 0x80, Kind::Move),
+    (0xffff_ffff_ffff_ff74, 0x8, 50, 0, Kind::Pass),
+    (0x10, 0xffff_ffff_ffff_ff2e, -50, 1, Kind::Move),
+    (0x10 << 56, 0x2eff_ffff_ffff_ffff, -50, 1 << 56, Kind::Move),
+    (!0x0303, 0x0202, 64, 0x0101, Kind::Move),
+    (!0x3fff_ffff, 0, 64, 0, Kind::End),
+];
+
+/// Some of them by `Discs`.
+const BY_DISCS: [Row; 10] = [
+    (!(1 << 63), 0, 63, 0, Kind::End),
+    (
+        0x7fbf_8181_8181_81fe,
+        0x0040_7e7e_7e7e_7e00,
+        0,
+        0,
+        Kind::End,
+    ),
+    (!0xc3, 0x42, 64, 0x81, Kind::Move),
+    (1 << 7, !0x8081, -47, 1, Kind::Move),
+    (0x8, 0xffff_ffff_ffff_ff74, -49, 0x80, Kind::Move),
+    (0xffff_ffff_ffff_ff74, 0x8, 49, 0, Kind::Pass),
+    (0x10, 0xffff_ffff_ffff_ff2e, -49, 1, Kind::Move),
+    (0x10 << 56, 0x2eff_ffff_ffff_ffff, -49, 1 << 56, Kind::Move),
+    (!0x0303, 0x0202, 64, 0x0100, Kind::Move),
+    (!0x3fff_ffff, 0, 34, 0, Kind::End),
+];
+
+fn check_answers(rt: &impl Abort, rows: &[Row], scoring: Scoring) {
+    for row in rows {
+        assert!(rt; answers(*row, scoring), "own {:x}", row.0);
     }
-    for row in [
-        (!(1 << 63), 0, 63, 0, Kind::End),
-        (
-            0x7fbf_8181_8181_81fe,
-            0x0040_7e7e_7e7e_7e00,
-            0,
-            0,
-            Kind::End,
-        ),
-        (!0xc3, 0x42, 64, 0x81, Kind::Move),
-        (1 << 7, !0x8081, -47, 1, Kind::Move),
-        (A[0], A[1], -49, 0x80, Kind::Move),
-        (A[1], A[0], 49, 0, Kind::Pass),
-        (0x10, 0xffff_ffff_ffff_ff2e, -49, 1, Kind::Move),
-        (0x10 << 56, 0x2eff_ffff_ffff_ffff, -49, 1 << 56, Kind::Move),
-        (!0x0303, 0x0202, 64, 0x0100, Kind::Move),
-        (!0x3fff_ffff, 0, 34, 0, Kind::End),
-    ] {
-        assert!(rt; answers(row, Scoring::Discs), "own {:x} by discs", row.0);
-    }
-    Ok(())
 }
 
 #[test]
-fn seems_to_have_its_value_where_few_squares_are_empty(rt: HostRuntime) -> Result<(), Fail> {
+fn solves_the_worked_boards(rt: HostRuntime) {
+    check_answers(&rt, BY_WINNER.as_slice(), Scoring::Winner);
+    check_answers(&rt, BY_DISCS.as_slice(), Scoring::Discs);
+}
+
+#[test]
+fn seems_to_have_its_value_where_few_squares_are_empty(rt: HostRuntime) {
     let board = board_of(&rt, A);
     assert!(rt; seeming_value(board, -51, &mut NoCells, Scoring::Winner) == -50);
     assert!(rt; seeming_value(board, -50, &mut NoCells, Scoring::Winner) == -50);
     assert!(rt; seeming_value(board, -50, &mut NoCells, Scoring::Discs) == -49);
-    Ok(())
 }
 
 #[test]
-fn refuses_31_empties(rt: HostRuntime) -> Result<(), Fail> {
+fn refuses_31_empties(rt: HostRuntime) {
     let board = board_of(&rt, [!0x7fff_ffff, 0]);
     for scoring in [Scoring::Winner, Scoring::Discs] {
-        match solve_alone(&board, scoring) {
-            Ok(_) => panic!(rt; "31 empty squares are solved"),
-            Err(refusal) => assert!(rt; refusal == TooManyEmpties { empties: 31 }),
-        }
+        let refusal = solve_alone(&board, scoring).err();
+        assert!(rt; refusal == Some(TooManyEmpties { empties: 31 }));
     }
-    Ok(())
+}
+
+/// Whether the board is solved with the value of its whole tree.
+fn is_whole(board: &Board, scoring: Scoring) -> bool {
+    match solve_alone(board, scoring) {
+        Ok(answer) => answer.score == board.plain_score(scoring),
+        Err(_) => false,
+    }
 }
 
 #[test]
-fn agrees_with_the_whole_tree(rt: HostRuntime) -> Result<(), Fail> {
-    let Some(board) = after_least_moves(10) else {
-        panic!(rt; "no line")
-    };
+fn agrees_with_the_whole_tree(rt: HostRuntime) {
+    let board = line_of(&rt, 10);
     for scoring in [Scoring::Winner, Scoring::Discs] {
-        match solve_alone(&board, scoring) {
-            Ok(answer) => assert!(rt; answer.score == board.plain_score(scoring)),
-            Err(_) => panic!(rt; "not solved"),
-        }
+        assert!(rt; is_whole(&board, scoring));
     }
-    Ok(())
 }
 
 #[test]
-fn ends_at_16_empties(rt: HostRuntime) -> Result<(), Fail> {
-    let Some(board) = after_least_moves(16) else {
-        panic!(rt; "no line")
-    };
+fn ends_at_16_empties(rt: HostRuntime) {
+    let board = line_of(&rt, 16);
     assert!(rt; board.empties() == 16);
     for scoring in [Scoring::Winner, Scoring::Discs] {
         assert!(rt; matches!(solve_alone(&board, scoring), Ok(_)));
     }
-    Ok(())
 }
 
 #[test]
-fn decides_each_window(rt: HostRuntime) -> Result<(), Fail> {
+fn decides_each_window(rt: HostRuntime) {
     let board = board_of(&rt, A);
     let exact = search(&board, -65, 65, &mut NoCells, Scoring::Winner);
     check_bounds(&rt, exact, -50, -50);
@@ -155,56 +161,50 @@ fn decides_each_window(rt: HostRuntime) -> Result<(), Fail> {
     assert!(rt; above.lower == -50);
     let below = search(&board, -50, 0, &mut NoCells, Scoring::Winner);
     assert!(rt; below.upper == -50);
-    Ok(())
+}
+
+/// The words of the entry with these bounds, if they contain the value.
+fn packed(solved: &Solved, lower: i8, upper: i8) -> Option<[u64; 3]> {
+    Some(Entry::of(&solved.widen(lower, upper)?).words())
 }
 
 #[test]
-fn packs_bounds(rt: HostRuntime) -> Result<(), Fail> {
+fn packs_bounds(rt: HostRuntime) {
     let board = board_of(&rt, A);
     let solved = Solved::by_search(&board, -65, 65, &mut NoCells, Scoring::Winner);
-    for (lower, upper, packed) in [
+    for (lower, upper, bounds) in [
         (-64, -50, 3584),
         (-50, -50, 3598),
         (-50, 64, 32782),
         (-64, 64, 32768),
     ] {
-        let Some(wider) = solved.widen(lower, upper) else {
-            panic!(rt; "{lower}..{upper} does not contain the value")
-        };
         assert!(rt;
-            Entry::of(&wider).words() == [A[0], A[1], packed],
+            packed(&solved, lower, upper) == Some([A[0], A[1], bounds]),
             "{lower}..{upper}"
         );
     }
-    Ok(())
 }
 
 #[test]
-fn combines_what_is_known(rt: HostRuntime) -> Result<(), Fail> {
-    let (Ok(root), Ok(first), Ok(second)) = (
-        Board::of(A[0], A[1]),
-        Board::of(0xffff_ffff_ffff_ff70, 0xe),
-        Board::of(0xf8, 0xffff_ffff_ffff_ff04),
-    ) else {
-        panic!(rt; "no boards")
-    };
+fn combines_what_is_known(rt: HostRuntime) {
+    let root = board_of(&rt, A);
+    let first = board_of(&rt, [0xffff_ffff_ffff_ff70, 0xe]);
+    let second = board_of(&rt, [0xf8, 0xffff_ffff_ffff_ff04]);
     let known = [
         Solved::by_search(&first, -65, 65, &mut NoCells, Scoring::Winner),
         Solved::by_search(&second, -65, 65, &mut NoCells, Scoring::Winner),
     ];
     let combined = backed_up_from(root, 1, &known, Scoring::Winner).interval;
     check_bounds(&rt, combined, -50, -50);
-    Ok(())
 }
 
 #[test]
-fn a_null_window_tells_one_threshold(rt: HostRuntime) -> Result<(), Fail> {
+fn a_null_window_tells_one_threshold(rt: HostRuntime) {
     let board = board_of(&rt, A);
     let above = Solved::by_null_window(&board, -51, &mut NoCells, Scoring::Winner).interval;
     check_bounds(&rt, above, -50, 64);
     let below = Solved::by_null_window(&board, -50, &mut NoCells, Scoring::Winner).interval;
     check_bounds(&rt, below, -64, -50);
-    Ok(())
 }
 
 /// Nothing of the board is remembered.
@@ -218,9 +218,9 @@ fn recalls_what_it_remembers(rt: HostRuntime) -> Result<(), Fail> {
     let mut memo = LocalTable::below(rt.alloc(), 13)?;
     check_forgotten(&rt, &memo, &board, Scoring::Winner);
     memo.store_local(&Solved::by_search(&board, -65, 65, &mut NoCells, Scoring::Winner));
-    let Some(told) = memo.probe_local(&board, Scoring::Winner) else {
-        panic!(rt; "nothing is recalled")
-    };
+    let told = memo
+        .probe_local(&board, Scoring::Winner)
+        .expect(&rt, "recalled");
     check_bounds(&rt, told.interval, -50, -50);
     check_forgotten(&rt, &memo, &board, Scoring::Discs);
     check_forgotten(&rt, &memo, &board.pass(), Scoring::Winner);
@@ -245,29 +245,51 @@ fn remembers_more_where_that_pays(rt: HostRuntime) {
     }
 }
 
-/// What these memories recall of a board of `empties` empty squares when they have remembered its value.
-fn recalled_value(rt: &impl Abort, memories: &mut LocalTables, empties: u8) -> Option<Interval> {
-    let Some(board) = after_least_moves(empties) else {
-        panic!(rt; "no line")
-    };
-    let solved = Solved::by_search(&board, -65, 65, &mut NoCells, Scoring::Winner);
-    assert!(rt; memories.probe_local(&board, Scoring::Winner).is_none());
-    memories.store_local(&solved);
-    let told = memories.probe_local(&board, Scoring::Winner)?;
-    assert!(rt; told.interval == solved.interval);
-    Some(told.interval)
+/// What these memories recall of the board when they have remembered its value.
+fn recalled_value(memories: &mut LocalTables, solved: &Solved) -> Option<Interval> {
+    memories.store_local(solved);
+    Some(
+        memories
+            .probe_local(&solved.board, Scoring::Winner)?
+            .interval,
+    )
+}
+
+/// These memories know nothing of the line's board of `empties` empty squares, and recall its value just where this is
+/// wanted when they have remembered it.
+fn check_recalled(rt: &impl Abort, memories: &mut LocalTables, empties: u8, is_wanted: bool) {
+    let solved = Solved::by_search(
+        &line_of(rt, empties),
+        -65,
+        65,
+        &mut NoCells,
+        Scoring::Winner,
+    );
+    assert!(rt;
+        memories
+            .probe_local(&solved.board, Scoring::Winner)
+            .is_none()
+    );
+    let told = recalled_value(memories, &solved);
+    assert!(rt;
+        told == if is_wanted {
+            Some(solved.interval)
+        } else {
+            None
+        }
+    );
 }
 
 #[test]
 fn recalls_boards_of_few_and_of_more_empty_squares(rt: HostRuntime) {
     let mut both = LocalTables::of(rt.alloc(), 18, true);
-    assert!(rt; recalled_value(&rt, &mut both, 8).is_some());
-    assert!(rt; recalled_value(&rt, &mut both, 9).is_some());
+    check_recalled(&rt, &mut both, 8, true);
+    check_recalled(&rt, &mut both, 9, true);
     let mut few = LocalTables::of(rt.alloc(), 17, true);
-    assert!(rt; recalled_value(&rt, &mut few, 8).is_some());
-    assert!(rt; recalled_value(&rt, &mut few, 9).is_none());
+    check_recalled(&rt, &mut few, 8, true);
+    check_recalled(&rt, &mut few, 9, false);
     let mut none = LocalTables::of(rt.alloc(), 9, true);
-    assert!(rt; recalled_value(&rt, &mut none, 8).is_none());
+    check_recalled(&rt, &mut none, 8, false);
 }
 
 /// Keeps no entries, and remembers.
@@ -307,9 +329,7 @@ impl Cells for Remembering {
 
 #[test]
 fn agrees_with_the_whole_tree_while_it_remembers(rt: HostRuntime) -> Result<(), Fail> {
-    let Some(board) = after_least_moves(10) else {
-        panic!(rt; "no line")
-    };
+    let board = line_of(&rt, 10);
     for is_for_all in [false, true] {
         let mut cells = Remembering {
             memo: LocalTable::below(rt.alloc(), 14)?,

@@ -12,7 +12,6 @@ use oth_rules::{Board, Scoring};
 use oth_search::{Cells, Entry, NoCells, Solved, search};
 use oth_table::{Look, Put, SharedTable, TableCells, TableError, TableSeat};
 use std::process::Abort;
-use std::test::Fail;
 
 // Each board by its own and opposing discs.
 const A: [u64; 2] = [0x8, 0xffff_ffff_ffff_ff74];
@@ -51,6 +50,23 @@ fn stored_entries() -> Option<Three> {
     let high = entry(A, -50, 64, Scoring::Winner)?;
     let other = entry(C, 64, 64, Scoring::Winner)?;
     Some(Three { low, high, other })
+}
+
+fn three_entries(rt: &impl Abort) -> Three {
+    stored_entries().expect(rt, "entries")
+}
+
+// A table with its first seat.
+fn table_of(
+    rt: &(impl AllocGlobal + Abort),
+    cells: u32,
+    scoring: Scoring,
+) -> (SharedTable, TableSeat)
+    ensures seat { IsSeatOf result.0 result.1 }
+    ensures cells { result.0.cells ≡ cells }
+    ensures scoring { result.0.terms.scoring ≡ scoring }
+{
+    SharedTable::new(rt.alloc(), cells, scoring).expect(rt, "a table")
 }
 
 // The bounds that were found of the board of these words.
@@ -92,13 +108,9 @@ fn check_bounds(
 }
 
 #[test]
-fn keeps_the_closer_bounds(rt: HostRuntime) -> Result<(), Fail> {
-    let Ok((table, mut seat)) = SharedTable::new(rt.alloc(), 1, Scoring::Winner) else {
-        panic!(rt; "no table")
-    };
-    let Some(three) = stored_entries() else {
-        panic!(rt; "no entries")
-    };
+fn keeps_the_closer_bounds(rt: HostRuntime) {
+    let (table, mut seat) = table_of(&rt, 1, Scoring::Winner);
+    let three = three_entries(&rt);
     assert!(rt; table.cells() == 1 && table.scoring() == Scoring::Winner);
     assert!(rt; matches!(table.look(&mut seat, 0), Look::Empty));
     check_put(&rt, &table, &mut seat, &three.low, Put::Stored);
@@ -108,27 +120,23 @@ fn keeps_the_closer_bounds(rt: HostRuntime) -> Result<(), Fail> {
     check_put(&rt, &table, &mut seat, &three.other, Put::Stored);
     check_bounds(&rt, &table, &mut seat, A, None);
     check_bounds(&rt, &table, &mut seat, C, Some(32896));
-    Ok(())
 }
 
 #[test]
-fn wears_out(rt: HostRuntime) -> Result<(), Fail> {
+fn wears_out(rt: HostRuntime) {
     let Ok((table, mut seat)) = SharedTable::with_wear(rt.alloc(), 1, 2, Scoring::Winner) else {
         panic!(rt; "no table")
     };
-    let Some(three) = stored_entries() else {
-        panic!(rt; "no entries")
-    };
+    let three = three_entries(&rt);
     check_put(&rt, &table, &mut seat, &three.low, Put::Stored);
     check_put(&rt, &table, &mut seat, &three.high, Put::Stored);
     check_put(&rt, &table, &mut seat, &three.other, Put::Worn);
     check_bounds(&rt, &table, &mut seat, A, Some(3598));
     assert!(rt; table.published(&mut seat, 0) == 2);
-    Ok(())
 }
 
 #[test]
-fn refuses_in_order(rt: HostRuntime) -> Result<(), Fail> {
+fn refuses_in_order(rt: HostRuntime) {
     for (cells, wear, refusal) in [
         (0, MOST_WEAR, TableError::Cells),
         (3, MOST_WEAR, TableError::Cells),
@@ -137,51 +145,34 @@ fn refuses_in_order(rt: HostRuntime) -> Result<(), Fail> {
         (1, 0, TableError::Wear),
         (1, MOST_WEAR + 1, TableError::Wear),
     ] {
-        match SharedTable::with_wear(rt.alloc(), cells, wear, Scoring::Winner) {
-            Ok(_) => panic!(rt; "{cells} cells with wear {wear}"),
-            Err(found) => assert!(rt; found == refusal, "{cells} cells with wear {wear}"),
-        }
+        let found = SharedTable::with_wear(rt.alloc(), cells, wear, Scoring::Winner).err();
+        assert!(rt; found == Some(refusal), "{cells} cells with wear {wear}");
     }
-    Ok(())
 }
 
 #[test]
-fn two_seats_meet(rt: HostRuntime) -> Result<(), Fail> {
-    let Ok((table, mut first)) = SharedTable::new(rt.alloc(), 1, Scoring::Winner) else {
-        panic!(rt; "no table")
-    };
-    let Ok(mut second) = table.seat(rt.alloc(), &mut first) else {
-        panic!(rt; "no seat")
-    };
-    let Some(three) = stored_entries() else {
-        panic!(rt; "no entries")
-    };
+fn two_seats_meet(rt: HostRuntime) {
+    let (table, mut first) = table_of(&rt, 1, Scoring::Winner);
+    let mut second = table.seat(rt.alloc(), &mut first).expect(&rt, "a seat");
+    let three = three_entries(&rt);
     check_put(&rt, &table, &mut first, &three.low, Put::Stored);
     check_put(&rt, &table, &mut second, &three.high, Put::Stored);
     table.meet(&mut first, &mut second);
     check_bounds(&rt, &table, &mut first, A, Some(3598));
     check_bounds(&rt, &table, &mut second, A, Some(3598));
-    Ok(())
 }
 
 #[test]
-fn keeps_scores_by_discs(rt: HostRuntime) -> Result<(), Fail> {
-    let Ok((table, mut seat)) = SharedTable::new(rt.alloc(), 1, Scoring::Discs) else {
-        panic!(rt; "no table")
-    };
-    let Some(exact) = entry(A, -49, -49, Scoring::Discs) else {
-        panic!(rt; "no entry")
-    };
+fn keeps_scores_by_discs(rt: HostRuntime) {
+    let (table, mut seat) = table_of(&rt, 1, Scoring::Discs);
+    let exact = entry(A, -49, -49, Scoring::Discs).expect(&rt, "an entry");
     check_put(&rt, &table, &mut seat, &exact, Put::Stored);
     check_bounds(&rt, &table, &mut seat, A, Some(3855));
-    Ok(())
 }
 
 #[test]
-fn a_search_finds_what_it_kept(rt: HostRuntime) -> Result<(), Fail> {
-    let Ok((table, seat)) = SharedTable::new(rt.alloc(), 1, Scoring::Winner) else {
-        panic!(rt; "no table")
-    };
+fn a_search_finds_what_it_kept(rt: HostRuntime) {
+    let (table, seat) = table_of(&rt, 1, Scoring::Winner);
     let Ok(board) = Board::of(A[0], A[1]) else {
         panic!(rt; "no board")
     };
@@ -192,7 +183,6 @@ fn a_search_finds_what_it_kept(rt: HostRuntime) -> Result<(), Fail> {
     assert!(rt; again.lower == -50 && again.upper == -50);
     let mut seat = cells.into_seat();
     check_bounds(&rt, &table, &mut seat, A, Some(3598));
-    Ok(())
 }
 
 // The bounds that a search would find of the entry's board.
@@ -214,19 +204,20 @@ fn check_found(
     assert!(rt; found_of(cells, entry, scoring) == packed);
 }
 
+// The values of A, of C and of D, and of A by discs.
+fn exact_entries() -> Option<[Entry; 4]> {
+    Some([
+        entry(A, -50, -50, Scoring::Winner)?,
+        entry(C, 64, 64, Scoring::Winner)?,
+        entry(D, 64, 64, Scoring::Winner)?,
+        entry(A, -49, -49, Scoring::Discs)?,
+    ])
+}
+
 #[test]
-fn gives_each_board_two_cells(rt: HostRuntime) -> Result<(), Fail> {
-    let Ok((table, seat)) = SharedTable::new(rt.alloc(), 2, Scoring::Winner) else {
-        panic!(rt; "no table")
-    };
-    let (Some(a), Some(c), Some(d), Some(by_discs)) = (
-        entry(A, -50, -50, Scoring::Winner),
-        entry(C, 64, 64, Scoring::Winner),
-        entry(D, 64, 64, Scoring::Winner),
-        entry(A, -49, -49, Scoring::Discs),
-    ) else {
-        panic!(rt; "no entries")
-    };
+fn gives_each_board_two_cells(rt: HostRuntime) {
+    let (table, seat) = table_of(&rt, 2, Scoring::Winner);
+    let [a, c, d, by_discs] = exact_entries().expect(&rt, "entries");
     let mut cells = TableCells::of(&table, seat);
     cells.put(&a);
     cells.put(&by_discs);
@@ -238,5 +229,4 @@ fn gives_each_board_two_cells(rt: HostRuntime) -> Result<(), Fail> {
     check_found(&rt, &mut cells, &d, Scoring::Winner, Some(32896));
     check_found(&rt, &mut cells, &a, Scoring::Winner, Some(3598));
     check_found(&rt, &mut cells, &c, Scoring::Winner, None);
-    Ok(())
 }

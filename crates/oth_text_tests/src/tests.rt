@@ -4,7 +4,7 @@ mod devices;
 mod games;
 mod turns;
 
-use oth_text::{GameFault, LineFault, Position, TranscriptFault, read_board};
+use oth_text::{GameFault, LineFault, Position, TranscriptFault, read_board, write_board};
 use std::process::Abort;
 
 // The start of a game.
@@ -32,6 +32,14 @@ const CORNER_TAKEN_TURNED: &[u8] =
 // After b1, which turns c1. Nobody has a move, and Black has moved.
 const CORNERS_OVER: &[u8] = b"-XXXXXXXOOOOOOOOOOOOOOOOOOOOOOOOOOOOOOOOOOOOOOOOOOOOOOOOOOOOOOOO O";
 
+// Whether this is the position of the board line.
+fn is_position(position: Option<Position>, line: &[u8]) -> bool {
+    match position {
+        Some(position) => write_board(&position).as_slice() == line,
+        None => false,
+    }
+}
+
 // The position of a board line.
 fn shown(rt: &impl Abort, line: &[u8]) -> Position {
     read_board(line).expect(rt, "a board line")
@@ -41,14 +49,11 @@ fn shown(rt: &impl Abort, line: &[u8]) -> Position {
 fn each_refusal_has_its_words(rt: HostRuntime) -> Result<(), std::test::Fail> {
     let fault = LineFault::Empties(31);
     let text = format!(in rt.alloc(); "{fault}")?;
-    assert_eq!(rt;
-        text.as_str(),
-        "the board has 31 empty squares, and at most 30 are solved"
-    );
+    assert!(rt; text.as_str() == "the board has 31 empty squares, and at most 30 are solved");
     let fault = TranscriptFault::Illegal(2);
     let text = format!(in rt.alloc(); "{fault}")?;
-    assert_eq!(rt; text.as_str(), "move 2 is illegal");
+    assert!(rt; text.as_str() == "move 2 is illegal");
     let text = format!(in rt.alloc(); "{}", GameFault::Moves(fault))?;
-    assert_eq!(rt; text.as_str(), "move 2 is illegal");
+    assert!(rt; text.as_str() == "move 2 is illegal");
     Ok(())
 }

@@ -30,7 +30,7 @@ fn check_added_unknown(
     words: [u64; 2],
     said: Result<Added, AddError>,
 ) {
-    assert_eq!(rt; add_unknown(book, words), Some(said));
+    assert!(rt; add_unknown(book, words) == Some(said));
 }
 
 // A book of 100,000 boards of which nothing is known.
@@ -46,25 +46,21 @@ fn full_book(alloc: Global) -> Option<Book> {
 
 #[test]
 fn a_full_book_takes_no_further_board(rt: HostRuntime) {
-    let Some(mut book) = full_book(rt.alloc()) else {
-        panic!(rt; "no book")
-    };
-    assert_eq!(rt; book.len(), 100_000);
+    let mut book = full_book(rt.alloc()).expect(&rt, "a book");
+    assert!(rt; book.len() == 100_000);
     check_bounds(&rt, &book, numbered(99_999), Some((-64, 64)));
     check_bounds(&rt, &book, numbered(100_000), None);
     check_added_unknown(&rt, &mut book, numbered(100_000), Err(AddError::Full));
     check_added(&rt, &mut book, A, Scoring::Winner, Err(AddError::Full));
     check_added_bounds(&rt, &mut book, -64, -40, Err(AddError::Full));
-    assert_eq!(rt; book.len(), 100_000);
+    assert!(rt; book.len() == 100_000);
     check_bounds(&rt, &book, A, None);
 }
 
 // Refusals that come before want of room, and boards that are there.
 #[test]
 fn a_full_book_takes_what_it_has(rt: HostRuntime) {
-    let Some(mut book) = full_book(rt.alloc()) else {
-        panic!(rt; "no book")
-    };
+    let mut book = full_book(rt.alloc()).expect(&rt, "a book");
     check_added(&rt, &mut book, A, Scoring::Discs, Err(AddError::Scoring));
     check_added_bounds(&rt, &mut book, -50, -50, Err(AddError::OneNumber));
     let near_full = numbered(65_535);
@@ -84,5 +80,5 @@ fn a_full_book_takes_what_it_has(rt: HostRuntime) {
         Scoring::Winner,
         Ok(Added::Present),
     );
-    assert_eq!(rt; book.len(), 100_000);
+    assert!(rt; book.len() == 100_000);
 }

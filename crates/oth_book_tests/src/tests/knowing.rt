@@ -5,7 +5,7 @@ use oth_book::{Book, Cause, Claim, Claims, Wrong, read_claims, verify, verify_kn
 use oth_rules::Scoring;
 use oth_search::{Answer, solve_alone};
 use std::alloc::Global;
-use std::test::Fail;
+use std::process::Abort;
 
 // Texts of books, and what is wrong with each.
 const TEXTS: [(&[u8], Option<Wrong>); 7] = [
@@ -43,47 +43,60 @@ fn wrong(judged: Result<Book, Wrong>) -> Option<Wrong> {
     judged.err()
 }
 
-#[test]
-fn each_verdict_is_the_same_whatever_is_known(rt: HostRuntime) -> Result<(), Fail> {
-    let alloc = rt.alloc();
-    for (text, verdict) in TEXTS {
-        let Some(claims) = read(alloc, text) else {
-            panic!(rt; "no claims")
-        };
-        assert!(rt; wrong(verify(alloc, claims)) == verdict);
-        for words in [A, C] {
-            for scoring in [Scoring::Winner, Scoring::Discs] {
-                let (Some(claims), Some(answer)) = (read(alloc, text), answer(words, scoring))
-                else {
-                    panic!(rt; "no claims")
-                };
-                let judged = verify_knowing(alloc, claims, |_: &[Claim]| Some(answer));
-                assert!(rt; wrong(judged) == verdict);
-            }
+// What is wrong with the text where the answer of the board of these words is known; outside, none where the claims or
+// the answer are wanting.
+fn wrong_knowing(
+    alloc: Global,
+    text: &[u8],
+    words: [u64; 2],
+    scoring: Scoring,
+) -> Option<Option<Wrong>> {
+    let claims = read(alloc, text)?;
+    let known = answer(words, scoring)?;
+    Some(wrong(verify_knowing(alloc, claims, |_: &[Claim]| Some(known))))
+}
+
+fn check_verdict(rt: &(impl AllocGlobal + Abort), text: &[u8], verdict: Option<Wrong>) {
+    let claims = read(rt.alloc(), text).expect(rt, "claims");
+    assert!(rt; wrong(verify(rt.alloc(), claims)) == verdict);
+    for words in [A, C] {
+        for scoring in [Scoring::Winner, Scoring::Discs] {
+            assert!(rt; wrong_knowing(rt.alloc(), text, words, scoring) == Some(verdict));
         }
     }
-    Ok(())
 }
 
 #[test]
-fn whoever_knows_is_asked_up_to_a_wrong_claim(rt: HostRuntime) -> Result<(), Fail> {
-    let alloc = rt.alloc();
+fn each_verdict_is_the_same_whatever_is_known(rt: HostRuntime) {
     for (text, verdict) in TEXTS {
-        let Some(claims) = read(alloc, text) else {
-            panic!(rt; "no claims")
-        };
-        let wanted = match verdict {
-            Some(Wrong::Entry(entry, _)) => entry as usize,
-            _ => claims.entries().len(),
-        };
-        let scoring = claims.scoring();
-        let mut asked = 0usize;
-        let judged = verify_knowing(alloc, claims, |rest: &[Claim]| -> Option<Answer> {
-            asked = asked.saturating_add(1);
-            solve_alone(&rest.first()?.board, scoring).ok()
-        });
-        assert!(rt; wrong(judged) == verdict);
-        assert_eq!(rt; asked, wanted);
+        check_verdict(&rt, text, verdict);
     }
-    Ok(())
+}
+
+// How often whoever knows is asked where these claims are judged.
+fn wanted_of(claims: &Claims, verdict: Option<Wrong>) -> usize {
+    match verdict {
+        Some(Wrong::Entry(entry, _)) => entry as usize,
+        _ => claims.entries().len(),
+    }
+}
+
+fn check_asked(rt: &(impl AllocGlobal + Abort), text: &[u8], verdict: Option<Wrong>) {
+    let claims = read(rt.alloc(), text).expect(rt, "claims");
+    let wanted = wanted_of(&claims, verdict);
+    let scoring = claims.scoring();
+    let mut asked = 0usize;
+    let judged = verify_knowing(rt.alloc(), claims, |rest: &[Claim]| -> Option<Answer> {
+        asked = asked.saturating_add(1);
+        solve_alone(&rest.first()?.board, scoring).ok()
+    });
+    assert!(rt; wrong(judged) == verdict);
+    assert!(rt; asked == wanted);
+}
+
+#[test]
+fn whoever_knows_is_asked_up_to_a_wrong_claim(rt: HostRuntime) {
+    for (text, verdict) in TEXTS {
+        check_asked(&rt, text, verdict);
+    }
 }

@@ -31,8 +31,8 @@ fn opened(rt: &(impl AllocGlobal + Abort), text: &[u8]) -> Option<Book> {
 #[test]
 fn a_book_is_read_whole_or_not_at_all(rt: HostRuntime) {
     if let Some(claims) = read(&rt, BOTH) {
-        assert_eq!(rt; claims.entries().len(), 2);
-        assert_eq!(rt; claims.scoring(), Scoring::Winner);
+        assert!(rt; claims.entries().len() == 2);
+        assert!(rt; claims.scoring() == Scoring::Winner);
     }
     if let Some(book) = opened(&rt, BOTH) {
         assert!(rt; is_written(&book, BOTH));
@@ -42,10 +42,7 @@ fn a_book_is_read_whole_or_not_at_all(rt: HostRuntime) {
 #[test]
 fn a_board_that_is_there_takes_no_memory(rt: HostRuntime) {
     if let Some(mut book) = opened(&rt, BOOK_1) {
-        assert_eq!(rt;
-            add(&mut book, FIRST_IMAGE, Scoring::Winner),
-            Some(Ok(Added::Present))
-        );
+        assert!(rt; add(&mut book, FIRST_IMAGE, Scoring::Winner) == Some(Ok(Added::Present)));
         assert!(rt; is_written(&book, BOOK_2));
     }
 }
@@ -60,10 +57,10 @@ fn a_refused_addition_leaves_the_book(rt: HostRuntime) {
         assert!(rt; is_written(&book, BOTH));
         return;
     }
-    assert_eq!(rt; done, Some(Err(AddError::Memory)));
-    assert_eq!(rt; book.len(), 1);
-    assert_eq!(rt; found(&book, A), Some((-50, 0x80)));
-    assert_eq!(rt; found(&book, C), None);
+    assert!(rt; done == Some(Err(AddError::Memory)));
+    assert!(rt; book.len() == 1);
+    assert!(rt; found(&book, A) == Some((-50, 0x80)));
+    assert!(rt; found(&book, C) == None);
     assert!(rt; is_written(&book, BOOK_2));
 }
 
@@ -72,10 +69,10 @@ fn refused_bounds_leave_the_book(rt: HostRuntime) {
     let mut book = Book::new(rt.alloc(), Scoring::Winner);
     let done = add_bounds(&mut book, -64, -40);
     if done == Some(Ok(Added::New)) {
-        assert_eq!(rt; bounds(&book, A), Some((-64, -40)));
+        assert!(rt; bounds(&book, A) == Some((-64, -40)));
         return;
     }
-    assert_eq!(rt; done, Some(Err(AddError::Memory)));
+    assert!(rt; done == Some(Err(AddError::Memory)));
     assert!(rt; book.is_empty());
-    assert_eq!(rt; bounds(&book, A), None);
+    assert!(rt; bounds(&book, A) == None);
 }

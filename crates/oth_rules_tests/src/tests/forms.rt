@@ -70,17 +70,21 @@ fn check_two_plies(rt: &impl Abort, board: &Board) -> u32 {
     count
 }
 
+fn check_rows(rt: &impl Abort, rows: &[(&[u8], u8)]) {
+    for (top, rest) in rows {
+        let row = board(rt, top, *rest);
+        check_images(rt, &row);
+        check_two_plies(rt, &row);
+        check_two_plies(rt, &row.pass());
+    }
+}
+
 // Below the start are 4 boards and 12 of these; below A are 2, and one below each of these.
 #[test]
 fn forms_on_the_boards_of_the_rows(rt: HostRuntime) {
-    for (top, rest) in ROWS {
-        let row = board(&rt, top, rest);
-        check_images(&rt, &row);
-        check_two_plies(&rt, &row);
-        check_two_plies(&rt, &row.pass());
-    }
-    assert_eq!(rt; check_two_plies(&rt, &board(&rt, START, b'-')), 4 + 12);
-    assert_eq!(rt; check_two_plies(&rt, &board(&rt, b"--OXOOO-", b'O')), 2 + 2);
+    check_rows(&rt, ROWS.as_slice());
+    assert!(rt; check_two_plies(&rt, &board(&rt, START, b'-')) == 4 + 12);
+    assert!(rt; check_two_plies(&rt, &board(&rt, b"--OXOOO-", b'O')) == 2 + 2);
 }
 
 // From the start the least-numbered move, until the game is over: also the boards of at most 16 and 10 empty squares.
@@ -105,12 +109,18 @@ const LEAST_MOVES: [(u8, u64, u64); 5] = [
     (0, 0x3fb0_8880_90a0_c080, 0xc04f_777f_6f5f_3f7f),
 ];
 
+// Whether the least-numbered moves lead to the board of these words, which is a sample where it may be solved.
+fn is_reached(empties: u8, own: u64, opp: u64) -> bool {
+    let Some(board) = after_least_moves(empties) else {
+        return false;
+    };
+    let sample = if empties > 30 { None } else { Some(board) };
+    board.own() == own && board.opp() == opp && samples::board([own, opp]) == sample
+}
+
 #[test]
 fn the_least_moves_lead_to_these_boards(rt: HostRuntime) {
     for (empties, own, opp) in LEAST_MOVES {
-        let board = after_least_moves(empties).expect(&rt, "a sample");
-        assert_eq!(rt; (board.own(), board.opp()), (own, opp));
-        let sample = samples::board([own, opp]);
-        assert!(rt; sample == if empties > 30 { None } else { Some(board) });
+        assert!(rt; is_reached(empties, own, opp));
     }
 }

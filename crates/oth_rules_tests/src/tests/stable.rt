@@ -18,18 +18,30 @@ const STABLE_DISCS: [(&[u8], u8, i8); 9] = [
     (b"", b'X', 64),
 ];
 
+fn check_stable_discs(rt: &impl Abort, rows: &[(&[u8], u8, i8)]) {
+    for (top, rest, most) in rows {
+        assert!(rt; board(rt, top, *rest).most_by_stable_discs() == *most);
+    }
+}
+
 #[test]
 fn stable_discs_that_are_seen(rt: HostRuntime) {
-    for (top, rest, most) in STABLE_DISCS {
-        assert_eq!(rt; board(&rt, top, rest).most_by_stable_discs(), most);
-    }
+    check_stable_discs(&rt, STABLE_DISCS.as_slice());
     // No empty square is in line with the others.
     let corners = 0x8100_0000_0000_0081;
     let last = Board::of(corners & !(1 << 63), !corners).expect(&rt, "apart");
-    assert_eq!(rt; last.most_by_stable_discs(), 64 - 2 * 42);
+    assert!(rt; last.most_by_stable_discs() == 64 - 2 * 42);
 }
 
-// They are the same discs whichever way the board is turned.
+// What these stable discs leave, the same whichever way the board is turned.
+fn most_of_all_images(rt: &impl Abort, board: &Board) -> i8 {
+    let most = board.most_by_stable_discs();
+    for number in 1..8 {
+        assert!(rt; board.image(Sym::numbered(number)).most_by_stable_discs() == most);
+    }
+    most
+}
+
 #[test]
 fn stable_discs_of_all_images(rt: HostRuntime) {
     let mut word = 0x9e37_79b9_7f4a_7c15;
@@ -39,12 +51,7 @@ fn stable_discs_of_all_images(rt: HostRuntime) {
         let first = scrambled(side);
         word = scrambled(first);
         let board = Board::of((first | word) & side, (first | word) & !side).expect(&rt, "apart");
-        let most = board.most_by_stable_discs();
-        least = least.min(most);
-        for number in 1..8 {
-            let image = board.image(Sym::numbered(number));
-            assert_eq!(rt; image.most_by_stable_discs(), most);
-        }
+        least = least.min(most_of_all_images(&rt, &board));
     }
     assert!(rt; least < 64);
 }

@@ -1,8 +1,8 @@
 //! What no clause says of look-ups and stores, and how many boards a search visits.
 ghost use Rattle.std.specs.Prelude.{◌≡◌, IfSome};
+ghost use Rattle.oth_search.specs.Bounds.Interval.{IsThreshold};
 
-use super::{board_of, check_bounds};
-use oth_rules::samples::{after_least_moves, board as sample};
+use super::{board_of, check_bounds, line_of};
 use oth_rules::{Board, Scoring};
 use oth_search::{Cells, Entry, LocalTable, NoCells, Solved, search, solve_with};
 use std::process::Abort;
@@ -70,7 +70,7 @@ impl Cells for Kept {
 }
 
 #[test]
-fn looks_up_and_puts(rt: HostRuntime) -> Result<(), Fail> {
+fn looks_up_and_puts(rt: HostRuntime) {
     let board = board_of(&rt, A);
     let mut cells = Kept::nothing();
     let first = search(&board, -65, 65, &mut cells, Scoring::Winner);
@@ -79,11 +79,10 @@ fn looks_up_and_puts(rt: HostRuntime) -> Result<(), Fail> {
     let second = search(&board, -65, 65, &mut cells, Scoring::Winner);
     check_bounds(&rt, second, -50, -50);
     check_kept(&rt, &cells, [A[0], A[1], EXACT], 2, 1);
-    Ok(())
 }
 
 #[test]
-fn looks_up_what_is_kept(rt: HostRuntime) -> Result<(), Fail> {
+fn looks_up_what_is_kept(rt: HostRuntime) {
     let board = board_of(&rt, A);
     let mut cells = Kept::nothing();
     search(&board, -51, -50, &mut cells, Scoring::Winner);
@@ -92,17 +91,21 @@ fn looks_up_what_is_kept(rt: HostRuntime) -> Result<(), Fail> {
     let other = Solved::looked_up(&board, &mut cells, Scoring::Discs);
     check_bounds(&rt, other.interval, -64, 64);
     check_kept(&rt, &cells, [A[0], A[1], AT_LEAST], 3, 1);
-    Ok(())
 }
 
 #[test]
-fn keeps_a_bound(rt: HostRuntime) -> Result<(), Fail> {
+fn keeps_a_bound(rt: HostRuntime) {
     let board = board_of(&rt, A);
     let mut above = Kept::nothing();
     search(&board, -51, -50, &mut above, Scoring::Winner);
     check_kept(&rt, &above, [A[0], A[1], AT_LEAST], 1, 1);
     search(&board, -60, -55, &mut above, Scoring::Winner);
     check_kept(&rt, &above, [A[0], A[1], AT_LEAST], 2, 1);
+}
+
+#[test]
+fn keeps_an_upper_bound(rt: HostRuntime) {
+    let board = board_of(&rt, A);
     let mut below = Kept::nothing();
     search(&board, -50, 0, &mut below, Scoring::Winner);
     check_kept(&rt, &below, [A[0], A[1], AT_MOST], 1, 1);
@@ -110,11 +113,10 @@ fn keeps_a_bound(rt: HostRuntime) -> Result<(), Fail> {
     check_kept(&rt, &below, [A[0], A[1], AT_MOST], 2, 1);
     search(&board, -51, -50, &mut below, Scoring::Winner);
     check_kept(&rt, &below, [A[0], A[1], EXACT], 3, 2);
-    Ok(())
 }
 
 #[test]
-fn keeps_a_board_that_passes(rt: HostRuntime) -> Result<(), Fail> {
+fn keeps_a_board_that_passes(rt: HostRuntime) {
     let board = board_of(&rt, [A[1], A[0]]);
     let mut cells = Kept::nothing();
     let found = search(&board, -65, 65, &mut cells, Scoring::Winner);
@@ -127,11 +129,10 @@ fn keeps_a_board_that_passes(rt: HostRuntime) -> Result<(), Fail> {
         1,
         1,
     );
-    Ok(())
 }
 
 #[test]
-fn keeps_images_under_one_board(rt: HostRuntime) -> Result<(), Fail> {
+fn keeps_images_under_one_board(rt: HostRuntime) {
     for words in [
         [0x10, 0xffff_ffff_ffff_ff2e],
         [0x10 << 56, 0x2eff_ffff_ffff_ffff],
@@ -141,11 +142,10 @@ fn keeps_images_under_one_board(rt: HostRuntime) -> Result<(), Fail> {
         search(&board, -65, 65, &mut cells, Scoring::Winner);
         check_kept(&rt, &cells, [A[0], A[1], EXACT], 1, 1);
     }
-    Ok(())
 }
 
 #[test]
-fn looks_up_no_finished_board(rt: HostRuntime) -> Result<(), Fail> {
+fn looks_up_no_finished_board(rt: HostRuntime) {
     for own in [u64::MAX, !(1 << 63), !0x3fff_ffff] {
         let board = board_of(&rt, [own, 0]);
         let mut cells = Kept::nothing();
@@ -153,38 +153,48 @@ fn looks_up_no_finished_board(rt: HostRuntime) -> Result<(), Fail> {
         check_bounds(&rt, found, 64, 64);
         assert!(rt; cells.looks == 0 && cells.puts == 0);
     }
-    Ok(())
 }
 
-/// The boards with fewer empty squares are remembered and not kept, so a null-window search of nine makes one look and
-/// one put.
+/// A null window above and below the value of a board. The boards with fewer empty squares are remembered and not kept,
+/// so a null-window search of nine makes one look and one put.
 #[test]
-fn keeps_what_a_null_window_tells(rt: HostRuntime) -> Result<(), Fail> {
-    let Some(board) = after_least_moves(9) else {
-        panic!(rt; "no line")
-    };
+fn keeps_what_a_null_window_tells(rt: HostRuntime) {
+    let board = line_of(&rt, 9);
     assert!(rt; board.empties() == 9 && board.moves() != 0);
     let value = board.plain_score(Scoring::Winner);
     assert!(rt; -64 < value && value < 64);
+    check_window_below_value(&rt, &board, value - 1);
+    check_window_from_value(&rt, &board, value);
+}
+
+/// The words of an entry of the board with these packed bounds.
+fn words_of(board: &Board, packed: u64) -> [u64; 3] {
     let (image, _) = board.canonical();
-    let mut above = Kept::nothing();
-    let found = Solved::by_null_window(&board, value - 1, &mut above, Scoring::Winner);
-    assert!(rt; found.interval.lower == value && found.interval.upper == 64);
+    [image.own(), image.opp(), packed]
+}
+
+/// The threshold is one below the value, so the search finds that the board gives at least as much.
+fn check_window_below_value(rt: &impl Abort, board: &Board, alpha: i8)
+    requires { IsThreshold alpha }
+{
+    let mut cells = Kept::nothing();
+    let found = Solved::by_null_window(board, alpha, &mut cells, Scoring::Winner);
+    check_bounds(rt, found.interval, alpha + 1, 64);
+    let lower = (i16::from(alpha) + 65) as u64;
+    check_kept(rt, &cells, words_of(board, lower + 256 * 128), 1, 1);
+    Solved::by_null_window(board, alpha, &mut cells, Scoring::Winner);
+    assert!(rt; cells.looks == 2 && cells.puts == 1);
+}
+
+/// The threshold is the value, so the search finds that the board gives at most as much.
+fn check_window_from_value(rt: &impl Abort, board: &Board, value: i8)
+    requires { IsThreshold value }
+{
+    let mut cells = Kept::nothing();
+    let found = Solved::by_null_window(board, value, &mut cells, Scoring::Winner);
+    check_bounds(rt, found.interval, -64, value);
     let lower = (i16::from(value) + 64) as u64;
-    check_kept(
-        &rt,
-        &above,
-        [image.own(), image.opp(), lower + 256 * 128],
-        1,
-        1,
-    );
-    Solved::by_null_window(&board, value - 1, &mut above, Scoring::Winner);
-    assert!(rt; above.looks == 2 && above.puts == 1);
-    let mut below = Kept::nothing();
-    let found = Solved::by_null_window(&board, value, &mut below, Scoring::Winner);
-    assert!(rt; found.interval.lower == -64 && found.interval.upper == value);
-    check_kept(&rt, &below, [image.own(), image.opp(), 256 * lower], 1, 1);
-    Ok(())
+    check_kept(rt, &cells, words_of(board, 256 * lower), 1, 1);
 }
 
 /// Keeps no entry and remembers, and counts the boards that a search visits: those that are looked up, of at least nine
@@ -232,9 +242,7 @@ impl Cells for Counted {
 /// A search that visits many more boards than this one does has lost something: its order, its windows or its memory.
 #[test]
 fn comes_to_few_boards(rt: HostRuntime) -> Result<(), Fail> {
-    let Some(board) = after_least_moves(14) else {
-        panic!(rt; "no line")
-    };
+    let board = line_of(&rt, 14);
     check_counts(
         &rt,
         LocalTable::below(rt.alloc(), 13)?,
@@ -254,9 +262,7 @@ const MOST_RECALLED: u32 = 19_000;
 /// discs the search visits three times as many boards.
 #[test]
 fn ends_where_stable_discs_leave_too_little(rt: HostRuntime) -> Result<(), Fail> {
-    let Some(board) = sample([0x1fff_442a_1d20_0000, 0x6000_bad4_e21d_7ae0]) else {
-        panic!(rt; "no board")
-    };
+    let board = board_of(&rt, [0x1fff_442a_1d20_0000, 0x6000_bad4_e21d_7ae0]);
     let memo = LocalTable::below(rt.alloc(), 13)?;
     let score = check_counts(&rt, memo, board, MOST_LOOKED_WON, MOST_RECALLED_WON);
     assert!(rt; score == 42);
@@ -285,12 +291,8 @@ fn check_counts(
         recalled,
     } = cells;
     assert!(rt;
-        looked > 0 && looked <= most_looked,
-        "{looked} boards are looked up"
-    );
-    assert!(rt;
-        recalled > 0 && recalled <= most_recalled,
-        "{recalled} boards are recalled"
+        0 < looked && looked <= most_looked && 0 < recalled && recalled <= most_recalled,
+        "{looked} boards are looked up and {recalled} recalled"
     );
     answer.score
 }

@@ -6,7 +6,6 @@ use oth_rules::{Board, Scoring};
 use oth_search::{
     Cells, Entry, NoCells, NoPeers, RootMoves, Solved, settle_moves, solve_alone, solve_moves,
 };
-use std::test::Fail;
 
 /// Keeps nothing, and counts the calls.
 #[derive(Drop)]
@@ -27,8 +26,28 @@ impl Cells for Counted {
     fn put(&mut self, _entry: &Entry) {}
 }
 
+// The least upper bound of a reply.
+fn least_upper(moves: &RootMoves) -> i8 {
+    let mut least = 64;
+    for root_move in moves.as_slice() {
+        least = least.min(root_move.child.interval.upper);
+    }
+    least
+}
+
+// Whether each reply's bounds are one number, or above this one.
+fn are_settled(moves: &RootMoves, least: i8) -> bool {
+    for root_move in moves.as_slice() {
+        let bounds = root_move.child.interval;
+        if bounds.lower != bounds.upper && bounds.lower <= least {
+            return false;
+        }
+    }
+    true
+}
+
 #[test]
-fn searches_no_reply_that_is_settled(rt: HostRuntime) -> Result<(), Fail> {
+fn searches_no_reply_that_is_settled(rt: HostRuntime) {
     let board = board_of(&rt, [0xd470_0405_47e5_dd00, 0x0205_7a18_b81a_22fc]);
     let mut moves = RootMoves::of(&Solved::unknown(board, Scoring::Winner), &[]);
     settle_moves(&mut moves, &mut NoCells, &mut NoPeers);
@@ -36,20 +55,11 @@ fn searches_no_reply_that_is_settled(rt: HostRuntime) -> Result<(), Fail> {
     let mut cells = Counted { looks: 0 };
     settle_moves(&mut moves, &mut cells, &mut NoPeers);
     assert!(rt; cells.looks == 0);
-    let mut least = 64;
-    for root_move in moves.as_slice() {
-        least = least.min(root_move.child.interval.upper);
-    }
-    assert!(rt; least == 4);
-    for root_move in moves.as_slice() {
-        let bounds = root_move.child.interval;
-        assert!(rt; bounds.lower == bounds.upper || bounds.lower > least);
-    }
-    Ok(())
+    assert!(rt; least_upper(&moves) == 4 && are_settled(&moves, 4));
 }
 
 #[test]
-fn answers_by_replies_that_are_settled(rt: HostRuntime) -> Result<(), Fail> {
+fn answers_by_replies_that_are_settled(rt: HostRuntime) {
     let board = board_of(&rt, [0xd470_0405_47e5_dd00, 0x0205_7a18_b81a_22fc]);
     let root = Solved::unknown(board, Scoring::Winner);
     let mut settled = RootMoves::of(&root, &[]);
@@ -68,16 +78,14 @@ fn answers_by_replies_that_are_settled(rt: HostRuntime) -> Result<(), Fail> {
     let answer = solve_moves(moves, &mut cells, &mut NoPeers);
     assert!(rt; cells.looks == 0);
     assert!(rt; answer.score == -4);
-    Ok(())
 }
 
 #[test]
-fn starts_from_a_guess(rt: HostRuntime) -> Result<(), Fail> {
+fn starts_from_a_guess(rt: HostRuntime) {
     let board = board_of(&rt, [0x887e_3660_0403_0312, 0x3200_899f_bb7c_0c08]);
     assert!(rt; board.empties() == 17);
     match solve_alone(&board, Scoring::Winner) {
         Ok(answer) => assert!(rt; answer.score == -32 && answer.best == 0x4000_0000_0000_4000),
         Err(_) => panic!(rt; "not solved"),
     }
-    Ok(())
 }

@@ -1,12 +1,10 @@
 //! The scores of all moves of worked boards.
 ghost use Rattle.std.specs.Prelude.{◌<◌};
 
-use super::board_of;
-use oth_rules::samples::after_least_moves;
+use super::{board_of, line_of};
 use oth_rules::{Board, Scoring, Square};
 use oth_search::{Kind, NoCells, ScoredMove, scores_with, solve_with};
 use std::process::Abort;
-use std::test::Fail;
 
 const B1: u8 = 1;
 
@@ -50,20 +48,26 @@ fn scores_no_move_where_there_is_none(rt: HostRuntime) {
     assert!(rt; found.kind() == Kind::End && found.score() == -64);
 }
 
-#[test]
-fn scores_agree_with_the_whole_tree(rt: HostRuntime) -> Result<(), Fail> {
-    let Some(board) = after_least_moves(9) else {
-        panic!(rt; "no line")
-    };
-    for scoring in [Scoring::Winner, Scoring::Discs] {
-        let found = scores_with(board, &mut NoCells, scoring);
-        assert!(rt; found.moves().len() == board.moves().count_ones() as usize);
-        for scored in found.moves() {
-            let Some(child) = board.play(scored.square) else {
-                panic!(rt; "an illegal move")
-            };
-            assert!(rt; scored.score == -child.plain_score(scoring));
+// Whether each move of the board has the value of its whole tree.
+fn are_whole(board: &Board, moves: &[ScoredMove], scoring: Scoring) -> bool {
+    for scored in moves {
+        match board.play(scored.square) {
+            Some(child) => {
+                if i16::from(scored.score) + i16::from(child.plain_score(scoring)) != 0 {
+                    return false;
+                }
+            }
+            None => return false,
         }
     }
-    Ok(())
+    moves.len() == board.moves().count_ones() as usize
+}
+
+#[test]
+fn scores_agree_with_the_whole_tree(rt: HostRuntime) {
+    let board = line_of(&rt, 9);
+    for scoring in [Scoring::Winner, Scoring::Discs] {
+        let found = scores_with(board, &mut NoCells, scoring);
+        assert!(rt; are_whole(&board, found.moves(), scoring));
+    }
 }

@@ -45,11 +45,10 @@ fn a_window_opens_its_first_move(rt: HostRuntime) -> Result<(), Fail> {
 /// A board of 14 empty squares that its mover wins by 42 (another solver gives it that), and the same board with the
 /// other side on the move, who seems to lose it.
 #[test]
-fn a_guess_is_of_the_movers_side(rt: HostRuntime) -> Result<(), Fail> {
+fn a_guess_is_of_the_movers_side(rt: HostRuntime) {
     let board = board_of(&rt, [0x1fff_442a_1d20_0000, 0x6000_bad4_e21d_7ae0]);
     assert!(rt; guessed_score(board) > 0);
     assert!(rt; guessed_score(board.pass()) < 0);
-    Ok(())
 }
 
 // The score that the board seems to have.
@@ -86,7 +85,7 @@ impl Cells for SecondLook {
 /// After b1 eight empty squares touch a disc of the mover, after h6 six: so h6 is searched first, and b1 where children
 /// are ranked by the board before them.
 #[test]
-fn a_move_that_leaves_less_open_is_searched_first(rt: HostRuntime) -> Result<(), Fail> {
+fn a_move_that_leaves_less_open_is_searched_first(rt: HostRuntime) {
     let board = board_of(&rt, [0x1f39_7978_dcfc_fc98, 0x0006_0687_2303_0260]);
     assert!(rt; board.empties() == 10);
     let Some(child) = board.play(Square::numbered(47)) else {
@@ -98,5 +97,4 @@ fn a_move_that_leaves_less_open_is_searched_first(rt: HostRuntime) -> Result<(),
     };
     Solved::by_null_window(&board, 0, &mut cells, Scoring::Winner);
     assert!(rt; cells.board == Some(child.canonical().0));
-    Ok(())
 }

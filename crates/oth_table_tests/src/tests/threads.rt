@@ -4,12 +4,11 @@ ghost use Rattle.std.specs.Thread.{IsSync};
 ghost use Rattle.oth_table.specs.SharedTable.{IsSeatOf};
 ghost use Rattle.oth_rules.specs.declared.scoring.Scoring.TheVariants.{Winner};
 
-use super::{A, C, Three, check_bounds, check_put, stored_entries};
+use super::{A, C, Three, bounds, check_bounds, check_put, table_of, three_entries};
 use oth_rules::Scoring;
 use oth_table::{Look, Put, SharedTable, TableSeat};
 use std::alloc::Global;
 use std::process::Abort;
-use std::test::Fail;
 use std::thread::{Threads, join};
 
 // Whether one of the stored boards was found, with bounds that enclose its value, or no entry at all.
@@ -17,12 +16,12 @@ fn is_right(found: &Look) -> bool {
     match found {
         Look::Empty => false,
         Look::Busy => true,
-        Look::Whole(entry) => {
-            let [own, opp, packed] = entry.words();
-            let is_first = own == A[0] && opp == A[1];
-            let is_other = own == C[0] && opp == C[1];
-            is_first && (packed == 3584 || packed == 32782 || packed == 3598)
-                || is_other && packed == 32896
+        Look::Whole(_) => {
+            let first = bounds(found, A);
+            first == Some(3584)
+                || first == Some(32782)
+                || first == Some(3598)
+                || bounds(found, C) == Some(32896)
         }
     }
 }
@@ -117,43 +116,42 @@ fn crowd<R: Threads + Sync>(
 }
 
 #[test]
-fn threads_share_a_cell(rt: HostRuntime) -> Result<(), Fail> {
-    let Ok((table, mut seat)) = SharedTable::new(rt.alloc(), 1, Scoring::Winner) else {
-        panic!(rt; "no table")
-    };
-    let Some(three) = stored_entries() else {
-        panic!(rt; "no entries")
-    };
-    let Ok(other) = table.seat(rt.alloc(), &mut seat) else {
-        panic!(rt; "no seat")
-    };
+fn threads_share_a_cell(rt: HostRuntime) {
+    let (table, mut seat) = table_of(&rt, 1, Scoring::Winner);
+    let three = three_entries(&rt);
+    let other = table.seat(rt.alloc(), &mut seat).expect(&rt, "a seat");
     assert!(rt; crowd(&rt, rt.alloc(), &table, other, &three, ALL));
     check_put(&rt, &table, &mut seat, &three.other, Put::Stored);
     check_bounds(&rt, &table, &mut seat, C, Some(32896));
-    Ok(())
+}
+
+// The cell is worn out: it takes no further entry and is still looked at.
+fn check_worn(rt: &impl Abort, table: &SharedTable, seat: &mut TableSeat, three: &Three)
+    requires seat { IsSeatOf table.now seat.old }
+    requires cell { 0 < table.now.cells }
+    requires scoring { table.now.terms.scoring ≡ Winner }
+{
+    check_put(rt, table, seat, &three.low, Put::Worn);
+    check_put(rt, table, seat, &three.other, Put::Worn);
+    assert!(rt; matches!(table.look(seat, 0), Look::Whole(_)));
+}
+
+fn check_wear<R: Threads + Sync + AllocGlobal + Abort>(rt: &R, three: &Three, wear: u64) {
+    let made = SharedTable::with_wear(rt.alloc(), 1, wear, Scoring::Winner);
+    let (table, mut seat) = made.expect(rt, "a table");
+    let other = table.seat(rt.alloc(), &mut seat).expect(rt, "a seat");
+    assert!(rt; crowd(rt, rt.alloc(), &table, other, three, ALL));
+    let published = table.published(&mut seat, 0);
+    assert!(rt; published <= wear);
+    if published == wear {
+        check_worn(rt, &table, &mut seat, three);
+    }
 }
 
 #[test]
-fn threads_wear_out_a_cell(rt: HostRuntime) -> Result<(), Fail> {
-    let Some(three) = stored_entries() else {
-        panic!(rt; "no entries")
-    };
+fn threads_wear_out_a_cell(rt: HostRuntime) {
+    let three = three_entries(&rt);
     for wear in [1, 2, 3] {
-        let Ok((table, mut seat)) = SharedTable::with_wear(rt.alloc(), 1, wear, Scoring::Winner)
-        else {
-            panic!(rt; "no table")
-        };
-        let Ok(other) = table.seat(rt.alloc(), &mut seat) else {
-            panic!(rt; "no seat")
-        };
-        assert!(rt; crowd(&rt, rt.alloc(), &table, other, &three, ALL));
-        let published = table.published(&mut seat, 0);
-        assert!(rt; published <= wear);
-        if published == wear {
-            check_put(&rt, &table, &mut seat, &three.low, Put::Worn);
-            check_put(&rt, &table, &mut seat, &three.other, Put::Worn);
-            assert!(rt; matches!(table.look(&mut seat, 0), Look::Whole(_)));
-        }
+        check_wear(&rt, &three, wear);
     }
-    Ok(())
 }

@@ -3,34 +3,44 @@ use oth_text::fakes::{BrokenSource, ByteSink};
 use oth_text::{Failed, FromRead, Sink, Source, ToWrite, write_all};
 use std::cell::Cell;
 use std::io::{Error, ErrorKind, Read, Write};
+use std::process::Abort;
+
+// Whether the source, asked for four bytes at a time, gives these numbers of bytes.
+fn gives(source: &mut impl Source, counts: [Result<usize, Failed>; 2]) -> bool {
+    let mut buffer = [0u8; 4];
+    [source.read(&mut buffer), source.read(&mut buffer)] == counts
+}
 
 #[test]
 fn a_reader_and_a_writer_are_devices(rt: HostRuntime) {
     let mut source = FromRead::new(b"ab".as_slice());
-    let mut buffer = [0u8; 4];
-    assert!(rt; source.read(&mut buffer) == Ok(2));
-    assert!(rt; source.read(&mut buffer) == Ok(0));
+    assert!(rt; gives(&mut source, [Ok(2), Ok(0)]));
     let mut sink = ToWrite::new(Vec::<u8>::new(rt.alloc()));
     assert!(rt; write_all(&mut sink, b"two lines") == Ok(()));
     assert!(rt; sink.flush() == Ok(()));
     assert!(rt; sink.into_inner().as_slice() == b"two lines".as_slice());
 }
 
-#[test]
-fn a_device_fails_after_so_many_bytes(rt: HostRuntime) {
+fn check_source(rt: &impl Abort) {
     let mut source = BrokenSource::new(b"abc", 3).in_steps(2);
+    assert!(rt; gives(&mut source, [Ok(2), Ok(1)]));
     let mut buffer = [0u8; 4];
-    assert!(rt; source.read(&mut buffer) == Ok(2));
-    assert!(rt; source.read(&mut buffer) == Ok(1));
     assert!(rt; source.read(&mut buffer) == Err(Failed));
-    assert!(rt; source.failed());
-    assert!(rt; source.calls() == 3);
+    assert!(rt; source.failed() && source.calls() == 3);
+}
+
+fn check_sink(rt: &impl Abort) {
     let mut sink = ByteSink::<8>::new(2);
     assert!(rt; sink.flush() == Ok(()) && sink.is_flushed());
     assert!(rt; write_all(&mut sink, b"abc") == Err(Failed));
     assert!(rt; sink.taken() == b"ab".as_slice() && !sink.is_flushed());
-    assert!(rt; sink.failed());
-    assert!(rt; sink.calls() == 4);
+    assert!(rt; sink.failed() && sink.calls() == 4);
+}
+
+#[test]
+fn a_device_fails_after_so_many_bytes(rt: HostRuntime) {
+    check_source(&rt);
+    check_sink(&rt);
 }
 
 // A writer that tells nothing of its bytes, and how often it was flushed.
@@ -96,9 +106,7 @@ impl<D: Write> Write for Halting<'_, D> {
     }
 }
 
-// Nothing is lost, and nothing comes twice.
-#[test]
-fn an_interrupted_call_is_tried_again(rt: HostRuntime) {
+fn check_interrupted_source(rt: &impl Abort) {
     let calls = Cell::new(0u8);
     let mut source = FromRead::new(Halting {
         device: b"ab".as_slice(),
@@ -107,10 +115,12 @@ fn an_interrupted_call_is_tried_again(rt: HostRuntime) {
         calls: &calls,
     });
     let mut buffer = [0u8; 4];
-    assert!(rt; source.read(&mut buffer) == Ok(2));
-    assert!(rt; buffer == [b'a', b'b', 0, 0]);
+    assert!(rt; source.read(&mut buffer) == Ok(2) && buffer == [b'a', b'b', 0, 0]);
     assert!(rt; source.read(&mut buffer) == Ok(0));
     assert!(rt; calls.get() == 3 && !source.failed() && source.failure().is_none());
+}
+
+fn check_interrupted_sink(rt: &(impl AllocGlobal + Abort)) {
     let calls = Cell::new(0u8);
     let mut sink = ToWrite::new(Halting {
         device: Vec::<u8>::new(rt.alloc()),
@@ -121,6 +131,13 @@ fn an_interrupted_call_is_tried_again(rt: HostRuntime) {
     assert!(rt; write_all(&mut sink, b"ab") == Ok(()));
     assert!(rt; calls.get() == 2 && !sink.failed() && sink.failure().is_none());
     assert!(rt; sink.into_inner().device.as_slice() == b"ab".as_slice());
+}
+
+// Nothing is lost, and nothing comes twice.
+#[test]
+fn an_interrupted_call_is_tried_again(rt: HostRuntime) {
+    check_interrupted_source(&rt);
+    check_interrupted_sink(&rt);
 }
 
 #[test]
@@ -137,8 +154,15 @@ fn an_interrupted_flush_is_tried_again(rt: HostRuntime) {
     assert!(rt; sink.into_inner().device.times == 1);
 }
 
-#[test]
-fn a_call_that_fails_is_not_tried_again(rt: HostRuntime) {
+// Whether a device failed, by an error of this kind.
+fn failed_by(failure: Option<&Error>, kind: ErrorKind) -> bool {
+    match failure {
+        Some(error) => error.kind() == kind,
+        None => false,
+    }
+}
+
+fn check_blocked_source(rt: &impl Abort) {
     let calls = Cell::new(0u8);
     let mut source = FromRead::new(Halting {
         device: b"ab".as_slice(),
@@ -149,11 +173,10 @@ fn a_call_that_fails_is_not_tried_again(rt: HostRuntime) {
     let mut buffer = [0u8; 4];
     assert!(rt; source.read(&mut buffer) == Err(Failed));
     assert!(rt; calls.get() == 1 && source.failed());
-    assert!(rt;
-        source
-            .failure()
-            .is_some_and(|error| error.kind() == ErrorKind::WouldBlock)
-    );
+    assert!(rt; failed_by(source.failure(), ErrorKind::WouldBlock));
+}
+
+fn check_full_sink(rt: &impl Abort) {
     let calls = Cell::new(0u8);
     let mut sink = ToWrite::new(Halting {
         device: Flushed { times: 0 },
@@ -163,12 +186,14 @@ fn a_call_that_fails_is_not_tried_again(rt: HostRuntime) {
     });
     assert!(rt; sink.write(b"ab") == Err(Failed));
     assert!(rt; calls.get() == 1 && sink.failed());
-    assert!(rt; sink.flush() == Err(Failed));
-    assert!(rt; calls.get() == 2);
-    assert!(rt;
-        sink.failure()
-            .is_some_and(|error| error.kind() == ErrorKind::StorageFull)
-    );
+    assert!(rt; sink.flush() == Err(Failed) && calls.get() == 2);
+    assert!(rt; failed_by(sink.failure(), ErrorKind::StorageFull));
+}
+
+#[test]
+fn a_call_that_fails_is_not_tried_again(rt: HostRuntime) {
+    check_blocked_source(&rt);
+    check_full_sink(&rt);
 }
 
 // A writer that takes no byte.
@@ -190,8 +215,5 @@ fn a_write_that_takes_nothing_fails(rt: HostRuntime) {
     let mut sink = ToWrite::new(Closed {});
     assert!(rt; sink.write(b"") == Ok(0));
     assert!(rt; sink.write(b"ab") == Err(Failed));
-    assert!(rt;
-        sink.failure()
-            .is_some_and(|error| error.kind() == ErrorKind::WriteZero)
-    );
+    assert!(rt; failed_by(sink.failure(), ErrorKind::WriteZero));
 }

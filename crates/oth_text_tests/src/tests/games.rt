@@ -1,16 +1,14 @@
 //! Transcripts, and boards with moves behind them.
-use super::{CORNER_TAKEN, CORNER_TAKEN_TURNED, CORNERS, CORNERS_OVER, START, shown};
+use super::{CORNER_TAKEN, CORNER_TAKEN_TURNED, CORNERS, CORNERS_OVER, START, is_position, shown};
 use oth_text::{
     GameFault, GameReader, LineFault, TranscriptFault, game_fault_line, play_transcript,
-    read_board, read_game, read_transcript, transcript_fault_line, write_board,
+    read_board, read_game, read_transcript, transcript_fault_line,
 };
+use std::process::Abort;
 
 // Whether the transcript leads to the board line.
 fn leads_to(transcript: &[u8], line: &[u8]) -> bool {
-    match read_transcript(transcript) {
-        Ok(position) => write_board(&position).as_slice() == line,
-        Err(_) => false,
-    }
+    is_position(read_transcript(transcript).ok(), line)
 }
 
 // Whether the transcript is refused with this fault line.
@@ -23,10 +21,7 @@ fn fails(transcript: &[u8], refusal: &[u8]) -> bool {
 
 // Whether the line of a board and moves leads to the board line.
 fn plays_to(line: &[u8], reached: &[u8]) -> bool {
-    match read_game(line) {
-        Ok(position) => write_board(&position).as_slice() == reached,
-        Err(_) => false,
-    }
+    is_position(read_game(line).ok(), reached)
 }
 
 // Whether such a line is refused with this fault line.
@@ -164,24 +159,38 @@ fn a_refused_game_has_its_first_fault(rt: HostRuntime) {
     );
 }
 
-#[test]
-fn a_game_in_parts_is_read_as_a_whole_one(rt: HostRuntime) {
-    let mut line = GameReader::new();
-    assert!(rt; line.is_empty());
-    line.push(&CORNERS[..20]);
-    assert!(rt; line.read() == Err(GameFault::Board(LineFault::Length)));
-    line.push(&CORNERS[20..]);
-    assert!(rt; line.read() == read_board(CORNERS).map_err(GameFault::Board));
-    line.push(b" h");
-    assert!(rt; line.read() == Err(GameFault::Moves(TranscriptFault::OddLength)));
-    line.push(b"1");
-    assert!(rt; line.read() == read_board(CORNER_TAKEN).map_err(GameFault::Board));
+// Whether what was pushed is read as this board line with its moves.
+fn is_read_as(line: &GameReader, board_line: &[u8]) -> bool {
+    line.read() == read_board(board_line).map_err(GameFault::Board)
+}
+
+// Whether what was pushed has this fault.
+fn has_fault(line: &GameReader, fault: GameFault) -> bool {
+    line.read() == Err(fault)
+}
+
+fn check_cleared(rt: &impl Abort, line: &mut GameReader) {
     line.clear();
     assert!(rt; line.is_empty());
     line.push(START);
     line.push(b"\r");
     line.push(b" f5");
-    assert!(rt; line.read() == Err(GameFault::Board(LineFault::Length)));
+    assert!(rt; has_fault(line, GameFault::Board(LineFault::Length)));
+}
+
+#[test]
+fn a_game_in_parts_is_read_as_a_whole_one(rt: HostRuntime) {
+    let mut line = GameReader::new();
+    assert!(rt; line.is_empty());
+    line.push(&CORNERS[..20]);
+    assert!(rt; has_fault(&line, GameFault::Board(LineFault::Length)));
+    line.push(&CORNERS[20..]);
+    assert!(rt; is_read_as(&line, CORNERS));
+    line.push(b" h");
+    assert!(rt; has_fault(&line, GameFault::Moves(TranscriptFault::OddLength)));
+    line.push(b"1");
+    assert!(rt; is_read_as(&line, CORNER_TAKEN));
+    check_cleared(&rt, &mut line);
     let corner_taken = shown(&rt, CORNER_TAKEN);
     assert!(rt; play_transcript(shown(&rt, CORNERS), b"h1") == Ok(corner_taken));
 }
