@@ -3,6 +3,7 @@
 mod announcing;
 mod following;
 mod noting;
+mod ways;
 
 use super::crews::BOARDS;
 use super::fixtures::board_of;
