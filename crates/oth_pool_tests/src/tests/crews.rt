@@ -21,6 +21,9 @@ pub(super) const WITH_PASSES: [[u64; 2]; 3] = [
     [0x8276_2a0f_2f51_3f00, 0x1c09_5070_10ae_c0ff],
 ];
 
+// Cells of tables, of which the first is none.
+pub(super) const TABLES: [u32; 3] = [0, 1, 4_096];
+
 // Crews of 2, 4 and 16 workers over `cells` cells answer the board as one thread alone does.
 pub(super) fn check_board<R: Threads + Sync + AllocGlobal + Abort>(
     rt: &R,
