@@ -13,6 +13,17 @@ pub(super) const BOARDS: [[u64; 2]; 3] = [
     [0x450b_3b61_676b_5000, 0x18a4_c49c_9884_a2f0],
 ];
 
+// Boards of games, of 13, 12 and 10 empty squares: the opponent must pass after a move of the first two, and the other
+// side of the first one at once; the mover must pass after a reply on the third.
+pub(super) const WITH_PASSES: [[u64; 2]; 3] = [
+    [0x0080_00b0_b0f0_f080, 0x407e_784b_4f0f_0f7f],
+    [0x8080_8101_213d_073f, 0x4262_7afe_dec2_f800],
+    [0x8276_2a0f_2f51_3f00, 0x1c09_5070_10ae_c0ff],
+];
+
+// Cells of tables, of which the first is none.
+pub(super) const TABLES: [u32; 3] = [0, 1, 4_096];
+
 // Crews of 2, 4 and 16 workers over `cells` cells answer the board as one thread alone does.
 pub(super) fn check_board<R: Threads + Sync + AllocGlobal + Abort>(
     rt: &R,

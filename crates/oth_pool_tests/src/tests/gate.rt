@@ -3,12 +3,16 @@
 mod announcing;
 mod following;
 mod noting;
+mod ways;
 
-use super::crews::BOARDS;
-use super::fixtures::board_of;
+use super::crews::{BOARDS, TABLES, WITH_PASSES};
+use super::fixtures::{answer_of, board_of};
 use super::{A, B, C, CORNERS};
+use announcing::{line_to, with_passes};
+use noting::Tally;
 use oth_pool::{Frontier, Gate, solve};
 use oth_rules::{Board, Scoring};
+use oth_search::Answer;
 use std::alloc::Global;
 use std::process::Abort;
 use std::sync::atomic::{AtomicU64, Ordering};
@@ -155,6 +159,52 @@ impl Gate for Counting {
     fn after(&self, _task: u32) {
         self.ended.fetch_add(1, Ordering::SeqCst);
     }
+}
+
+// The gate of `solve` by this number of workers and of cells hears once of each of the items of the answer's board.
+fn check_heard_by<R: Threads + Sync + AllocGlobal + Abort>(
+    rt: &R,
+    alone: &Answer,
+    workers: u8,
+    cells: u32,
+) {
+    let tally = Tally::new();
+    let alloc = rt.alloc();
+    let found = solve(
+        rt,
+        alloc,
+        &alone.board,
+        workers,
+        cells,
+        &tally,
+        None,
+        Scoring::Winner,
+    );
+    assert!(rt; found == Ok(*alone), "{workers} workers, {cells} cells");
+    tally.counts(rt, items_of(&alone.board).0.min(1_000) as u32);
+}
+
+// It does so by each number of workers and over each table.
+fn check_heard_once<R: Threads + Sync + AllocGlobal + Abort>(rt: &R, root: &Board) {
+    let alone = answer_of(rt, root, Scoring::Winner);
+    for workers in [1, 2, 4, 16] {
+        for cells in TABLES {
+            check_heard_by(rt, &alone, workers, cells);
+        }
+    }
+}
+
+#[test]
+fn each_crew_announces_each_item_once(rt: HostRuntime) {
+    for (words, empties) in [(BOARDS[0], 13), (BOARDS[1], 11), (BOARDS[2], 9)] {
+        check_heard_once(&rt, &line_to(&rt, words, empties));
+    }
+    for words in WITH_PASSES {
+        check_heard_once(&rt, &with_passes(&rt, words));
+    }
+    let passing = with_passes(&rt, WITH_PASSES[0]).pass();
+    assert!(rt; !passing.can_move());
+    check_heard_once(&rt, &passing);
 }
 
 #[test]

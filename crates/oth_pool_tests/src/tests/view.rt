@@ -54,14 +54,16 @@ impl<'t> TableView<'t> {
     }
 
     // Whether one of `looks` looks finds the board.
-    fn is_there(&self, board: &Board, looks: u32) -> bool {
+    pub(super) fn is_there(&self, board: &Board, looks: u32) -> bool {
         for _ in 0..looks {
             if let Some(mut cells) = self.cells.try_lock() {
                 if has_entry(&mut *cells, board) {
                     return true;
                 }
             }
-            thread::yield_now();
+            if looks > 1 {
+                thread::yield_now();
+            }
         }
         false
     }

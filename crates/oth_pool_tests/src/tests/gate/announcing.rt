@@ -5,17 +5,17 @@ ghost use Rattle.oth_rules.specs.Position.{empty_count};
 ghost use Rattle.oth_rules.specs.Move.{can_move};
 ghost use Rattle.oth_pieces.specs.Hands.{IsCrew};
 
-use super::super::crews::BOARDS;
+use super::super::crews::{BOARDS, WITH_PASSES};
 use super::super::fixtures::{board_of, floor_of, table_of};
 use super::super::view::TableView;
-use super::noting::are_few_searched;
+use super::noting::{Counts, Tally};
+use oth_pieces::awake;
 use oth_pool::{Frontier, Gate, Open, run_workers};
 use oth_rules::samples::least_moves_from;
-use oth_rules::{Board, Scoring};
+use oth_rules::{Board, Scoring, Square};
 use oth_search::backed_up_from;
 use oth_table::TableCells;
 use std::process::Abort;
-use std::sync::atomic::{AtomicU64, Ordering};
 use std::thread::Threads;
 
 // Looks in the table for the board of each item, when it is announced and when its search has ended.
@@ -23,27 +23,16 @@ use std::thread::Threads;
 struct Looking<'t> {
     view: TableView<'t>,
     frontier: &'t Frontier,
-    // How many items there were, how many of them the table had before, and of how many it had nothing after.
-    begun: AtomicU64,
-    early: AtomicU64,
-    idle: AtomicU64,
+    // How often it looks for an item that is announced.
+    looks: u32,
+    tally: Tally,
 }
 
 impl<'t> Looking<'t> {
-    fn of(view: TableView<'t>, frontier: &'t Frontier) -> Looking<'t> {
-        Looking {
-            view,
-            frontier,
-            begun: AtomicU64::new(0),
-            early: AtomicU64::new(0),
-            idle: AtomicU64::new(0),
-        }
-    }
-
-    // Whether the table has the item's board.
-    fn has(&self, task: u32) -> bool {
+    // Whether one of `looks` looks finds the item's board.
+    fn has(&self, task: u32, looks: u32) -> bool {
         match self.frontier.item(task) {
-            Some(board) => self.view.has_board(&board),
+            Some(board) => self.view.is_there(&board, looks),
             None => false,
         }
     }
@@ -51,16 +40,11 @@ impl<'t> Looking<'t> {
 
 impl<'t> Gate for Looking<'t> {
     fn before(&self, task: u32) {
-        self.begun.fetch_add(1, Ordering::SeqCst);
-        if self.has(task) {
-            self.early.fetch_add(1, Ordering::SeqCst);
-        }
+        self.tally.begin(task, self.has(task, self.looks));
     }
 
     fn after(&self, task: u32) {
-        if !self.has(task) {
-            self.idle.fetch_add(1, Ordering::SeqCst);
-        }
+        self.tally.end(task, self.has(task, 10));
     }
 }
 
@@ -76,6 +60,42 @@ pub(super) fn line_to(rt: &impl Abort, words: [u64; 2], empties: u8) -> Board
         panic!(rt; "no such line")
     }
     board
+}
+
+// The board of these words, with items apart and a pass in the first two plies.
+pub(super) fn with_passes(rt: &impl Abort, words: [u64; 2]) -> Board
+    ensures few { empty_count result ≤ 30 }
+    ensures some { can_move result ≡ true }
+{
+    let board = board_of(rt, words);
+    assert!(rt; board.can_move());
+    assert!(rt; are_apart(&Frontier::of(&board, 2)));
+    assert!(rt; passes_after_move(&board) || passes_after_reply(&board));
+    board
+}
+
+// Whether the opponent must pass after a move.
+fn passes_after_move(board: &Board) -> bool {
+    for number in 0..64 {
+        if let Some(child) = board.play(Square::numbered(number)) {
+            if awake(child).1 {
+                return true;
+            }
+        }
+    }
+    false
+}
+
+// Whether the mover must pass after a reply to a move.
+fn passes_after_reply(board: &Board) -> bool {
+    for number in 0..64 {
+        if let Some(child) = board.play(Square::numbered(number)) {
+            if child.can_move() && passes_after_move(&child) {
+                return true;
+            }
+        }
+    }
+    false
 }
 
 // Whether no item's board is an image of another item's, so that none is known by the search of another one.
@@ -96,21 +116,26 @@ pub(super) fn image(frontier: &Frontier, number: u32) -> Option<Board> {
     Some(board.canonical().0)
 }
 
-// How many items `workers` workers over a table announced, and of how many the table had nothing when their search was
-// said to be over. Fails where the table has one before it is announced.
+// What `workers` workers over a table of `cells` cells announced.
 fn announced_by<R: Threads + Sync + AllocGlobal + Abort>(
     rt: &R,
     root: &Board,
     workers: u8,
-) -> (u64, u64)
+    cells: u32,
+) -> Counts
     requires few { empty_count root.now ≤ 30 }
     requires crew { IsCrew workers }
 {
     let frontier = Frontier::of(root, 2);
     let (floor, mut seat) = floor_of(rt, root);
-    let (table, own) = table_of(rt, 65_536);
+    let (table, own) = table_of(rt, cells);
     let mut access = Some(TableCells::of(&table, own));
-    let gate = Looking::of(TableView::of(rt.alloc(), &mut access, *root), &frontier);
+    let gate = Looking {
+        view: TableView::of(rt.alloc(), &mut access, *root),
+        frontier: &frontier,
+        looks: if workers < 16 { 1 } else { 0 },
+        tally: Tally::new(),
+    };
     let alloc = rt.alloc();
     let found = run_workers(
         rt,
@@ -123,16 +148,7 @@ fn announced_by<R: Threads + Sync + AllocGlobal + Abort>(
         &gate,
     );
     assert!(rt; found.drawn.left.is_empty());
-    assert!(rt;
-        gate.early.load(Ordering::SeqCst) == 0,
-        "{workers} workers at {} empty squares searched {} items early",
-        root.empties(),
-        gate.early.load(Ordering::SeqCst)
-    );
-    (
-        gate.begun.load(Ordering::SeqCst),
-        gate.idle.load(Ordering::SeqCst),
-    )
+    gate.tally.counts(rt, frontier.len())
 }
 
 #[test]
@@ -140,16 +156,39 @@ fn workers_announce_each_item_before_anybody_searches_it(rt: HostRuntime) {
     for words in BOARDS {
         for empties in 9..=14 {
             let root = line_to(&rt, words, empties);
-            let frontier = Frontier::of(&root, 2);
-            if !are_apart(&frontier) {
-                continue;
-            }
             for workers in [1, 2, 4] {
-                let (begun, _) = announced_by(&rt, &root, workers);
-                assert!(rt; begun == u64::from(frontier.len()));
+                announced_by(&rt, &root, workers, 65_536);
             }
         }
     }
+}
+
+// By each number of workers over smaller tables. Of 16 workers, which share the processors, the gate looks at the end
+// alone: who waits for another one in `before` doesn't wait for long.
+fn check_announced<R: Threads + Sync + AllocGlobal + Abort>(rt: &R, root: &Board)
+    requires few { empty_count root.now ≤ 30 }
+{
+    for workers in [1, 2, 4, 16] {
+        for cells in [1, 4_096] {
+            announced_by(rt, root, workers, cells);
+        }
+    }
+}
+
+#[test]
+fn workers_over_smaller_tables_announce_each_item_before_they_search_it(rt: HostRuntime) {
+    check_announced(&rt, &line_to(&rt, BOARDS[1], 11));
+    check_announced(&rt, &line_to(&rt, BOARDS[2], 12));
+    for words in &WITH_PASSES[1..] {
+        check_announced(&rt, &with_passes(&rt, *words));
+    }
+}
+
+// Whether between a tenth and a half of these items were searched when they were announced: of the others none was
+// needed, since their move was settled by bounds.
+fn are_few_searched(counts: Counts) -> bool {
+    let items = counts.items();
+    counts.searched.saturating_mul(10) >= items && counts.searched.saturating_mul(2) <= items
 }
 
 #[test]
@@ -157,7 +196,7 @@ fn few_items_are_searched_by_workers_over_a_table(rt: HostRuntime) {
     for words in BOARDS {
         let root = line_to(&rt, words, 14);
         for workers in [1, 2, 4] {
-            let counts = announced_by(&rt, &root, workers);
+            let counts = announced_by(&rt, &root, workers, 65_536);
             assert!(rt; are_few_searched(counts), "{workers} workers: {counts:?}");
         }
     }

@@ -1,26 +1,150 @@
-//! That each item is announced before it is searched, whatever keeps what is found: cells of these tests note it.
+//! Gates that count what they hear of each item, and cells that note of which items something is found.
 
-ghost use Rattle.std.specs.Prelude.{◌≡◌, ◌≤◌, true};
-ghost use Rattle.oth_rules.specs.Position.{empty_count};
-ghost use Rattle.oth_rules.specs.Move.{can_move};
-
-use super::super::crews::BOARDS;
-use super::super::fixtures::{answer_of, floor_of};
-use super::announcing::{are_apart, image, line_to};
+use super::announcing::image;
+use oth_pieces::awake;
 use oth_pool::{Frontier, Gate};
 use oth_rules::{Board, Scoring};
-use oth_search::{Cells, Entry, RootMoves, Solved, solve_moves};
-use oth_walk::{
-    Alone, Announced, Announcer, BoundsSeat, HintSeat, ItemSet, RootBound, Search, Seats, Sharing,
-    Worker, search_item, settle_all,
-};
+use oth_search::{Cells, Entry, Solved};
+use oth_walk::ItemSet;
 use std::process::Abort;
 use std::sync::atomic::{AtomicU64, Ordering};
 use std::thread::join;
 
+// Of how many items something was found between the two calls, and of how many nothing: of those that were announced
+// before one of the former, and of those that came last.
+#[derive(Clone, Copy, Debug)]
+pub(super) struct Counts {
+    pub searched: u64,
+    pub left: u64,
+    pub last: u64,
+}
+
+impl Counts {
+    pub(super) fn items(self) -> u64 {
+        self.searched
+            .saturating_add(self.left)
+            .saturating_add(self.last)
+    }
+
+    // Whether something was found of at least a tenth of the items between the two calls.
+    pub(super) fn are_of_searches(self) -> bool {
+        let items = self.items();
+        self.searched.saturating_mul(10) >= items
+    }
+}
+
+// What a gate has heard of each item, and what was known of it then.
+#[derive(Drop)]
+pub(super) struct Tally {
+    begun: ItemSet,
+    ended: ItemSet,
+    // How many calls came a second time or without the one before, and how many items were known when announced.
+    wrong: AtomicU64,
+    early: AtomicU64,
+    // As `Counts` has them.
+    searched: AtomicU64,
+    left: AtomicU64,
+    last: AtomicU64,
+}
+
+impl Tally {
+    pub(super) fn new() -> Tally {
+        Tally {
+            begun: ItemSet::new(),
+            ended: ItemSet::new(),
+            wrong: AtomicU64::new(0),
+            early: AtomicU64::new(0),
+            searched: AtomicU64::new(0),
+            left: AtomicU64::new(0),
+            last: AtomicU64::new(0),
+        }
+    }
+
+    // The item is announced, of which something is known by then or not.
+    pub(super) fn begin(&self, task: u32, is_known: bool) {
+        if !self.begun.add(task) {
+            self.wrong.fetch_add(1, Ordering::SeqCst);
+        }
+        if is_known {
+            self.early.fetch_add(1, Ordering::SeqCst);
+        }
+    }
+
+    // The search of the item has ended, of which something is known by then or not.
+    pub(super) fn end(&self, task: u32, is_known: bool) {
+        if !self.begun.has(task) || !self.ended.add(task) {
+            self.wrong.fetch_add(1, Ordering::SeqCst);
+        }
+        if is_known {
+            self.searched.fetch_add(1, Ordering::SeqCst);
+            let idle = self.last.swap(0, Ordering::SeqCst);
+            self.left.fetch_add(idle, Ordering::SeqCst);
+        } else {
+            self.last.fetch_add(1, Ordering::SeqCst);
+        }
+    }
+
+    // How many items there were. Fails unless it has heard once of each of `items`, before anything was known of it.
+    pub(super) fn counts(&self, rt: &impl Abort, items: u32) -> Counts {
+        let counts = Counts {
+            searched: self.searched.load(Ordering::SeqCst),
+            left: self.left.load(Ordering::SeqCst),
+            last: self.last.load(Ordering::SeqCst),
+        };
+        assert!(rt; self.wrong.load(Ordering::SeqCst) == 0);
+        assert!(rt; self.early.load(Ordering::SeqCst) == 0);
+        assert!(rt; counts.items() == u64::from(items));
+        counts
+    }
+}
+
+// Hears of each item once, and sees nothing.
+impl Gate for Tally {
+    fn before(&self, task: u32) {
+        self.begin(task, false);
+    }
+
+    fn after(&self, task: u32) {
+        self.end(task, false);
+    }
+}
+
+// Looks at each call whether something was found of the item.
+#[derive(Drop)]
+pub(super) struct Noticing<'n> {
+    found: &'n ItemSet,
+    tally: Tally,
+}
+
+impl<'n> Noticing<'n> {
+    pub(super) fn of(found: &'n ItemSet) -> Noticing<'n> {
+        Noticing {
+            found,
+            tally: Tally::new(),
+        }
+    }
+
+    // Fails unless it has heard once of each of `items`, before anything was found of it, something was found of a
+    // tenth of them between the two calls, and the others came last, since no search needed them.
+    pub(super) fn check(&self, rt: &impl Abort, items: u32) {
+        let counts = self.tally.counts(rt, items);
+        assert!(rt; counts.are_of_searches() && counts.left == 0, "{counts:?}");
+    }
+}
+
+impl<'n> Gate for Noticing<'n> {
+    fn before(&self, task: u32) {
+        self.tally.begin(task, self.found.has(task));
+    }
+
+    fn after(&self, task: u32) {
+        self.tally.end(task, self.found.has(task));
+    }
+}
+
 // Cells that keep nothing, and note of which items something is found.
 #[derive(Drop)]
-struct Noting<'n> {
+pub(super) struct Noting<'n> {
     frontier: &'n Frontier,
     found: &'n ItemSet,
     empties: u8,
@@ -28,7 +152,7 @@ struct Noting<'n> {
 
 impl<'n> Noting<'n> {
     // Cells of the search of a board of `empties` empty squares.
-    fn of(frontier: &'n Frontier, found: &'n ItemSet, empties: u8) -> Noting<'n> {
+    pub(super) fn of(frontier: &'n Frontier, found: &'n ItemSet, empties: u8) -> Noting<'n> {
         Noting {
             frontier,
             found,
@@ -40,7 +164,7 @@ impl<'n> Noting<'n> {
         if board.empties() + 2 != self.empties {
             return;
         }
-        let least = board.canonical().0;
+        let least = awake(*board).0.canonical().0;
         for number in 0..self.frontier.len() {
             if image(self.frontier, number) == Some(least) {
                 self.found.add(number);
@@ -65,130 +189,6 @@ impl<'n> Cells for Noting<'n> {
     fn store_local(&mut self, solved: &Solved) {
         self.note(&solved.board);
     }
-}
-
-// Looks at each call whether something was found of the item.
-#[derive(Drop)]
-struct Noticing<'n> {
-    found: &'n ItemSet,
-    begun: AtomicU64,
-    early: AtomicU64,
-    idle: AtomicU64,
-}
-
-impl<'n> Noticing<'n> {
-    fn of(found: &'n ItemSet) -> Noticing<'n> {
-        Noticing {
-            found,
-            begun: AtomicU64::new(0),
-            early: AtomicU64::new(0),
-            idle: AtomicU64::new(0),
-        }
-    }
-
-    // How many items were announced, none of them after something was found of it, and round how many nothing was.
-    fn told(&self, rt: &impl Abort, items: u32) -> (u64, u64) {
-        assert!(rt; self.early.load(Ordering::SeqCst) == 0);
-        assert!(rt; self.begun.load(Ordering::SeqCst) == u64::from(items));
-        (u64::from(items), self.idle.load(Ordering::SeqCst))
-    }
-}
-
-impl<'n> Gate for Noticing<'n> {
-    fn before(&self, task: u32) {
-        self.begun.fetch_add(1, Ordering::SeqCst);
-        if self.found.has(task) {
-            self.early.fetch_add(1, Ordering::SeqCst);
-        }
-    }
-
-    fn after(&self, task: u32) {
-        if !self.found.has(task) {
-            self.idle.fetch_add(1, Ordering::SeqCst);
-        }
-    }
-}
-
-// The only worker of a search answers the board, and announces each item before it finds anything of it. Returns how
-// many items there are, and of how many it found nothing.
-fn check_alone<R: AllocGlobal + Abort>(rt: &R, root: &Board) -> (u64, u64)
-    requires few { empty_count root.now ≤ 30 }
-    requires some { can_move root.now ≡ true }
-{
-    let frontier = Frontier::of(root, 2);
-    let found = ItemSet::new();
-    let gate = Noticing::of(&found);
-    let announced = Announced::of(root, None, &gate);
-    let mut cells = Noting::of(&frontier, &found, root.empties());
-    let mut alone = Alone::of(&gate, &announced);
-    let moves = RootMoves::of(&Solved::unknown(*root, Scoring::Winner), &[]);
-    let answer = solve_moves(moves, &mut cells, &mut alone);
-    announced.finish(&gate);
-    assert!(rt; answer == answer_of(rt, root, Scoring::Winner));
-    gate.told(rt, frontier.len())
-}
-
-// One of several workers, who is left alone, settles each move, and announces each item before it finds anything of it.
-// Returns how many items there are, and of how many it found nothing.
-fn check_worker<R: AllocGlobal + Abort>(rt: &R, root: &Board, sharing: Sharing) -> (u64, u64)
-    requires few { empty_count root.now ≤ 30 }
-{
-    let frontier = Frontier::of(root, 2);
-    let found = ItemSet::new();
-    let gate = Noticing::of(&found);
-    let announced = Announced::of(root, Some(&frontier), &gate);
-    let moves = RootMoves::of(&Solved::unknown(*root, Scoring::Winner), &[]);
-    let search = Search::of(&moves, &frontier, sharing);
-    let (floor, seat) = floor_of(rt, root);
-    let seats = Seats {
-        root_bound: RootBound::of(&floor, seat),
-        hints: HintSeat::none(),
-        bounds: BoundsSeat::none(),
-        announcer: Announcer::of(&announced),
-    };
-    let cells = Noting::of(&frontier, &found, root.empties());
-    let mut worker = Worker::of(&search, rt.alloc(), cells, seats, &gate);
-    for number in 0..frontier.len() {
-        if let Some(item) = frontier.entry(number) {
-            search_item(&search, number, &item, &mut worker);
-        }
-    }
-    settle_all(&mut worker);
-    announced.finish(&gate);
-    assert!(rt; worker.floor() == answer_of(rt, root, Scoring::Winner).score);
-    gate.told(rt, frontier.len())
-}
-
-#[test]
-fn one_worker_announces_each_item_before_it_searches_it(rt: HostRuntime) {
-    for words in BOARDS {
-        for empties in 9..=14 {
-            let root = line_to(&rt, words, empties);
-            if are_apart(&Frontier::of(&root, 2)) {
-                check_alone(&rt, &root);
-            }
-        }
-    }
-}
-
-#[test]
-fn a_worker_without_a_table_announces_each_item_before_it_searches_it(rt: HostRuntime) {
-    for words in BOARDS {
-        for empties in 9..=13 {
-            let root = line_to(&rt, words, empties);
-            if are_apart(&Frontier::of(&root, 2)) {
-                check_worker(&rt, &root, Sharing::Apart);
-                check_worker(&rt, &root, Sharing::OverTable);
-            }
-        }
-    }
-}
-
-// Whether between a tenth and a half of these items were searched when they were announced: of the others none was
-// needed, since their move was settled by bounds.
-pub(super) fn are_few_searched((items, idle): (u64, u64)) -> bool {
-    let searched = items.saturating_sub(idle);
-    searched.saturating_mul(10) >= items && searched.saturating_mul(2) <= items
 }
 
 // How many of 870 items this thread adds to the set. It begins as soon as both threads are there, so that they race for
