@@ -117,7 +117,8 @@ fn a_refused_line_has_its_first_fault(rt: HostRuntime) {
     );
 }
 
-fn check_board_in_parts(rt: &impl Abort) {
+#[test]
+fn a_line_in_parts_is_read_as_a_whole_one(rt: HostRuntime) {
     let mut line = BoardReader::new();
     assert!(rt; line.is_empty());
     line.push(&START[..20]);
@@ -129,9 +130,6 @@ fn check_board_in_parts(rt: &impl Abort) {
     assert!(rt; line.read() == Err(LineFault::Length));
     line.clear();
     assert!(rt; line.is_empty());
-}
-
-fn check_transcript_in_parts(rt: &impl Abort) {
     let mut line = TranscriptReader::new();
     assert!(rt; line.is_empty());
     line.push(b"f");
@@ -141,10 +139,4 @@ fn check_transcript_in_parts(rt: &impl Abort) {
     assert!(rt; line.read() == read_transcript(b"f5d6c3d3c4"));
     line.clear();
     assert!(rt; line.read() == Ok(Position::start()));
-}
-
-#[test]
-fn a_line_in_parts_is_read_as_a_whole_one(rt: HostRuntime) {
-    check_board_in_parts(&rt);
-    check_transcript_in_parts(&rt);
 }

@@ -5,42 +5,33 @@ use std::cell::Cell;
 use std::io::{Error, ErrorKind, Read, Write};
 use std::process::Abort;
 
-// Whether the source, asked for four bytes at a time, gives these numbers of bytes.
-fn gives(source: &mut impl Source, counts: [Result<usize, Failed>; 2]) -> bool {
-    let mut buffer = [0u8; 4];
-    [source.read(&mut buffer), source.read(&mut buffer)] == counts
-}
-
 #[test]
 fn a_reader_and_a_writer_are_devices(rt: HostRuntime) {
     let mut source = FromRead::new(b"ab".as_slice());
-    assert!(rt; gives(&mut source, [Ok(2), Ok(0)]));
+    let mut buffer = [0u8; 4];
+    assert!(rt; source.read(&mut buffer) == Ok(2));
+    assert!(rt; source.read(&mut buffer) == Ok(0));
     let mut sink = ToWrite::new(Vec::<u8>::new(rt.alloc()));
     assert!(rt; write_all(&mut sink, b"two lines") == Ok(()));
     assert!(rt; sink.flush() == Ok(()));
     assert!(rt; sink.into_inner().as_slice() == b"two lines".as_slice());
 }
 
-fn check_source(rt: &impl Abort) {
+#[test]
+fn a_device_fails_after_so_many_bytes(rt: HostRuntime) {
     let mut source = BrokenSource::new(b"abc", 3).in_steps(2);
-    assert!(rt; gives(&mut source, [Ok(2), Ok(1)]));
     let mut buffer = [0u8; 4];
+    assert!(rt; source.read(&mut buffer) == Ok(2));
+    assert!(rt; source.read(&mut buffer) == Ok(1));
     assert!(rt; source.read(&mut buffer) == Err(Failed));
-    assert!(rt; source.failed() && source.calls() == 3);
-}
-
-fn check_sink(rt: &impl Abort) {
+    assert!(rt; source.failed());
+    assert!(rt; source.calls() == 3);
     let mut sink = ByteSink::<8>::new(2);
     assert!(rt; sink.flush() == Ok(()) && sink.is_flushed());
     assert!(rt; write_all(&mut sink, b"abc") == Err(Failed));
     assert!(rt; sink.taken() == b"ab".as_slice() && !sink.is_flushed());
-    assert!(rt; sink.failed() && sink.calls() == 4);
-}
-
-#[test]
-fn a_device_fails_after_so_many_bytes(rt: HostRuntime) {
-    check_source(&rt);
-    check_sink(&rt);
+    assert!(rt; sink.failed());
+    assert!(rt; sink.calls() == 4);
 }
 
 // A writer that tells nothing of its bytes, and how often it was flushed.
