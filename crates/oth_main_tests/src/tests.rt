@@ -1,5 +1,5 @@
-//! Runs over rows and over devices that fail, the commands of the book, the reasons in words, and command lines. The
-//! expected lines are those that the rules and the formats give.
+//! Runs over rows and over devices that fail, the commands of the book, and the reasons in words. The expected lines
+//! are those that the rules and the formats give.
 
 mod batches;
 mod books;
@@ -11,7 +11,6 @@ mod joined;
 mod reasons;
 mod refused;
 mod rows;
-mod words;
 
 use oth_main::{Command, RunFault, Settings, run};
 use oth_pool::Open;
