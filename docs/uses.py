@@ -18,7 +18,7 @@ TOP = os.path.dirname(os.path.dirname(os.path.abspath(__file__)))
 PAGE = "docs/LIBRARY.md"
 BLOCK = re.compile(r"^`([^`\n]+)`:\n\n```(\w+)\n(.*?)^```$", re.MULTILINE | re.DOTALL)
 LINE = re.compile(r"^Its line is `mine: ([^`\n]+)`\.\n\n`([^`\n]+)`:$", re.MULTILINE)
-NOT_SHOWN = ("lib.rt", "tests.rt")
+NOT_SHOWN = ("lib.rt",)
 LINKED = ("crates/oth_uses/src/analysis.rt",)
 BUILD = re.compile(r"cc -O2 -I\. worked\.c libothsolve\.a -o worked")
 

@@ -9,8 +9,6 @@ mod in_time;
 mod own_sink;
 mod shared_table;
 mod solved_board;
-#[cfg(test)]
-mod tests;
 
 pub use analysis::{Unscored, loss_of, scores_after};
 pub use book_and_workers::{NoAnswer, solve_by_book};

@@ -1,17 +1,15 @@
 //! Each caller once, on boards whose answers are known.
 
-ghost use Rattle.std.specs.Prelude.{IfSome};
 ghost use Rattle.oth_table.specs.SharedTable.{IsSeatOf};
 
-use crate::{
+use oth_rules::{Board, Scoring, Square};
+use oth_search::{Scores, StopFlag};
+use oth_table::{SharedTable, TableCells, TableSeat};
+use oth_uses::{
     Unscored, Unsolved, best_moves, board_after, bounds_about, bounds_in_time, kept_report,
     loss_of, scores_after, solve_both, solve_by_book,
 };
-use oth_rules::{Board, Scoring, Square};
-use oth_search::StopFlag;
-use oth_table::{SharedTable, TableCells, TableSeat};
-use std::alloc::Global;
-use std::test::Fail;
+use std::process::Abort;
 
 // Row 1 `--OXOOO-`, all other cells O: the mover X has d1.
 const A: [u64; 2] = [0x8, 0xffff_ffff_ffff_ff74];
@@ -19,6 +17,10 @@ const A: [u64; 2] = [0x8, 0xffff_ffff_ffff_ff74];
 const BOOK: &[u8] =
     b"OBOOK2 W\n--OXOOO-OOOOOOOOOOOOOOOOOOOOOOOOOOOOOOOOOOOOOOOOOOOOOOOOOOOOOOOO -50 -50 0000000000000080\n\
       END 000001\n";
+
+fn board_a(rt: &impl Abort) -> Board {
+    Board::of(A[0], A[1]).expect(rt, "no disc is of both sides")
+}
 
 #[test]
 fn a_board_is_solved(rt: HostRuntime) {
@@ -30,10 +32,7 @@ fn a_board_is_solved(rt: HostRuntime) {
 
 #[test]
 fn a_board_is_solved_by_a_book(rt: HostRuntime) {
-    let Ok(board) = Board::of(A[0], A[1]) else {
-        panic!(rt; "no board")
-    };
-    let found = solve_by_book(&rt, rt.alloc(), BOOK, &board).map(|answer| (
+    let found = solve_by_book(&rt, rt.alloc(), BOOK, &board_a(&rt)).map(|answer| (
         answer.score,
         answer.best,
     ));
@@ -41,31 +40,24 @@ fn a_board_is_solved_by_a_book(rt: HostRuntime) {
 }
 
 #[test]
-fn two_threads_solve_over_one_table(rt: HostRuntime) -> Result<(), Fail> {
-    let Ok(board) = Board::of(A[0], A[1]) else {
-        panic!(rt; "no board")
-    };
-    let Ok((first, second)) = solve_both(&rt, rt.alloc(), board, board.pass(), 64) else {
-        panic!(rt; "no table")
-    };
+fn two_threads_solve_over_one_table(rt: HostRuntime) {
+    let board = board_a(&rt);
+    let both = solve_both(&rt, rt.alloc(), board, board.pass(), 64);
+    let (first, second) = both.expect(&rt, "a table");
     assert!(rt; first.score == -50 && second.score == 50);
-    Ok(())
 }
 
-// A, and a table of 64 cells with its first seat.
-fn board_and_table(alloc: Global) -> Option<(Board, SharedTable, TableSeat)>
-    ensures { IfSome result (λ x. IsSeatOf x.1 x.2) }
+// A table of 64 cells, and its first seat.
+fn table_of(rt: &(impl AllocGlobal + Abort)) -> (SharedTable, TableSeat)
+    ensures { IsSeatOf result.0 result.1 }
 {
-    let board = Board::of(A[0], A[1]).ok()?;
-    let (table, seat) = SharedTable::new(alloc, 64, Scoring::Winner).ok()?;
-    Some((board, table, seat))
+    SharedTable::new(rt.alloc(), 64, Scoring::Winner).expect(rt, "a table")
 }
 
 #[test]
 fn an_engine_asks_a_table(rt: HostRuntime) {
-    let Some((board, table, seat)) = board_and_table(rt.alloc()) else {
-        panic!(rt; "no board or no table")
-    };
+    let board = board_a(&rt);
+    let (table, seat) = table_of(&rt);
     let mut cells = TableCells::of(&table, seat);
     for alpha in [-52, -50, -52] {
         let found = bounds_about(&mut cells, &board, alpha, Scoring::Winner);
@@ -75,9 +67,8 @@ fn an_engine_asks_a_table(rt: HostRuntime) {
 
 #[test]
 fn an_engine_has_to_move(rt: HostRuntime) {
-    let Some((board, table, seat)) = board_and_table(rt.alloc()) else {
-        panic!(rt; "no board or no table")
-    };
+    let board = board_a(&rt);
+    let (table, seat) = table_of(&rt);
     let cells = TableCells::of(&table, seat);
     let stop = StopFlag::new();
     let (cells, early) = bounds_in_time(cells, &board, 0, Scoring::Winner, &stop);
@@ -90,22 +81,15 @@ fn an_engine_has_to_move(rt: HostRuntime) {
 }
 
 #[test]
-fn a_report_is_kept(rt: HostRuntime) -> Result<(), Fail> {
-    let Ok(answer) = best_moves(A[0], A[1]) else {
-        panic!(rt; "no answer")
-    };
-    let Ok(text) = kept_report(rt.alloc(), &answer) else {
-        panic!(rt; "no memory")
-    };
+fn a_report_is_kept(rt: HostRuntime) {
+    let answer = best_moves(A[0], A[1]).expect(&rt, "an answer");
+    let text = kept_report(rt.alloc(), &answer).expect(&rt, "memory");
     assert!(rt; text.as_slice() == b"-50 h1".as_slice());
-    Ok(())
 }
 
 #[test]
 fn a_game_leads_to_its_board(rt: HostRuntime) {
-    let Ok(line) = board_after(b"f5d6") else {
-        panic!(rt; "no board")
-    };
+    let line = board_after(b"f5d6").expect(&rt, "a board");
     assert!(rt;
         line.as_slice()
             == b"---------------------------OX------OXX-----O-------------------- X".as_slice()
@@ -117,24 +101,30 @@ fn a_game_leads_to_its_board(rt: HostRuntime) {
 const GAME: &[u8] =
     b"f5f6c4f4g7b4f3h8e6f7e7d6c5f2c3d2b2a1g4e8g6b5e2g5a4d7e1b3a3e3g2c2h6f1b1h1f8h3h5g3h2d8g1a2d1c1c6b7c8h7h4a5d3";
 
+// Squares, and what a move to each loses.
+const LOSSES: [(u8, Option<i16>); 6] = [
+    (40, Some(18)),
+    (41, Some(8)),
+    (50, Some(8)),
+    (56, Some(0)),
+    (62, Some(10)),
+    (0, None),
+];
+
+// Whether a move to the square of this number loses so much.
+fn loses(found: &Scores, number: u8, loss: Option<i16>) -> bool {
+    match Square::of(number) {
+        Some(square) => loss_of(found, square) == loss,
+        None => false,
+    }
+}
+
 #[test]
 fn an_analysis_tells_what_a_move_lost(rt: HostRuntime) {
-    let Ok(found) = scores_after(rt.alloc(), GAME, Scoring::Winner) else {
-        panic!(rt; "no scores")
-    };
+    let found = scores_after(rt.alloc(), GAME, Scoring::Winner).expect(&rt, "scores");
     assert!(rt; found.score() == 12 && found.moves().len() == 5);
-    for (square, loss) in [
-        (40, Some(18)),
-        (41, Some(8)),
-        (50, Some(8)),
-        (56, Some(0)),
-        (62, Some(10)),
-        (0, None),
-    ] {
-        let Some(square) = Square::of(square) else {
-            panic!(rt; "no square")
-        };
-        assert!(rt; loss_of(&found, square) == loss);
+    for (number, loss) in LOSSES {
+        assert!(rt; loses(&found, number, loss));
     }
     let early = scores_after(rt.alloc(), b"f5d6", Scoring::Winner).map(|found| found.score());
     assert!(rt; early == Err(Unscored::Empties));
