@@ -1,7 +1,8 @@
-"""Runs the built program on boards of which one takes seconds, and looks at the line of progress.
+"""Runs the built program on boards of which one takes seconds, and on many that take none, and looks at the line of progress.
 
-On a terminal that line has to come, show how far the search is, be renewed in place, and be gone when the answer is written; where
-standard error is no terminal not a byte of it may come. A terminal that takes nothing holds no answer up that goes into a file.
+On a terminal that line has to come, show how far the search or the run is, be renewed in place and never wrapped, and be gone when the
+answer is written; where standard error is no terminal, or another job has it, not a byte of it may come. A terminal that takes nothing
+holds no answer up that goes into a file.
 """
 import contextlib
 import os
@@ -10,9 +11,10 @@ import re
 import select
 import subprocess
 import tempfile
+import termios
 import time
 
-from running import ran
+from running import EMPTY_BOOK, TOP, board_lines, file_of, ran
 
 PATIENCE = 600
 # The most that a terminal is asked for at once.
@@ -23,20 +25,32 @@ QUICK_ANSWER = "+64 a1 h1"
 LONG = "--O--------O-X--OOOOOO-OOOXXO-OX-XOXOOXOXXOOOXO--XXOXO-O--XXX--- X"
 LONG_EMPTIES = LONG.count("-")
 BOARDS = f"{QUICK}\n{LONG}\n{QUICK}\n".encode()
-SHOWN = re.compile(rf"line 2: {LONG_EMPTIES} empty squares(?:, (\d+) of (\d+) moves settled, ([+-]\d+) to ([+-]\d+))?, (\d+) s")
+SETTLED = r", (\d+) of (\d+) moves settled, ([+-]\d+) to ([+-]\d+)"
+SHOWN = re.compile(rf"line 2 of 3 read(?:: {LONG_EMPTIES} empty squares(?:{SETTLED})?)?, (\d+) s")
 # A board whose moves take some seconds together, and the line that tells how far the search of one of them is.
 SCORED = "XXX------XOX--O--OOO-OOXOOOXOOX--OOXOXO--XOXXOOX-XXXXXO--XXX-XO- X"
 SCORED_BOARDS = f"{QUICK}\n{SCORED}\n{QUICK}\n".encode()
 MOVE = r", ([a-h][1-8]): (\d+) of (\d+) replies settled(?:, ([+-]\d+) to ([+-]\d+))?"
-SHOWN_MOVE = re.compile(rf"line 2: {SCORED.count('-')} empty squares(?:{MOVE})?, \d+ s")
+SHOWN_MOVE = re.compile(rf"line 2 of 3 read(?:: {SCORED.count('-')} empty squares(?:{MOVE})?)?, \d+ s")
+# Boards of which each takes some hundredths of a second, for one worker and for two.
+MANY, SEED = 400, 20261128
+BY_ONE, BY_TWO = 15, 16
+# The columns of a terminal that has room for the line of a board that takes long, and of one that has none.
+WIDE, NARROW = 120, 40
+FAULTY = b"X\n"
+# What stands behind the count; a machine under load may take longer than a second for such a board too.
+COUNTED = r"(?:, \d+ s|: \d+ empty squares.*)"
+# How often the games of the examples stand in an analysis.
+GAMES_TIMES = 12
 
 
 class Said:
-    """What a run wrote to a terminal, and what stood there each time that it had written."""
+    """What a run wrote to a terminal, what stood there each time that it had written, and whether a row went on."""
 
-    def __init__(self, said):
-        self.rows, self.moments, self.column = [""], [], 0
-        for part in re.split(r"(\r|\n)", said.decode("ascii")):
+    def __init__(self, said, columns=WIDE):
+        self.rows, self.moments, self.column, self.columns = [""], [], 0, columns
+        self.is_cut, self.wrapped = False, False
+        for part in re.split(r"(\r|\n|\x1b\[\?7[hl])", said.decode("ascii")):
             self.take(part)
 
     def take(self, part):
@@ -44,11 +58,19 @@ class Said:
             self.column = 0
         elif part == "\n":
             self.rows.append("")
+        elif part.startswith("\x1b"):
+            self.is_cut = part.endswith("l")
         elif part:
-            row = self.rows[-1].ljust(self.column)
-            self.column += len(part)
-            self.rows[-1] = row[: self.column - len(part)] + part + row[self.column :]
-            self.moments.append(self.rows[-1].rstrip())
+            self.put(part)
+
+    def put(self, text):
+        """Puts the text into the row. Behind the last column a terminal goes on in the next row, or, where it cuts, stays in that one."""
+        row, end = self.rows[-1].ljust(self.column), self.column + len(text)
+        self.wrapped |= not self.is_cut and end >= self.columns
+        row = row[: self.column] + text + row[end:]
+        self.rows[-1] = row if len(row) <= self.columns else row[: self.columns - 1] + row[-1]
+        self.column = min(end, self.columns - 1)
+        self.moments.append(self.rows[-1].rstrip())
 
     def left(self):
         """Tells what stands there at the end."""
@@ -70,11 +92,12 @@ def read_all(terminal, started):
     return said
 
 
-def on_terminal(words, output_too, given=BOARDS):
+def on_terminal(words, output_too, given=BOARDS, name="xterm"):
     """Runs the words with standard error on a terminal; returns the status, what they wrote where that is a pipe, and what they said."""
     terminal, end = pty.openpty()
     output = end if output_too else subprocess.PIPE
-    with subprocess.Popen(words, stdin=subprocess.PIPE, stdout=output, stderr=end) as started:
+    named = {**os.environ, "TERM": name}
+    with subprocess.Popen(words, stdin=subprocess.PIPE, stdout=output, stderr=end, env=named) as started:
         started.stdin.write(given)
         started.stdin.close()
         os.close(end)
@@ -83,7 +106,7 @@ def on_terminal(words, output_too, given=BOARDS):
             started.kill()
         wrote = b"" if output_too else started.stdout.read()
     os.close(terminal)
-    return started.returncode, wrote, Said(said)
+    return started.returncode, wrote, said
 
 
 def wrong_line(said, score):
@@ -123,11 +146,86 @@ def scoring(program):
     words = [program, "scores"]
     plain = ran(words, SCORED_BOARDS, PATIENCE)
     status, wrote, said = on_terminal(words, False, SCORED_BOARDS)
+    said = Said(said)
     wrong = None if (plain.status, status, wrote) == (0, 0, plain.wrote) else f"status {status}, wrote {wrote!r}"
     fields = plain.wrote.decode("ascii").splitlines()[1].split() if wrong is None else []
     wrong = wrong or wrong_moves(said, dict(zip(fields[1::2], map(int, fields[0::2]), strict=False)))
     left = None if said.left() == [""] else f"left {said.left()!r}"
     yield "the line of progress comes by scores, and tells of its moves", wrong or left
+
+
+def wrong_width(said, told):
+    """Tells what is wrong with what stands on a narrow terminal, if anything: no row goes on in the next one, and none is left."""
+    return None if not said.wrapped and said.left() == [""] else f"went on in another row, or left {said.left()!r}: {told!r}"
+
+
+def wrong_count(said, shown, last):
+    """Tells what is wrong with the lines of a run that counts, if anything: their numbers have to rise, and what they count is `last`."""
+    lines = [moment for moment in said.moments if moment and not moment.endswith(": error 1")]
+    found = [shown.fullmatch(line) for line in lines]
+    if None in found:
+        return f"showed {lines[found.index(None)]!r}"
+    counts = [(int(one[1]), int(one[2])) for one in found]
+    if counts != sorted(counts) or len(set(counts)) < 3 or counts[-1][1] != last or any(number > known for number, known in counts):
+        return f"counted {counts!r}"
+    return "a row went on in the next one" if said.wrapped else None
+
+
+def counting(program, folder):
+    """Yields a step for each command that goes through much that takes little: the line counts up, and the output is as without it."""
+    line, entry = re.compile(rf"line (\d+) of (\d+) read{COUNTED}"), re.compile(rf"entry (\d+) of (\d+){COUNTED}")
+    lines = board_lines(SEED, MANY, BY_TWO).splitlines(True)
+    mixed = b"".join([*lines[: MANY // 2], FAULTY, *lines[MANY // 2 :]])
+    empty = file_of(folder, "empty.book", EMPTY_BOOK)
+    book = file_of(folder, "made.book", ran([program, "book-add", "--workers", "4", empty], mixed, PATIENCE).wrote)
+    two = ",".join(map(str, sorted(os.sched_getaffinity(0))[:2]))
+    with open(f"{TOP}/examples/games.txt", "rb") as games:
+        games = games.read() * GAMES_TIMES
+    told = f"line {MANY // 2 + 1}: error 1"
+    for words, given, shown, last, left in (
+        ([program, "solve"], board_lines(SEED, MANY, BY_ONE), line, MANY, []),
+        ([program, "analyse", "--last", "16"], games, line, games.count(b"\n"), []),
+        ([program, "book-add", "--workers", "2", empty], mixed, line, MANY + 1, [told]),
+        (["taskset", "-c", two, program, "book-verify", book], b"", entry, MANY, []),
+    ):
+        plain = ran(words, given, PATIENCE)
+        status, wrote, bytes_said = on_terminal(words, False, given, "dumb" if "solve" in words else "xterm")
+        said = Said(bytes_said, NARROW)
+        wrong = None if (status, wrote) == (plain.status, plain.wrote) == (0, wrote) else f"status {status}, wrote {wrote!r}"
+        gone = None if said.left() == [*left, ""] else f"left {said.left()!r}"
+        name = " ".join(os.path.basename(word) for word in words)
+        wrong = wrong or wrong_count(said, shown, last) or gone
+        yield f"{name}: the line of progress counts up to {last} on a terminal of {NARROW} columns", wrong
+
+
+def as_job(program, boards, answers, script):
+    """Runs the script by a shell with jobs, on a terminal that stops a job in its background which writes; gives what is said too."""
+    terminal, end = pty.openpty()
+    how = termios.tcgetattr(end)
+    how[3] |= termios.TOSTOP
+    termios.tcsetattr(end, termios.TCSANOW, how)
+    words = ["setsid", "-w", "-c", "sh", "-mc", script, program, boards, answers]
+    with subprocess.Popen(words, stdin=end, stdout=end, stderr=end, env={**os.environ, "TERM": "xterm"}) as started:
+        os.close(end)
+        said = read_all(terminal, started)
+    os.close(terminal)
+    return started.returncode, said
+
+
+def behind(program, folder):
+    """Yields a step for a job that has its terminal, and for one in its background."""
+    given = board_lines(SEED, MANY, BY_ONE)
+    boards, wanted = file_of(folder, "boards.txt", given), ran([program, "solve"], given, PATIENCE).wrote
+    for name, script, is_shown in (
+        ("a job that has its terminal: the line of progress comes", '"$0" solve "$1" > "$2"', True),
+        ("a job in the background writes nothing to its terminal", '"$0" solve "$1" > "$2" & wait $!', False),
+    ):
+        answers = file_of(folder, "answers.txt", b"")
+        status, said = as_job(program, boards, answers, script)
+        with open(answers, "rb") as wrote:
+            is_right = (status, wrote.read()) == (0, wanted)
+        is_right = is_right and (b" read, " in said if is_shown else not said)
+        yield name, None if is_right else f"status {status}, said {said!r}"
 
 
 def full_terminal():
@@ -177,12 +275,18 @@ def steps(program):
     if not is_right:
         return
     score = int(answers[1].split()[0])
-    status, wrote, said = on_terminal(words, False)
+    status, wrote, told = on_terminal(words, False)
+    said, narrow = Said(told), Said(told, NARROW)
     wrong = None if (status, wrote) == (0, plain.wrote) else f"status {status}, wrote {wrote!r}"
     yield "the line of progress comes by 4 workers, and leaves standard output as it is", wrong or wrong_line(said, score)
     yield "the line of progress is gone at the end", None if said.left() == [""] else f"left {said.left()!r}"
-    status, _, said = on_terminal([program, "solve", "--cells", "262144"], True)
+    yield f"a terminal of {NARROW} columns cuts the line of progress", wrong_width(narrow, told)
+    status, _, told = on_terminal([program, "solve", "--cells", "262144"], True)
+    said = Said(told)
     wrong = None if (status, said.left()) == (0, [*answers, ""]) else f"status {status}, left {said.left()!r}"
     yield "the line of progress comes by one worker, and leaves only the answers on their terminal", wrong or wrong_line(said, score)
     yield from scoring(program)
     yield from standing_still(program, plain.wrote)
+    with tempfile.TemporaryDirectory() as folder:
+        yield from counting(program, folder)
+        yield from behind(program, folder)

@@ -19,7 +19,7 @@ BLOCK = re.compile(r"^```bash\n(.*?)^```\n(?:\n```text\n(.*?)^```\n)?", re.MULTI
 BEGIN = "Begin here"
 SEVERAL = "A collection on several machines"
 BOOK = "Keep and extend a book"
-TOOLS = ("pv", "parallel", "ssh", "iconv", "flock")
+TOOLS = ("parallel", "ssh", "iconv", "flock")
 LEAST = 16
 PATIENCE = 20
 

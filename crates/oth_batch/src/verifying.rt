@@ -15,7 +15,7 @@ use crate::boards::Boards;
 use crate::found::answer_among;
 use crate::tuning::ALL_WORKERS_MIN_EMPTIES;
 use oth_book::{Book, Claim, Claims, Wrong, verify_knowing};
-use oth_pool::{Open, solve};
+use oth_pool::{Gate, solve};
 use oth_rules::Board;
 use oth_search::Answer;
 use std::alloc::Global;
@@ -24,13 +24,15 @@ use std::thread::Threads;
 /// Returns the book of the claims where all are true, else the first that isn't, or out of memory, as
 /// [`oth_book::verify`] does. Boards that one worker is enough for are solved side by side, larger ones one after the
 /// other by all workers, over tables of at most `cells` cells each. Waits for its workers. Neither their number nor the
-/// tables' size changes the verdict, nor refused threads, nor refused memory once there is room for the book.
-pub fn verify_by<R: Threads + Sync>(
-    rt: &R,
+/// tables' size changes the verdict, nor the gate, which hears each claim's board as awaited, nor refused threads, nor
+/// refused memory once there is room for the book.
+pub fn verify_by<'b, R: Threads + Sync, G: Gate>(
+    rt: &'b R,
     alloc: Global,
     claims: Claims,
     workers: u8,
     cells: u32,
+    gate: &'b G,
 ) -> Result<Book, Wrong>
     ensures same { IfOk result (λ book. book ≡ claims) }
     ensures holds { IfOk result (λ book. IsTrueBook book) }
@@ -39,7 +41,7 @@ pub fn verify_by<R: Threads + Sync>(
     let batch = Batch {
         rt,
         alloc,
-        gate: &Open,
+        gate,
         book: None,
         workers,
         cells,
@@ -50,23 +52,23 @@ pub fn verify_by<R: Threads + Sync>(
         alloc,
         claims,
         |rest: &[Claim]| -> Option<Answer>
-            requires { IsSync R.row }
+            requires { IsSync R.row × IsSync G.row }
         { solver.next(rest) },
     )
 }
 
 // Solves the boards of claims as they come, a batch at a time.
 #[derive(Drop)]
-struct ClaimSolver<'b, R> {
-    batch: Batch<'b, R, Open>,
+struct ClaimSolver<'b, R, G> {
+    batch: Batch<'b, R, G>,
     answers: Vec<Answer>,
     // The number of next claims whose boards were gathered.
     claims: usize,
 }
 
-impl<'b, R: Threads + Sync> ClaimSolver<'b, R> {
+impl<'b, R: Threads + Sync, G: Gate> ClaimSolver<'b, R, G> {
     // A solver that has gathered no claim.
-    fn of(batch: Batch<'b, R, Open>) -> Self {
+    fn of(batch: Batch<'b, R, G>) -> Self {
         let answers = Vec::new(batch.alloc);
         ClaimSolver {
             batch,
@@ -111,6 +113,7 @@ impl<'b, R: Threads + Sync> ClaimSolver<'b, R> {
             self.look_ahead(claims);
         }
         self.claims = self.claims.saturating_sub(1);
+        self.batch.gate.awaits(&first.board);
         match answer_among(self.answers.as_slice(), &first.board, self.batch.scoring) {
             Some(answer) => Some(answer),
             None => self.answer_by_all(&first.board),

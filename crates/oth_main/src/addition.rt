@@ -1,7 +1,7 @@
 //! Boards that are added to a book.
 
-ghost use Rattle.std.specs.Prelude.{◌≡◌, ◌≢◌, ◌≤◌, ◌++◌, ◌∷◌, [], ℕ, List, All, false, true, IfErr, IfOk, OnErr};
-ghost use Rattle.std.specs.Prelude.{OnOk};
+ghost use Rattle.std.specs.Prelude.{◌≡◌, ◌≢◌, ◌≤◌, ◌<◌, ◌↔◌, ◌++◌, ◌∷◌, [], ℕ, List, All, false, true, IfErr, IfOk};
+ghost use Rattle.std.specs.Prelude.{IsErr, OnErr, OnOk};
 ghost use Rattle.std.specs.Io.KnownBytes.{Appends, IsAtEnd};
 ghost use Rattle.oth_rules.specs.Position.{empty_count};
 ghost use Rattle.oth_rules.specs.Symmetry.{canonical};
@@ -18,10 +18,12 @@ ghost use Rattle.oth_run.specs.Report.{lines_of};
 ghost use Rattle.oth_run.specs.declared.fault.RunFault.TheVariants.{Write};
 
 use crate::message::Message;
+use crate::progress::Progress;
 use oth_book::{AddError, Book, write};
-use oth_pool::Open;
+use oth_pool::Gate;
+use oth_rules::Board;
 use oth_run::{Ahead, Lawful, RunFault, Solver, split_line};
-use oth_search::Answer;
+use oth_search::{Answer, TooManyEmpties};
 use oth_text::{BoardReader, LineFault, Sink, Source, fault_line};
 use std::alloc::Global;
 use std::sync::Wait;
@@ -39,49 +41,91 @@ pub enum Stop {
     Refused(u64, AddError),
 }
 
+// How boards are solved, and what hears of it.
+#[derive(Drop)]
+struct Means<'p> {
+    alloc: Global,
+    settings: Lawful,
+    progress: &'p Progress,
+}
+
+impl<'p> Means<'p> {
+    // The settings, under the book's scoring.
+    fn asked(&self, book: &Book) -> Lawful
+        ensures scoring { result.scoring ≡ book.now.scoring }
+    {
+        self.settings.to_solve_by(book.scoring())
+    }
+}
+
 // Advances `ahead` past the first line in `bytes`. The solver that it may call asks the book of each board first.
 fn pass_line<T: Threads + Sync>(
     ahead: &mut Ahead,
     rt: &T,
-    alloc: Global,
     book: &Book,
     bytes: &[u8],
-    settings: Lawful,
+    means: &Means<'_>,
 ) {
     let solver = Solver {
         rt,
-        alloc,
-        gate: &Open,
+        alloc: means.alloc,
+        gate: means.progress,
         book: Some(book),
-        settings,
+        settings: means.asked(book),
     };
     ahead.pass(&solver, bytes);
 }
 
+// The answer of the board, found ahead or now. The solver that is called asks the book of it first.
+fn answer_by<T: Threads + Sync>(
+    ahead: &Ahead,
+    rt: &T,
+    book: &Book,
+    board: &Board,
+    means: &Means<'_>,
+) -> Result<Answer, TooManyEmpties>
+    ensures refused { IsErr result ↔ (30 < empty_count board.now) }
+    ensures counted { IfErr result (λ e. e.empties ≡ empty_count board.now) }
+    ensures board { IfOk result (λ a. a.board ≡ board.now) }
+    ensures scoring { IfOk result (λ a. a.scoring ≡ book.now.scoring) }
+{
+    let solver = Solver {
+        rt,
+        alloc: means.alloc,
+        gate: means.progress,
+        book: Some(book),
+        settings: means.asked(book),
+    };
+    ahead.answer_of(&solver, board)
+}
+
 /// The book so far, the line that has begun and its number from 1, answers of the next lines, and how they are solved.
 #[derive(Drop)]
-pub struct Addition {
+pub struct Addition<'p> {
     book: Book,
     line: BoardReader,
     number: u64,
     ahead: Ahead,
-    alloc: Global,
-    settings: Lawful,
+    means: Means<'p>,
 }
 
-impl Addition {
+impl<'p> Addition<'p> {
     /// Nothing is added to the book so far.
-    pub fn of(alloc: Global, book: Book, settings: Lawful) -> Addition
+    pub fn of(alloc: Global, book: Book, settings: Lawful, progress: &'p Progress) -> Addition<'p>
         ensures book { result.book ≡ book }
         ensures line { KeepsLine result.line [] }
     {
+        progress.begin_lines(true);
         Addition {
             book,
             line: BoardReader::new(),
             number: 1,
             ahead: Ahead::nothing(alloc),
-            alloc,
-            settings,
+            means: Means {
+                alloc,
+                settings,
+                progress,
+            },
         }
     }
 
@@ -150,20 +194,12 @@ impl Addition {
     {
         let mut rest = bytes;
         while let Some((line, others)) = split_line(rest) {
-            let asked = self.asked();
-            pass_line(&mut self.ahead, rt, self.alloc, &self.book, rest, asked);
+            pass_line(&mut self.ahead, rt, &self.book, rest, &self.means);
             self.take_line(rt, line, errors)?;
             rest = others;
         }
         self.line.push(rest);
         Ok(())
-    }
-
-    // The settings, under the book's scoring.
-    fn asked(&self) -> Lawful
-        ensures scoring { result.scoring ≡ self.now.book.scoring }
-    {
-        self.settings.to_solve_by(self.book.scoring())
     }
 
     // Takes the last part of a line, and ends the line.
@@ -208,6 +244,7 @@ impl Addition {
         self.add_line(rt, errors)?;
         self.line.clear();
         self.number = self.number.saturating_add(1);
+        self.means.progress.pass_line();
         Ok(())
     }
 
@@ -241,14 +278,9 @@ impl Addition {
         ensures few { IfOk result (λ a. empty_count a.board ≤ 30) }
     {
         let position = self.line.read()?;
-        let solver = Solver {
-            rt,
-            alloc: self.alloc,
-            gate: &Open,
-            book: Some(&self.book),
-            settings: self.asked(),
-        };
-        match self.ahead.answer_of(&solver, &position.board) {
+        let board = &position.board;
+        self.means.progress.awaits(board);
+        match answer_by(&self.ahead, rt, &self.book, board, &self.means) {
             Ok(answer) => Ok(answer),
             Err(many) => Err(LineFault::Empties(many.empties)),
         }

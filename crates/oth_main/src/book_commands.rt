@@ -13,6 +13,7 @@ ghost use Rattle.oth_run.specs.Run.{AreLawful, status_of};
 use crate::addition::{Addition, Stop};
 use crate::book_file::{REFUSED, open_book, print_refusal};
 use crate::message::Message;
+use crate::progress::Progress;
 use crate::reasons::{Errors, Reason};
 use oth_book::Book;
 use oth_run::{Lawful, RunFault};
@@ -30,13 +31,14 @@ const WORKERS: u8 = 4;
 
 /// Prints `book ok n` for a book of n entries, each solved anew by as many workers as there are processors, at most 16;
 /// or why the file is no book. Returns the status of the program: 0, or 1 where the writer fails, or 3 where the file
-/// is refused.
+/// is refused. `progress` hears of each entry.
 pub fn book_verify<T: Threads + Sync, W: Sink, E: Sink>(
     rt: &T,
     alloc: Global,
     file: &[u8],
     writer: &mut W,
     errors: &mut Errors<E>,
+    progress: &Progress,
 ) -> u8
     ensures verdict { IsVerdict file.now result (W.failed writer.new) }
     ensures told { result ≡ 0 → TellsBook file.now (W.contents writer.old) (W.contents writer.new) }
@@ -44,7 +46,7 @@ pub fn book_verify<T: Threads + Sync, W: Sink, E: Sink>(
     ensures untouched { result ≡ 3 → writer.new ≡ writer.old }
     ensures works { result ≡ 0 → (W.failed writer.new ≡ false) × (W.flushed writer.new ≡ true) }
 {
-    match open_book(rt, alloc, file, processors(rt), DEFAULT_CELLS) {
+    match open_book(rt, alloc, file, processors(rt), DEFAULT_CELLS, progress) {
         Ok(book) => {
             if !writer.failed() && tell_book(&book, writer) && writer.flush().is_ok() {
                 STATUS_DONE
@@ -73,7 +75,8 @@ fn tell_book<W: Sink>(book: &Book, writer: &mut W) -> bool
 /// Solves each board line under the book's scoring, adds the answers to the book of the file, and writes the new book
 /// at the end of input. Where a line can't be read, its number and its fault are printed, and it is left out. Returns
 /// the status of the program: 0, or 1 where a device fails, or 2 where the settings aren't lawful, or 3 where the file
-/// or an answer is refused. Unless it is 0 no book is written, save for what a writer took before it failed.
+/// or an answer is refused. Unless it is 0 no book is written, save for what a writer took before it failed. `progress`
+/// hears of each entry and of each line.
 #[inline(never)]
 pub fn book_add<T: Wait + Threads + Sync, R: Source, W: Sink, E: Sink>(
     rt: &T,
@@ -83,6 +86,7 @@ pub fn book_add<T: Wait + Threads + Sync, R: Source, W: Sink, E: Sink>(
     writer: &mut W,
     errors: &mut Errors<E>,
     settings: &Settings,
+    progress: &Progress,
 ) -> u8
     ensures lawful { result ≡ 2 ↔ (AreLawful settings.now → ⊥) }
     ensures untouched { result ≡ 2 → (reader.new ≡ reader.old) × (writer.new ≡ writer.old) }
@@ -99,10 +103,11 @@ pub fn book_add<T: Wait + Threads + Sync, R: Source, W: Sink, E: Sink>(
         Ok(lawful) => lawful,
         Err(fault) => return print_run_fault(fault, errors),
     };
-    match open_book(rt, alloc, file, settings.workers, settings.cells) {
+    let Settings { workers, cells, .. } = *settings;
+    match open_book(rt, alloc, file, workers, cells, progress) {
         Ok(book) => add_lines(
             rt,
-            Addition::of(alloc, book, lawful),
+            Addition::of(alloc, book, lawful, progress),
             reader,
             writer,
             errors,
@@ -143,7 +148,7 @@ fn processors<T: Threads>(rt: &T) -> u8 {
 // Adds the lines of the input to the book, and writes it.
 fn add_lines<T: Wait + Threads + Sync, R: Source, W: Sink, E: Sink>(
     rt: &T,
-    addition: Addition,
+    addition: Addition<'_>,
     reader: &mut R,
     writer: &mut W,
     errors: &mut Errors<E>,
@@ -151,10 +156,10 @@ fn add_lines<T: Wait + Threads + Sync, R: Source, W: Sink, E: Sink>(
     requires line { KeepsLine addition.line [] }
     requires holds { IsTrueBook addition.book }
     ensures status { IsStatus result
-        (AddsLines addition.book (R.remaining reader.old) (R.remaining reader.new)
+        (AddsLines addition.entry.book (R.remaining reader.old) (R.remaining reader.new)
         (W.contents writer.old) (W.contents writer.new))
         (DeviceFails (R.failed reader.new) (W.failed writer.new) (writer.new ≡ writer.old))
-        ((writer.new ≡ writer.old) × StopsFull addition.book (R.remaining reader.old) (R.remaining reader.new)) }
+        ((writer.new ≡ writer.old) × StopsFull addition.entry.book (R.remaining reader.old) (R.remaining reader.new)) }
     ensures works { result ≡ 0 → (R.failed reader.new ≡ R.failed reader.old)
         × (W.failed writer.new ≡ false) × (W.flushed writer.new ≡ true) }
 {

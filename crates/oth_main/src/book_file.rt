@@ -9,6 +9,7 @@ ghost use Rattle.oth_main.specs.Messages.{book_refusal, placed};
 ghost use Rattle.oth_main.specs.declared.reasons.Reason.TheVariants.{Book as BookReason};
 
 use crate::message::Message;
+use crate::progress::Progress;
 use crate::reasons::{Errors, Reason};
 use oth_batch::verify_by;
 use oth_book::{Book, BookFault, Wrong, read_claims};
@@ -32,13 +33,14 @@ pub enum BookRefusal {
 }
 
 /// Returns the book of a file's bytes, each entry solved anew by `workers` workers over tables of at most `cells`
-/// cells. The text of a true book is refused when out of memory alone.
+/// cells, of which `progress` hears. The text of a true book is refused when out of memory alone.
 pub fn open_book<T: Threads + Sync>(
     rt: &T,
     alloc: Global,
     file: &[u8],
     workers: u8,
     cells: u32,
+    progress: &Progress,
 ) -> Result<Book, BookRefusal>
     ensures text { IfOk result (λ book. IsText book file.now) }
     ensures holds { IfOk result (λ book. IsTrueBook book) }
@@ -49,8 +51,12 @@ pub fn open_book<T: Threads + Sync>(
         Ok(claims) => claims,
         Err(fault) => return Err(BookRefusal::Text(fault)),
     };
-    match verify_by(rt, alloc, claims, workers, cells) {
-        Ok(book) => Ok(book),
+    progress.begin_entries(claims.entries().len());
+    match verify_by(rt, alloc, claims, workers, cells, progress) {
+        Ok(book) => {
+            progress.begin_lines(false);
+            Ok(book)
+        }
         Err(wrong) => Err(BookRefusal::Claim(wrong)),
     }
 }

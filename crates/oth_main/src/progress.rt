@@ -1,18 +1,16 @@
-//! A line that shows how far a long search is, for who sits at a terminal.
+//! What a run is at, as its gate hears it, for who sits at a terminal.
 
+use crate::counts::{Counts, Reached, Stage};
+use crate::look::{Awaited, Look};
 use crate::under_search::UnderSearch;
 use oth_pool::Gate;
 use oth_rules::{Board, Square};
-use oth_search::{Interval, Solved};
-use std::fmt;
+use oth_search::Solved;
 use std::sync::{Condvar, Mutex, MutexGuard, Wait};
-use std::time::{Clock, Duration, Instant};
+use std::time::{Clock, Duration};
 
 // Milliseconds between two looks at how far the search is.
 const TICK: u64 = 250;
-
-// Seconds that a board has to take before the line comes.
-const PATIENCE: u64 = 1;
 
 // Tries of a gate's call to lock the state. After them what it hears is dropped.
 const LOCK_TRIES: u32 = 1_000;
@@ -20,16 +18,16 @@ const LOCK_TRIES: u32 = 1_000;
 // The most boards under search whose progress is kept: more than are ever searched at once.
 const MOST_SEARCHES: usize = 32;
 
-// What a run is at.
+// The boards that a run is at.
 #[derive(Drop)]
 struct State {
     is_over: bool,
-    // The lines of the report that were written.
-    lines: u64,
-    // Whether a board is awaited; the last one that was; and how many were so far.
-    is_awaited: bool,
+    // The last board that was awaited, and how many were so far.
     board: Board,
     count: u64,
+    // The lines that were answered by then, and the boards whose search had begun.
+    done: u64,
+    begun: u64,
     // The searches that were heard of, and the place of the next one.
     searches: [UnderSearch; MOST_SEARCHES],
     place: usize,
@@ -40,13 +38,35 @@ impl State {
     fn of(nothing: UnderSearch) -> State {
         State {
             is_over: false,
-            lines: 0,
-            is_awaited: false,
             board: Board::default(),
             count: 0,
+            done: 0,
+            begun: 0,
             searches: [nothing; MOST_SEARCHES],
             place: 0,
         }
+    }
+
+    // Keeps that the board is awaited.
+    fn await_board(&mut self, board: &Board, counts: &Counts) {
+        self.board = *board;
+        self.count = self.count.wrapping_add(1);
+        self.done = counts.done();
+        self.begun = counts.begun();
+    }
+
+    // The board that is awaited, if one is: its line isn't answered, and no search of others has begun since.
+    fn awaited(&self, counts: &Counts) -> Option<Awaited> {
+        let others = counts.begun().saturating_sub(self.begun);
+        if self.count == 0 || self.done != counts.done() || others > 1 {
+            return None;
+        }
+        Some(Awaited {
+            board: self.board,
+            count: self.count,
+            search: self.search_of(&self.board),
+            after_move: self.search_after_move(&self.board),
+        })
     }
 
     // Keeps how far a search is.
@@ -89,6 +109,7 @@ impl State {
 #[derive(Drop)]
 pub struct Progress {
     is_shown: bool,
+    counts: Counts,
     state: Mutex<State>,
     bell: Condvar,
 }
@@ -102,6 +123,7 @@ impl Progress {
         };
         Progress {
             is_shown,
+            counts: Counts::new(),
             state: Mutex::new(State::of(nothing)),
             bell: Condvar::new(),
         }
@@ -129,14 +151,21 @@ impl Gate for Progress {
 
     fn after(&self, _task: u32) {}
 
+    fn begins(&self, _board: &Board) {
+        if self.is_shown {
+            self.counts.search();
+        }
+    }
+
     fn awaits(&self, board: &Board) {
         if !self.is_shown {
             return;
         }
+        if self.counts.stage() == Stage::Entries {
+            self.counts.pass();
+        }
         if let Some(mut state) = self.heard() {
-            state.is_awaited = true;
-            state.board = *board;
-            state.count = state.count.wrapping_add(1);
+            state.await_board(board, &self.counts);
         }
     }
 
@@ -155,22 +184,44 @@ impl Gate for Progress {
     }
 }
 
-/// What is shown of a search.
-#[derive(Clone, Copy, Drop)]
-pub(crate) struct Look {
-    line: u64,
-    board: Board,
-    count: u64,
-    search: Option<UnderSearch>,
-    after_move: Option<(Square, UnderSearch)>,
-}
-
 impl Progress {
-    /// Counts `lines` further lines of the report as written. No board is awaited any more.
-    pub(crate) fn pass_lines<R: Wait>(&self, rt: &R, lines: u64) {
-        let mut state = self.state.lock(rt);
-        state.lines = state.lines.saturating_add(lines);
-        state.is_awaited = false;
+    /// Begins to go through the entries of a book.
+    pub(crate) fn begin_entries(&self, count: usize) {
+        self.counts.begin(Stage::Entries, count as u64);
+        self.counts.work();
+    }
+
+    /// Begins to go through lines of input, none of which was read, whose boards are added to a book or not.
+    pub(crate) fn begin_lines(&self, are_added: bool) {
+        let stage = if are_added {
+            Stage::Added
+        } else {
+            Stage::Lines
+        };
+        self.counts.begin(stage, 0);
+    }
+
+    /// Counts a line as answered.
+    pub(crate) fn pass_line(&self) {
+        if self.is_shown {
+            self.counts.pass();
+        }
+    }
+
+    /// `lines` lines are answered by now.
+    pub(crate) fn answered(&self, lines: u64) {
+        self.counts.answered(lines);
+    }
+
+    /// Input is awaited, where it isn't known how long.
+    pub(crate) fn awaits_input(&self) {
+        self.counts.rest();
+    }
+
+    /// Counts further lines that were read, with which there is work.
+    pub(crate) fn has_read(&self, lines: u64) {
+        self.counts.read(lines);
+        self.counts.work();
     }
 
     /// Ends the run, and wakes the thread that waits for a tick.
@@ -193,103 +244,15 @@ impl Progress {
         !state.is_over
     }
 
-    /// What is to be shown, if a board is awaited.
+    /// How far the run is, if it is at work.
+    pub fn reached(&self) -> Option<Reached> {
+        self.counts.reached()
+    }
+
+    /// What is to be shown, if the run is at work.
     pub(crate) fn look<R: Wait>(&self, rt: &R) -> Option<Look> {
-        let state = self.state.lock(rt);
-        if !state.is_awaited {
-            return None;
-        }
-        let board = state.board;
-        Some(Look {
-            line: state.lines.saturating_add(1),
-            board,
-            count: state.count,
-            search: state.search_of(&board),
-            after_move: state.search_after_move(&board),
-        })
+        let reached = self.reached()?;
+        let awaited = self.state.lock(rt).awaited(&self.counts);
+        Some(Look { reached, awaited })
     }
-}
-
-/// Which board is awaited, by its number, and since when that was seen.
-#[derive(Clone, Copy, Drop)]
-pub(crate) struct Since {
-    count: u64,
-    start: Option<Instant>,
-}
-
-impl Since {
-    /// No board was seen.
-    pub fn new() -> Since {
-        Since {
-            count: 0,
-            start: None,
-        }
-    }
-
-    /// Returns for how many whole seconds the board has been awaited, if for `PATIENCE` or more.
-    pub fn seconds<C: Clock>(&mut self, clock: &C, look: &Look) -> Option<u64> {
-        if self.start.is_none() || self.count != look.count {
-            self.count = look.count;
-            self.start = Instant::now(clock).ok();
-        }
-        let seconds = self.start?.elapsed(clock).ok()?.as_secs();
-        if seconds < PATIENCE {
-            return None;
-        }
-        Some(seconds)
-    }
-}
-
-/// The line: the number of the line whose board is searched, the board's empty squares, how many of its moves need no
-/// further search, what its score lies between by now, and for how many seconds it has been awaited. Where a score is
-/// asked of each move: which move is searched, how many replies to it need no further search, and what its score lies
-/// between.
-#[derive(Drop)]
-pub(crate) struct Shown {
-    pub look: Look,
-    pub seconds: u64,
-}
-
-impl fmt::Display for Shown {
-    fn fmt<W: fmt::Write>(&self, f: &mut fmt::Formatter<W>) -> fmt::Result {
-        let board = &self.look.board;
-        let empties = board.empties();
-        write!(f, "line {}: {empties} empty squares", self.look.line)?;
-        if let Some(search) = &self.look.search {
-            let moves = search.root.board.moves().count_ones();
-            write!(f, ", {} of {moves} moves settled", search.settled)?;
-            if let Some(known) = search.known_of(board) {
-                write_bounds(f, known.interval)?;
-            }
-        } else if let Some((square, search)) = &self.look.after_move {
-            write_move(f, board, *square, search)?;
-        }
-        write!(f, ", {} s", self.seconds)
-    }
-}
-
-// The move whose score is asked, and how far its search is.
-fn write_move<W: fmt::Write>(
-    f: &mut fmt::Formatter<W>,
-    board: &Board,
-    square: Square,
-    search: &UnderSearch,
-) -> fmt::Result {
-    let number = square.number();
-    let (column, row) = ((b'a' + number % 8) as char, number / 8 + 1);
-    let replies = search.root.board.moves().count_ones();
-    write!(
-        f,
-        ", {column}{row}: {} of {replies} replies settled",
-        search.settled
-    )?;
-    match search.known_for_mover(board, square) {
-        Some(known) => write_bounds(f, known),
-        None => Ok(()),
-    }
-}
-
-// What a score lies between.
-fn write_bounds<W: fmt::Write>(f: &mut fmt::Formatter<W>, bounds: Interval) -> fmt::Result {
-    write!(f, ", {:+} to {:+}", bounds.lower, bounds.upper)
 }

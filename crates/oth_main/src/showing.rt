@@ -4,50 +4,35 @@ ghost use Rattle.std.specs.Prelude.{◌≡◌};
 ghost use denote.Param.Send.{IsSend, IsSync};
 
 use crate::explaining::{Faults, FaultyLine};
-use crate::progress::{Progress, Shown, Since};
+use crate::foreground::is_in_background;
+use crate::hearing::Hearing;
+use crate::look::Times;
+use crate::progress::Progress;
+use crate::row::Row;
 use oth_text::{Failed, Sink, write_all};
 use std::alloc::Global;
 use std::sync::{Mutex, MutexGuard, Wait};
 use std::thread::{Threads, join_mut};
 use std::time::Clock;
 
-// The most columns of the line.
-const MOST_COLUMNS: usize = 120;
-
-// A terminal, and how many bytes of its last line are taken.
+// A terminal, and what stands in its last row.
 #[derive(Drop)]
 struct Screen<E> {
     sink: E,
-    width: usize,
+    row: Row,
 }
 
 impl<E: Sink> Screen<E> {
-    // Puts the text in place of what stands in the line.
+    // Puts the text in place of what stands in the row.
     fn draw(&mut self, text: &[u8]) {
-        let taken = self.width;
-        self.write(b"\r");
-        self.write(text);
-        self.width = text.len();
-        if text.len() < taken {
-            self.blank(taken - text.len());
-        }
+        let bytes = self.row.renewed(text);
+        self.write(bytes.as_slice());
     }
 
-    // Takes away what stands in the line.
+    // Takes away what stands in the row.
     fn clear(&mut self) {
-        if self.width > 0 {
-            let taken = self.width;
-            self.write(b"\r");
-            self.blank(taken);
-            self.write(b"\r");
-            self.width = 0;
-        }
-    }
-
-    // Writes `count` blanks, at most `MOST_COLUMNS`.
-    fn blank(&mut self, count: usize) {
-        let blanks = [b' '; MOST_COLUMNS];
-        self.write(&blanks[..count.min(MOST_COLUMNS)]);
+        let bytes = self.row.cleared();
+        self.write(bytes.as_slice());
     }
 
     // Writes the bytes. A terminal that fails is passed over.
@@ -58,8 +43,8 @@ impl<E: Sink> Screen<E> {
     }
 }
 
-/// A terminal, and what a run tells of how far it is: where a board takes longer than a second, a line shows it. Where
-/// the device is no terminal, nothing is shown, and a run is as one that nobody watches.
+/// A terminal, and what a run tells of how far it is: after a second of work a line shows it. Where the device is no
+/// terminal, nothing is shown, and a run is as one that nobody watches.
 #[derive(Drop)]
 pub struct Watch<E> {
     progress: Progress,
@@ -67,13 +52,14 @@ pub struct Watch<E> {
 }
 
 impl<E: Sink + Send> Watch<E> {
-    /// Nothing is shown yet on this device, and nothing will be where it is no terminal.
-    pub fn on(device: E, is_terminal: bool) -> Watch<E> {
+    /// Nothing is shown yet on this device, and nothing will be where it is no terminal. `can_cut`: as a terminal it
+    /// cuts a row where it is told to.
+    pub fn on(device: E, is_terminal: bool, can_cut: bool) -> Watch<E> {
         Watch {
             progress: Progress::new(is_terminal),
             screen: Mutex::new(Screen {
                 sink: device,
-                width: 0,
+                row: Row::new(can_cut),
             }),
         }
     }
@@ -114,38 +100,41 @@ impl<E: Sink + Send> Watch<E> {
 
     // Shows the line until the run is over.
     fn show<R: Wait + Clock>(&self, rt: &R, alloc: Global) {
-        let mut since = Since::new();
+        let mut times = Times::new();
         for _ in rt.forever() {
             if !self.progress.goes_on_after_a_tick(rt) {
                 return;
             }
-            self.show_once(rt, alloc, &mut since);
+            self.show_once(rt, alloc, &mut times);
         }
     }
 
-    // Shows how far the search is now, or nothing where no board takes long.
-    fn show_once<R: Wait + Clock>(&self, rt: &R, alloc: Global, since: &mut Since) {
+    // Shows how far the run is now, or nothing where it hasn't worked long. A job in the background writes nothing.
+    fn show_once<R: Wait + Clock>(&self, rt: &R, alloc: Global, times: &mut Times) {
+        let shown = times.shown(rt, self.progress.look(rt));
+        if is_in_background() {
+            return;
+        }
         let mut screen = self.screen.lock(rt);
-        let Some(look) = self.progress.look(rt) else {
-            screen.clear();
-            return;
-        };
-        let Some(seconds) = since.seconds(rt, &look) else {
-            screen.clear();
-            return;
-        };
-        if let Ok(text) = format!(in alloc; "{}", Shown { look, seconds }) {
-            screen.draw(text.as_bytes());
+        match shown {
+            Some(shown) => {
+                if let Ok(text) = format!(in alloc; "{shown}") {
+                    screen.draw(text.as_bytes());
+                }
+            }
+            None => screen.clear(),
         }
     }
 
     // Takes the line away.
     fn clear<R: Wait>(&self, rt: &R) {
-        self.screen.lock(rt).clear();
+        if !is_in_background() {
+            self.screen.lock(rt).clear();
+        }
     }
 }
 
-/// The output of a run that is watched. Where it goes to a terminal, the line is taken away before each write; else no
+/// An output of a run that is watched. Where it goes to a terminal, the line is taken away before each write; else no
 /// write waits for the terminal that shows the line.
 #[derive(Drop)]
 pub struct Report<'w, R, W, E> {
@@ -153,19 +142,18 @@ pub struct Report<'w, R, W, E> {
     watch: &'w Watch<E>,
     writer: W,
     is_terminal: bool,
-    // Finds the faults that are told in words.
-    faults: Option<Faults>,
+    hearing: Hearing,
 }
 
 impl<'w, R: Wait + AllocGlobal, W: Sink, E: Sink> Report<'w, R, W, E> {
-    /// A sink that hands all on to the writer, which is a terminal or not. The faults that are found in it are told in
+    /// A sink that hands all on to the writer, which is a terminal or not. The faults that are heard in it are told in
     /// words where the line is shown, on a terminal or not.
     pub fn of(
         rt: &'w R,
         watch: &'w Watch<E>,
         writer: W,
         is_terminal: bool,
-        faults: Option<Faults>,
+        hearing: Hearing,
     ) -> Self
         ensures contents { ⟦<Report<'w, R, W, E> as Sink>⟧.contents result ≡ W.contents writer }
         ensures failed { ⟦<Report<'w, R, W, E> as Sink>⟧.failed result ≡ W.failed writer }
@@ -176,7 +164,7 @@ impl<'w, R: Wait + AllocGlobal, W: Sink, E: Sink> Report<'w, R, W, E> {
             watch,
             writer,
             is_terminal,
-            faults,
+            hearing,
         }
     }
 
@@ -204,10 +192,16 @@ impl<'w, R: Wait + AllocGlobal, W: Sink, E: Sink> Report<'w, R, W, E> {
         Some(screen)
     }
 
-    // Counts the lines of the report that these bytes end.
-    fn count_lines(&self, written: &[u8]) {
-        if self.watch.progress.is_shown() {
-            self.watch.progress.pass_lines(self.rt, lines_in(written));
+    // Counts the lines of the input that these bytes answer.
+    fn count_lines(&mut self, written: &[u8])
+        ensures { self.new.writer ≡ self.old.writer }
+    {
+        if !self.watch.progress.is_shown() {
+            return;
+        }
+        if let Some(answered) = &mut self.hearing.answered {
+            answered.hear_all(written);
+            self.watch.progress.answered(answered.lines());
         }
     }
 
@@ -215,7 +209,7 @@ impl<'w, R: Wait + AllocGlobal, W: Sink, E: Sink> Report<'w, R, W, E> {
     fn explain(&mut self, written: &[u8])
         ensures { self.new.writer ≡ self.old.writer }
     {
-        if let Some(faults) = &mut self.faults {
+        if let Some(faults) = &mut self.hearing.faults {
             tell_faults(self.rt, self.watch, faults, written);
         }
     }
@@ -270,15 +264,4 @@ impl<'w, R: Wait + AllocGlobal, W: Sink, E: Sink> Sink for Report<'w, R, W, E> {
     fn failed(&self) -> bool {
         self.writer.failed()
     }
-}
-
-// The number of lines that end within the bytes.
-fn lines_in(bytes: &[u8]) -> u64 {
-    let mut lines = 0u64;
-    for byte in bytes {
-        if *byte == b'\n' {
-            lines = lines.saturating_add(1);
-        }
-    }
-    lines
 }

@@ -11,8 +11,9 @@ mod joined;
 mod reasons;
 mod refused;
 mod rows;
+mod showing;
 
-use oth_main::{Command, RunFault, Settings, run};
+use oth_main::{Command, Progress, RunFault, Settings, run};
 use oth_pool::Open;
 use oth_rules::Scoring;
 use oth_text::fakes::{BrokenSource, ByteSink};
@@ -36,6 +37,11 @@ fn by_two_workers(scoring: Scoring) -> Settings {
         cells: 1,
         ..settings(Command::Solve, scoring)
     }
+}
+
+// What hears of a run that nobody watches.
+fn unseen() -> Progress {
+    Progress::new(false)
 }
 
 // What a run did: how it ended, how often each device was called, and what was written.

@@ -76,12 +76,14 @@ impl<'s, T: Threads + Sync, G: Gate> Solver<'s, T, G> {
 
     // Solves the boards after and before the turn by what is known, and adds them to that.
     fn learn(&self, turn: &Turn, known: &mut Book) {
+        self.gate.awaits(&turn.after);
         if let Ok(after) = self.answer_by(&turn.after, Some(&*known)) {
             let _ = known.add(&after);
             if let Some(square) = turn.played {
                 learn_least(known, &turn.before.board, square, &after);
             }
         }
+        self.gate.awaits(&turn.before.board);
         if let Ok(before) = self.answer_by(&turn.before.board, Some(&*known)) {
             let _ = known.add(&before);
         }

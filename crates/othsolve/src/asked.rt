@@ -52,6 +52,15 @@ pub fn explains(words: &Words) -> bool {
     }
 }
 
+/// Whether the terminal, if standard error is one, cuts a row where it is told to: each does that has a name, but for
+/// `dumb`.
+pub fn cuts_rows<R: Env + AllocGlobal>(rt: &R) -> bool {
+    match env::var(rt, "TERM") {
+        Ok(name) => !name.as_str().is_empty() && name.as_str() != "dumb",
+        Err(_) => false,
+    }
+}
+
 // Why the words of the command line can't be read.
 fn words_fault(kind: ErrorKind) -> &'static str {
     match kind {

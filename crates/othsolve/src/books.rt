@@ -6,8 +6,8 @@ ghost use Rattle.othsolve.specs.Program.{TellsFault};
 
 use oth_book::{Book, BookFault};
 use oth_main::{
-    BookRefusal, Errors, MOST_BOOK_BYTES, REFUSED, Reason, RunFault, Settings, check_settings,
-    open_book, print_refusal, print_run_fault, tell_scoring,
+    BookRefusal, Errors, MOST_BOOK_BYTES, Progress, REFUSED, Reason, RunFault, Settings,
+    check_settings, open_book, print_refusal, print_run_fault, tell_scoring,
 };
 use oth_text::Sink;
 use std::fs::File;
@@ -16,12 +16,14 @@ use std::io::{ErrorKind, Read};
 use std::rt::Files;
 use std::thread::Threads;
 
-/// The book of a file, or the status where there is none. The settings are tested before the file is read.
+/// The book of a file, or the status where there is none. The settings are tested before the file is read. `progress`
+/// hears of each entry.
 pub fn book_of<T: Threads + Sync + Files + AllocGlobal, E: Sink>(
     rt: &T,
     settings: &Settings,
     name: &str,
     errors: &mut Errors<E>,
+    progress: &Progress,
 ) -> Result<Book, u8>
     ensures lawful { IfOk result (λ book. AreLawful settings.now) }
     ensures refused { IfErr result (λ s. s ≡ 2 ↔ (AreLawful settings.now → ⊥)) }
@@ -34,6 +36,7 @@ pub fn book_of<T: Threads + Sync + Files + AllocGlobal, E: Sink>(
         file.as_slice(),
         settings.workers,
         settings.cells,
+        progress,
     ) {
         Ok(book) => {
             tell_scoring(rt.alloc(), name, &book, settings.scoring, errors);

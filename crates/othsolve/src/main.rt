@@ -9,13 +9,13 @@ ghost use Rattle.std.specs.Prelude.{◌≡◌, ◌≤◌, ◌⊎◌, ◌↔◌, 
 ghost use Rattle.oth_run.specs.Run.{AreLawful};
 ghost use Rattle.othsolve.specs.Program.{AreRefused, HasObeyed, HasReported, IsDone, lines_status};
 
-use crate::asked::{explains, words};
+use crate::asked::{cuts_rows, explains, words};
 use crate::books::{book_of, file_of, tested_file_of};
 use crate::inputs::{STANDARD_INPUT, inputs_of};
 use oth_book::Book;
 use oth_main::{
-    Errors, Faults, Joined, Report, STATUS_DONE, Scene, Settings, Telling, Watch, Words, book_add,
-    book_verify, check_settings, print_run_fault, run_judged,
+    Errors, Hearing, Input, Joined, Report, STATUS_DONE, Scene, Settings, Telling, Watch, Words,
+    book_add, book_verify, check_settings, print_run_fault, run_judged,
 };
 use oth_text::{FromRead, Sink, Source, ToWrite};
 use std::alloc::Global;
@@ -32,7 +32,7 @@ const FAULTY_LINES: u8 = 4;
 // Whoever sits at a terminal.
 #[derive(Clone, Copy)]
 struct Sitter<'m, S> {
-    // Shows how far a search is where standard error is a terminal.
+    // Shows how far the work is where standard error is a terminal.
     watch: &'m Watch<S>,
     // Whether standard input is a terminal.
     types: bool,
@@ -58,35 +58,35 @@ fn main(rt: HostRuntime) -> ExitCode {
         Ok(words) => words,
         Err(status) => return ExitCode::from(status),
     };
-    let faults = explained_faults(&words);
     let is_watched = rt.stderr().is_terminal();
     let in_words = is_watched || explains(&words);
-    let mut errors = Errors::new(ToWrite::new(rt.stderr()), in_words);
-    let mut inputs = match inputs_of(&rt, rt.stdin(), &words, &mut errors) {
+    let watch = Watch::on(ToWrite::new(rt.stderr()), is_watched, cuts_rows(&rt));
+    let printed = ToWrite::new(rt.stderr());
+    let printed = Report::of(&rt, &watch, printed, is_watched, Hearing::nothing());
+    let mut errors = Errors::new(printed, in_words);
+    let inputs = match inputs_of(&rt, rt.stdin(), &words, &mut errors) {
         Ok(inputs) => inputs,
         Err(status) => {
             errors.explain(rt.alloc(), &Scene::default());
             return ExitCode::from(status);
         }
     };
-    let watch = Watch::on(ToWrite::new(rt.stderr()), is_watched);
+    let mut input = Input::of(watch.gate(), inputs);
     let (writer, shares_terminal) = (ToWrite::new(rt.stdout()), rt.stdout().is_terminal());
-    let mut report = Report::of(&rt, &watch, writer, shares_terminal, faults);
+    let mut report = Report::of(&rt, &watch, writer, shares_terminal, hearing_of(&words));
     let sitter = Sitter {
         watch: &watch,
         types: rt.stdin().is_terminal(),
     };
-    let status = obey_watched(&sitter, &words, &mut inputs, &mut report, &mut errors);
+    let status = obey_watched(&sitter, &words, &mut input, &mut report, &mut errors);
     ExitCode::from(status)
 }
 
-// What finds the faults of a report whose words ask for them to be told in words.
-fn explained_faults(words: &Words) -> Option<Faults> {
+// What is heard of what the words have written.
+fn hearing_of(words: &Words) -> Hearing {
     match words {
-        Words::Run(settings, telling, _, _) if telling.explains => {
-            Some(Faults::of(settings.command))
-        }
-        _ => None,
+        Words::Run(settings, telling, _, _) => Hearing::of(settings.command, telling.explains),
+        Words::Verify(_, _) | Words::Add(_, _, _) => Hearing::nothing(),
     }
 }
 
@@ -101,15 +101,15 @@ fn obey_watched<
 >(
     sitter: &Sitter<'_, S>,
     words: &Words,
-    reader: &mut Joined<FromRead<R>>,
+    reader: &mut Input<'w, Joined<FromRead<R>>>,
     report: &mut Report<'w, T, ToWrite<W>, S>,
     errors: &mut Errors<E>,
 ) -> u8
-    requires reader { ⟦<Joined<FromRead<R>> as Source>⟧.failed reader.old ≡ false }
+    requires reader { ⟦<Input<'w, Joined<FromRead<R>>> as Source>⟧.failed reader.old ≡ false }
     requires writer { ⟦<Report<'w, T, ToWrite<W>, S> as Sink>⟧.failed report.old ≡ false }
     ensures done { IsDone result → HasObeyed words.now result
-        (⟦<Joined<FromRead<R>> as Source>⟧.remaining reader.old)
-        (⟦<Joined<FromRead<R>> as Source>⟧.remaining reader.new)
+        (⟦<Input<'w, Joined<FromRead<R>>> as Source>⟧.remaining reader.old)
+        (⟦<Input<'w, Joined<FromRead<R>>> as Source>⟧.remaining reader.new)
         (⟦<Report<'w, T, ToWrite<W>, S> as Sink>⟧.contents report.old)
         (⟦<Report<'w, T, ToWrite<W>, S> as Sink>⟧.contents report.new) }
     ensures works { IsDone result → (⟦<Report<'w, T, ToWrite<W>, S> as Sink>⟧.failed report.new ≡ false)
@@ -121,7 +121,7 @@ fn obey_watched<
     let rt = report.runtime();
     let means = Means { rt, sitter };
     let status = obey_beside(&means, words, reader, report, errors);
-    explain(rt.alloc(), words, reader, report.writer(), errors);
+    explain(rt.alloc(), words, reader.source(), report.writer(), errors);
     status
 }
 
@@ -226,7 +226,7 @@ fn obey<
     ensures untouched { result ≡ 2 → (reader.new ≡ reader.old) × (writer.new ≡ writer.old) }
     ensures statuses { result ≤ 4 }
 {
-    let rt = means.rt;
+    let (rt, gate) = (means.rt, means.sitter.watch.gate());
     match words {
         Words::Run(settings, telling, None, names) => {
             greet(means, settings, names.is_empty(), errors);
@@ -237,7 +237,7 @@ fn obey<
             report(means, &task, None, reader, writer, errors)
         }
         Words::Run(settings, telling, Some(name), names) => {
-            match book_of(rt, settings, name.as_str(), errors) {
+            match book_of(rt, settings, name.as_str(), errors, gate) {
                 Ok(book) => {
                     greet(means, settings, names.is_empty(), errors);
                     let task = Task {
@@ -250,7 +250,7 @@ fn obey<
             }
         }
         Words::Verify(_, name) => match file_of(rt, name.as_str(), errors) {
-            Ok(file) => book_verify(rt, rt.alloc(), file.as_slice(), writer, errors),
+            Ok(file) => book_verify(rt, rt.alloc(), file.as_slice(), writer, errors, gate),
             Err(status) => status,
         },
         Words::Add(settings, _, name) => {
@@ -265,6 +265,7 @@ fn obey<
                         writer,
                         errors,
                         settings,
+                        gate,
                     )
                 }
                 Err(status) => status,

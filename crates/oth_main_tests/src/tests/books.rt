@@ -1,6 +1,6 @@
 //! The commands of the book, and runs with a book.
 
-use super::{NO_FAILURE, by_two_workers, settings};
+use super::{NO_FAILURE, by_two_workers, settings, unseen};
 use oth_book::Book;
 use oth_main::{Command, Errors, MOST_BOOK_BYTES, Settings, book_add, book_verify, open_book, run};
 use oth_pool::Gate;
@@ -228,7 +228,9 @@ fn verifies_each_file(rt: HostRuntime) {
     for (file, written, told, status) in VERIFIED {
         let mut writer = ByteSink::<64>::new(NO_FAILURE);
         let mut errors = Errors::new(ByteSink::<64>::new(NO_FAILURE), false);
-        assert!(rt; book_verify(&rt, rt.alloc(), file, &mut writer, &mut errors) == status);
+        assert!(rt;
+            book_verify(&rt, rt.alloc(), file, &mut writer, &mut errors, &unseen()) == status
+        );
         assert!(rt; writer.taken() == written);
         assert!(rt; errors.sink.taken() == told);
     }
@@ -239,13 +241,22 @@ fn verifies_each_file(rt: HostRuntime) {
 fn a_verdict_ends_with_its_status_where_a_device_fails(rt: HostRuntime) {
     let mut writer = ByteSink::<64>::new(4);
     let mut errors = Errors::new(ByteSink::<64>::new(NO_FAILURE), false);
-    assert!(rt; book_verify(&rt, rt.alloc(), EMPTY_BOOK, &mut writer, &mut errors) == 1);
+    assert!(rt;
+        book_verify(
+            &rt,
+            rt.alloc(),
+            EMPTY_BOOK,
+            &mut writer,
+            &mut errors,
+            &unseen()
+        ) == 1
+    );
     assert!(rt; writer.calls() == 5 && errors.sink.calls() == 12);
     assert!(rt;
         writer.taken() == b"book".as_slice() && errors.sink.taken() == b"run error 2\n".as_slice()
     );
     let mut errors = Errors::new(ByteSink::<64>::new(4), false);
-    assert!(rt; book_verify(&rt, rt.alloc(), b"", &mut writer, &mut errors) == 3);
+    assert!(rt; book_verify(&rt, rt.alloc(), b"", &mut writer, &mut errors, &unseen()) == 3);
     assert!(rt; writer.calls() == 5 && errors.sink.calls() == 5);
 }
 
@@ -277,6 +288,7 @@ pub(super) fn add<R: Wait + Threads + Sync + AllocGlobal>(
         &mut writer,
         &mut errors,
         settings,
+        &unseen(),
     );
     Addition {
         reads: reader.calls(),
@@ -358,6 +370,7 @@ fn an_addition_passes_a_failing_standard_error_over(rt: HostRuntime) {
         &mut writer,
         &mut errors,
         &by_two_workers(Scoring::Winner),
+        &unseen(),
     );
     assert!(rt; status == 0 && errors.sink.calls() == 1);
     assert!(rt; writer.taken() == BOOK_OF_TWO && BOOK_OF_TWO.len() == 200);
@@ -400,7 +413,16 @@ fn a_full_book_is_verified_and_takes_no_more(rt: HostRuntime) -> Result<(), Fail
     assert!(rt; file.len() == 9_000_020 && MOST_BOOK_BYTES == file.len() + 1);
     let mut writer = ByteSink::<64>::new(NO_FAILURE);
     let mut errors = Errors::new(ByteSink::<64>::new(NO_FAILURE), false);
-    assert!(rt; book_verify(&rt, rt.alloc(), file.as_slice(), &mut writer, &mut errors) == 0);
+    assert!(rt;
+        book_verify(
+            &rt,
+            rt.alloc(),
+            file.as_slice(),
+            &mut writer,
+            &mut errors,
+            &unseen()
+        ) == 0
+    );
     assert!(rt; writer.taken() == b"book ok 100000\n".as_slice() && errors.sink.taken().is_empty());
     let asked = by_two_workers(Scoring::Winner);
     let done = add(
@@ -424,7 +446,16 @@ fn a_longer_book_has_too_many_entries(rt: HostRuntime) -> Result<(), Fail> {
     file.push(b'O')?;
     let mut writer = ByteSink::<64>::new(NO_FAILURE);
     let mut errors = Errors::new(ByteSink::<64>::new(NO_FAILURE), false);
-    assert!(rt; book_verify(&rt, rt.alloc(), file.as_slice(), &mut writer, &mut errors) == 3);
+    assert!(rt;
+        book_verify(
+            &rt,
+            rt.alloc(),
+            file.as_slice(),
+            &mut writer,
+            &mut errors,
+            &unseen()
+        ) == 3
+    );
     assert!(rt; writer.taken().is_empty());
     assert!(rt; errors.sink.taken() == b"book error 4\n".as_slice());
     Ok(())
@@ -478,7 +509,7 @@ fn check_run<R: Wait + Threads + Sync + AllocGlobal + Abort>(
     report: &[u8],
     searches: u64,
 ) {
-    let Ok(book) = open_book(rt, rt.alloc(), file, 2, 64) else {
+    let Ok(book) = open_book(rt, rt.alloc(), file, 2, 64, &unseen()) else {
         panic!(rt; "no book")
     };
     match run_by(rt, &book, input, scoring) {

@@ -1,7 +1,7 @@
 //! The reasons in words: what is told on a terminal, and that nothing is told elsewhere.
 
-use super::NO_FAILURE;
 use super::books::EMPTY_BOOK;
+use super::{NO_FAILURE, unseen};
 use oth_book::{AddError, BookFault, Cause, Wrong};
 use oth_main::{
     BookRefusal, Command, Errors, Reason, RunFault, Scene, book_verify, open_book, print_run_fault,
@@ -208,7 +208,7 @@ fn a_refused_file_keeps_its_reason(rt: HostRuntime) {
     let mut writer = ByteSink::<64>::new(NO_FAILURE);
     let mut errors = Errors::new(ByteSink::<128>::new(NO_FAILURE), true);
     let file = b"OBOOK2 W\nx\n".as_slice();
-    assert!(rt; book_verify(&rt, rt.alloc(), file, &mut writer, &mut errors) == 3);
+    assert!(rt; book_verify(&rt, rt.alloc(), file, &mut writer, &mut errors, &unseen()) == 3);
     assert!(rt; errors.sink.taken() == b"book error 2 at 1\n".as_slice());
     let scene = Scene {
         file: "my.book",
@@ -230,7 +230,7 @@ fn told_of_scoring<R: Threads + Sync + AllocGlobal>(
     in_words: bool,
 ) -> ByteSink<128> {
     let mut errors = Errors::new(ByteSink::<128>::new(NO_FAILURE), in_words);
-    if let Ok(book) = open_book(rt, rt.alloc(), EMPTY_BOOK, 1, 0) {
+    if let Ok(book) = open_book(rt, rt.alloc(), EMPTY_BOOK, 1, 0, &unseen()) {
         tell_scoring(rt.alloc(), "my.book", &book, asked, &mut errors);
     }
     errors.sink

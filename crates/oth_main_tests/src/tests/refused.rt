@@ -4,7 +4,7 @@
 use super::books::{BOOK_OF_A, BOOK_OF_TWO, EMPTY_BOOK, TWO_LINES as NEW_LINES, add};
 use super::devices::{SCORED_TWO, SOLVED_TWO, TWO_LINES};
 use super::reasons::told;
-use super::{NO_FAILURE, by_two_workers, walk};
+use super::{NO_FAILURE, by_two_workers, unseen, walk};
 use oth_main::{Command, Errors, Reason, RunFault, Settings, book_verify};
 use oth_rules::Scoring;
 use oth_text::fakes::ByteSink;
@@ -56,7 +56,14 @@ const WANTING: [&[u8]; 2] = [b"book error 7\n", b"book wrong 4\n"];
 fn a_file_is_verified_or_memory_is_wanting(rt: HostRuntime) {
     let mut writer = ByteSink::<64>::new(NO_FAILURE);
     let mut errors = Errors::new(ByteSink::<64>::new(NO_FAILURE), false);
-    let status = book_verify(&rt, rt.alloc(), BOOK_OF_A, &mut writer, &mut errors);
+    let status = book_verify(
+        &rt,
+        rt.alloc(),
+        BOOK_OF_A,
+        &mut writer,
+        &mut errors,
+        &unseen(),
+    );
     if status == 0 {
         assert!(rt; writer.taken() == b"book ok 1\n".as_slice() && errors.sink.taken().is_empty());
         return;

@@ -4,6 +4,7 @@ use super::verifying::SIX;
 use super::{are_right, batch, images};
 use oth_batch::{Asked, Jobs, verify_by};
 use oth_book::{BookFault, Wrong, read_claims};
+use oth_pool::Open;
 use oth_rules::Scoring;
 use oth_search::{NoCells, scores_with, solve_alone};
 use std::test::Fail;
@@ -61,7 +62,7 @@ fn boards_whose_moves_others_score_too(rt: HostRuntime) -> Result<(), Fail> {
 #[test]
 fn a_book_is_verified_or_memory_is_wanting(rt: HostRuntime) {
     match read_claims(rt.alloc(), SIX) {
-        Ok(claims) => match verify_by(&rt, rt.alloc(), claims, 2, 64) {
+        Ok(claims) => match verify_by(&rt, rt.alloc(), claims, 2, 64, &Open) {
             Ok(book) => assert_eq!(rt; book.len(), 6),
             Err(wrong) => assert!(rt; wrong == Wrong::Memory),
         },

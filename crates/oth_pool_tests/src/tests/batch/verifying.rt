@@ -3,6 +3,7 @@
 
 use oth_batch::verify_by;
 use oth_book::{Cause, Wrong, read_claims};
+use oth_pool::Open;
 use std::alloc::{AllocError, Global};
 use std::test::Fail;
 use std::thread::Threads;
@@ -51,7 +52,7 @@ fn is_told<R: Threads + Sync + AllocGlobal>(
 ) -> Result<bool, Fail> {
     for (workers, cells) in MEANS {
         let claims = read_claims(rt.alloc(), text)?;
-        let is_told = match verify_by(rt, rt.alloc(), claims, workers, cells) {
+        let is_told = match verify_by(rt, rt.alloc(), claims, workers, cells, &Open) {
             Ok(book) => wrong.is_none() && book.len() == 6,
             Err(found) => wrong == Some(found),
         };

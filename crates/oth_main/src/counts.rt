@@ -1,0 +1,148 @@
+//! How far a run is, in numbers that each thread may change without waiting.
+
+use std::fmt;
+use std::sync::atomic::{AtomicU64, Ordering};
+
+/// What a run goes through.
+#[derive(Clone, Copy, Debug, PartialEq, Eq)]
+pub enum Stage {
+    /// The lines of the input, whose answers are written in their order.
+    Lines,
+    /// The lines of the input, whose boards are solved side by side before they are added to a book.
+    Added,
+    /// The entries of a book, whose boards are solved side by side before they are compared.
+    Entries,
+}
+
+/// How far a run is.
+#[derive(Clone, Copy, Debug, PartialEq, Eq)]
+pub enum Reached {
+    /// The line of the input that is awaited, from 1, and how many lines were read so far.
+    Line(u64, u64),
+    /// The entry of the book that is tested, from 1, and how many there are.
+    Entry(u64, u64),
+}
+
+impl fmt::Display for Reached {
+    fn fmt<W: fmt::Write>(&self, f: &mut fmt::Formatter<W>) -> fmt::Result {
+        match self {
+            Reached::Line(number, read) => write!(f, "line {number} of {read} read"),
+            Reached::Entry(number, count) => write!(f, "entry {number} of {count}"),
+        }
+    }
+}
+
+/// What is counted of a run.
+#[derive(Drop)]
+pub(crate) struct Counts {
+    // The number of the stage.
+    stage: AtomicU64,
+    // 1 while there is work, 0 while input is awaited.
+    is_at_work: AtomicU64,
+    // The lines that were read, or the entries of the book.
+    all: AtomicU64,
+    // The lines that are answered, or the entries that were or are compared.
+    done: AtomicU64,
+    // The boards whose search has begun, where they are searched before their turn.
+    begun: AtomicU64,
+}
+
+impl Counts {
+    /// No line was read.
+    pub fn new() -> Counts {
+        Counts {
+            stage: AtomicU64::new(number_of(Stage::Lines)),
+            is_at_work: AtomicU64::new(0),
+            all: AtomicU64::new(0),
+            done: AtomicU64::new(0),
+            begun: AtomicU64::new(0),
+        }
+    }
+
+    /// Begins a stage of which `all` lines or entries are known.
+    pub fn begin(&self, stage: Stage, all: u64) {
+        self.is_at_work.store(0, Ordering::SeqCst);
+        self.stage.store(number_of(stage), Ordering::SeqCst);
+        self.all.store(all, Ordering::SeqCst);
+        self.done.store(0, Ordering::SeqCst);
+        self.begun.store(0, Ordering::SeqCst);
+    }
+
+    /// The stage.
+    pub fn stage(&self) -> Stage {
+        match self.stage.load(Ordering::SeqCst) {
+            0 => Stage::Lines,
+            1 => Stage::Added,
+            _ => Stage::Entries,
+        }
+    }
+
+    /// Input is awaited.
+    pub fn rest(&self) {
+        self.is_at_work.store(0, Ordering::SeqCst);
+    }
+
+    /// There is work.
+    pub fn work(&self) {
+        self.is_at_work.store(1, Ordering::SeqCst);
+    }
+
+    /// Counts further lines that were read.
+    pub fn read(&self, lines: u64) {
+        let _ = self.all.fetch_add(lines, Ordering::SeqCst);
+    }
+
+    /// `lines` lines are answered by now.
+    pub fn answered(&self, lines: u64) {
+        self.done.store(lines, Ordering::SeqCst);
+    }
+
+    /// Counts a line that is answered, or an entry whose turn it is.
+    pub fn pass(&self) {
+        let _ = self.done.fetch_add(1, Ordering::SeqCst);
+    }
+
+    /// Counts a board whose search begins, unless answers are written in the order of the lines.
+    pub fn search(&self) {
+        if self.stage() != Stage::Lines {
+            let _ = self.begun.fetch_add(1, Ordering::SeqCst);
+        }
+    }
+
+    /// The lines that are answered, or the entries that were or are compared.
+    pub fn done(&self) -> u64 {
+        self.done.load(Ordering::SeqCst)
+    }
+
+    /// The boards whose search has begun, where these are counted.
+    pub fn begun(&self) -> u64 {
+        self.begun.load(Ordering::SeqCst)
+    }
+
+    /// How far the run is, if it is at work.
+    pub fn reached(&self) -> Option<Reached> {
+        if self.is_at_work.load(Ordering::SeqCst) == 0 {
+            return None;
+        }
+        let all = self.all.load(Ordering::SeqCst).max(1);
+        match self.stage() {
+            Stage::Lines | Stage::Added => {
+                let next = self.done().saturating_add(1);
+                Some(Reached::Line(next.max(self.begun()).min(all), all))
+            }
+            Stage::Entries => {
+                let next = self.done().max(1);
+                Some(Reached::Entry(next.max(self.begun()).min(all), all))
+            }
+        }
+    }
+}
+
+// The number of the stage.
+fn number_of(stage: Stage) -> u64 {
+    match stage {
+        Stage::Lines => 0,
+        Stage::Added => 1,
+        Stage::Entries => 2,
+    }
+}
