@@ -3,7 +3,7 @@
 
     bench/plain.py OUT [TREE]     puts the copy of TREE (default: this repository) into OUT/src and builds OUT/plain
     bench/plain.py --build OUT    builds OUT/plain of what stands in OUT/src
-    bench/plain.py --check        tests that a copy can be made, and builds nothing
+    bench/plain.py --check        tests that a copy can be made and has what bench/plain uses, and builds nothing
 
 The copy has the code of the crates below without what is there for the prover: contracts, ghost items, models. What they
 take from the toolchain's libraries stands in bench/plain. It is for measuring alone: nothing of it is proved, and what
@@ -126,6 +126,17 @@ def copy_of(tree):
     return files
 
 
+def wanting(files):
+    """Yields the names that the parts in bench/plain use and that the copy does not have."""
+    for library in LIBRARIES:
+        for module, names in re.findall(r"^use crate::([\w:]+)::(\{[^}]*\}|\w+);", files[f"{library}.rs"], re.MULTILINE):
+            place = module.replace("::", "/")
+            text = files.get(f"{place}.rs", "") + files.get(f"{place}/mod.rs", "")
+            for name in re.findall(r"\w+", names):
+                if not re.search(rf"\b{name}\b", text):
+                    yield f"{module}::{name} (for {library}.rs)"
+
+
 def build(out):
     """Builds what stands in OUT/src, and gives the compiler's status."""
     # The copy needs `std::simd`, which a stable compiler takes only so.
@@ -153,7 +164,7 @@ def words():
     parser.add_argument("tree", metavar="TREE", nargs="?", type=pathlib.Path, help="the tree that is copied (this repository)")
     kinds = parser.add_mutually_exclusive_group()
     kinds.add_argument("--build", action="store_true", help="copy nothing, and build what stands in OUT/src")
-    kinds.add_argument("--check", action="store_true", help="test that a copy can be made, and build nothing")
+    kinds.add_argument("--check", action="store_true", help="test that a copy can be made and has what bench/plain uses, and build nothing")
     given = parser.parse_args()
     if given.check and given.out:
         parser.error("--check takes no OUT")
@@ -167,7 +178,9 @@ def words():
 def main():
     given = words()
     if given.check:
-        copy_of(ROOT)
+        missing = ", ".join(wanting(copy_of(ROOT)))
+        if missing:
+            raise SystemExit(f"bench/plain.py: the copy has not: {missing}")
         return 0
     if not given.build:
         write_copy(given.out, given.tree or ROOT)

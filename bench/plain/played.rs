@@ -8,7 +8,7 @@
 use crate::oth_rules::{Board, Square};
 use crate::oth_search::nws::Node;
 use crate::oth_search::ordering::evaluation::Evaluation;
-use crate::oth_search::ordering::lookahead::{Span, look};
+use crate::oth_search::ordering::lookahead::{EvalWindow, lookahead};
 
 // Plies by chance at the beginning of a game.
 const BY_CHANCE: u32 = 8;
@@ -36,7 +36,7 @@ fn children(board: &Board) -> Vec<Board> {
 fn best(children: &[Board]) -> Board {
     let mut best = (Evaluation::WORST, children[0]);
     for child in children {
-        let seen = look(Node::of(*child), AFTER_A_MOVE, Span::up_to(Evaluation::BEST)).turned();
+        let seen = lookahead(Node::of(*child), AFTER_A_MOVE, EvalWindow::up_to(Evaluation::BEST)).turned();
         if !best.0.reaches(seen) {
             best = (seen, *child);
         }
