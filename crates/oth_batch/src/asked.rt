@@ -2,8 +2,10 @@
 
 ghost use Rattle.std.specs.Prelude.{◌≡◌, IfSome};
 
+use crate::found::answer_by_image;
 use oth_rules::{Board, Scoring};
 use oth_search::{Answer, Scores};
+use std::alloc::Global;
 
 /// What is asked of each of the boards that wait.
 #[derive(Clone, Copy, Debug, PartialEq, Eq)]
@@ -22,19 +24,22 @@ pub(crate) enum Found {
 }
 
 impl Found {
-    /// The answer, if it is one of this board under this scoring.
-    pub(crate) fn answer(&self, board: &Board, scoring: Scoring) -> Option<Answer>
+    /// The answer of this board under this scoring, if what was found is one of the board or of an image of it. For an
+    /// image this takes memory, that of one entry of a book.
+    pub(crate) fn answer(&self, alloc: Global, board: &Board, scoring: Scoring) -> Option<Answer>
         ensures board { IfSome result (λ a. a.board ≡ board.now) }
         ensures scoring { IfSome result (λ a. a.scoring ≡ scoring) }
     {
         let Found::Answer(answer) = self else {
             return None;
         };
-        if answer.board == *board && answer.scoring == scoring {
-            Some(*answer)
-        } else {
-            None
+        if answer.scoring != scoring {
+            return None;
         }
+        if answer.board == *board {
+            return Some(*answer);
+        }
+        answer_by_image(alloc, answer, board)
     }
 
     /// The scores, if they are those of this board under this scoring.

@@ -1,9 +1,11 @@
-//! An answer among those that were found ahead.
+//! An answer among those that were found ahead, and by that of an image of the board.
 
 ghost use Rattle.std.specs.Prelude.{◌≡◌, ◌≢◌, All, IfSome, IfNone};
 
+use oth_book::Book;
 use oth_rules::{Board, Scoring};
-use oth_search::Answer;
+use oth_search::{Answer, MOST_EMPTIES};
+use std::alloc::Global;
 
 /// The answer of the board under the scoring, if it is one of these.
 pub fn answer_among(answers: &[Answer], board: &Board, scoring: Scoring) -> Option<Answer>
@@ -18,4 +20,23 @@ pub fn answer_among(answers: &[Answer], board: &Board, scoring: Scoring) -> Opti
         }
     }
     None
+}
+
+/// The answer of the board by that of an image of it, as a book of that one answer finds it. None where the answer is
+/// of no image of the board, or there is no memory.
+pub fn answer_by_image(alloc: Global, answer: &Answer, board: &Board) -> Option<Answer>
+    ensures board { IfSome result (λ a. a.board ≡ board.now) }
+    ensures scoring { IfSome result (λ a. a.scoring ≡ answer.now.scoring) }
+{
+    if answer.board.empties() > MOST_EMPTIES {
+        return None;
+    }
+    let mut book = Book::new(alloc, answer.scoring);
+    book.add(answer).ok()?;
+    let found = book.find(board)?;
+    if found.scoring == answer.scoring {
+        Some(found)
+    } else {
+        None
+    }
 }

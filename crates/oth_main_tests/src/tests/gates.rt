@@ -5,7 +5,7 @@ use oth_book::{Added, Book};
 use oth_main::{Command, Settings, run};
 use oth_pool::{Frontier, Gate};
 use oth_rules::samples::{after_least_moves, least_moves_from};
-use oth_rules::{Board, Scoring, Square};
+use oth_rules::{Board, Scoring, Square, Sym};
 use oth_search::{MOST_EMPTIES, Solved, solve_alone};
 use oth_text::fakes::{BrokenSource, ByteSink};
 use oth_text::{Position, Side, write_board};
@@ -129,6 +129,19 @@ fn a_gate_hears_each_item_of_a_batch_once(rt: HostRuntime) -> Result<(), Fail> {
             .all(|board| board.empties() == 10 && board.can_move())
     );
     let input = lines(rt.alloc(), boards.as_slice())?;
+    check_heard(&rt, input.as_slice(), None, items_of(boards.as_slice()));
+    Ok(())
+}
+
+#[test]
+fn a_board_and_its_image_are_searched_once(rt: HostRuntime) -> Result<(), Fail> {
+    let boards = boards(rt.alloc())?;
+    let mut images = Vec::new(rt.alloc());
+    for board in boards.as_slice() {
+        images.push(board.image(Sym::numbered(5)))?;
+    }
+    let mut input = lines(rt.alloc(), boards.as_slice())?;
+    input.extend_from_slice(lines(rt.alloc(), images.as_slice())?.as_slice())?;
     check_heard(&rt, input.as_slice(), None, items_of(boards.as_slice()));
     Ok(())
 }

@@ -8,7 +8,7 @@ use oth_batch::{Batch, Boards};
 use oth_pool::Open;
 use oth_rules::samples::after_least_moves;
 use oth_rules::{Board, Scoring, Sym};
-use oth_search::{Answer, solve_alone};
+use oth_search::{Answer, RootMoves, Solved, solve_alone};
 use std::alloc::Global;
 use std::test::Fail;
 use std::thread::Threads;
@@ -20,6 +20,19 @@ fn images(alloc: Global, empties: u8) -> Option<Boards> {
         let board = after_least_moves(most_empties)?;
         for number in 0..8 {
             boards.push(board.image(Sym::of(number)?));
+        }
+    }
+    Some(boards)
+}
+
+/// The boards after each move of two boards of a game, one of `empties` empty squares and one of one less: none is an
+/// image of another one.
+fn children(alloc: Global, empties: u8) -> Option<Boards> {
+    let mut boards = Boards::new(alloc).ok()?;
+    for most_empties in [empties, empties.saturating_sub(1)] {
+        let board = after_least_moves(most_empties)?;
+        for root_move in RootMoves::of(&Solved::unknown(board, Scoring::Winner), &[]).as_slice() {
+            boards.push(root_move.child.board);
         }
     }
     Some(boards)
@@ -68,6 +81,21 @@ fn each_board_is_answered(rt: HostRuntime) -> Result<(), Fail> {
             assert!(rt; answered(&boards, answers.as_slice()) == 16);
             assert!(rt; are_right(answers.as_slice(), scoring));
         }
+    }
+    Ok(())
+}
+
+#[test]
+fn each_of_many_boards_is_answered(rt: HostRuntime) -> Result<(), Fail> {
+    let Some(boards) = children(rt.alloc(), 12) else {
+        panic!(rt; "no boards")
+    };
+    let count = boards.as_slice().len();
+    for (workers, cells) in [(2, 0), (3, 1), (16, 64)] {
+        let answers = batch(&rt, workers, cells, Scoring::Winner).answers(&boards);
+        assert!(rt; answers.len() == count, "{workers} workers, {cells} cells");
+        assert!(rt; answered(&boards, answers.as_slice()) == count);
+        assert!(rt; are_right(answers.as_slice(), Scoring::Winner));
     }
     Ok(())
 }

@@ -67,6 +67,7 @@ fn the_moves_of_each_board_are_scored_while_others_score(rt: HostRuntime) -> Res
     Ok(())
 }
 
+// The first image of each of the two boards is searched, and tells the answers of the other seven.
 #[test]
 fn nobody_is_waited_for_where_nobody_helps(rt: HostRuntime) -> Result<(), Fail> {
     let Some(boards) = images(rt.alloc(), 10) else {
@@ -76,8 +77,8 @@ fn nobody_is_waited_for_where_nobody_helps(rt: HostRuntime) -> Result<(), Fail> 
     let Some(jobs) = Jobs::of(&batch, Asked::Answer, boards.as_slice()) else {
         panic!(rt; "no jobs")
     };
-    for board in boards.as_slice() {
-        assert!(rt; jobs.found(board).is_none());
+    for (place, board) in boards.as_slice().iter().enumerate() {
+        assert!(rt; jobs.found(board).is_some() == (place % 8 != 0));
         assert!(rt; jobs.answer_of(&rt, board) == solve_alone(board, Scoring::Winner).ok());
         assert!(rt; jobs.found(board).is_some());
         assert!(rt; jobs.scores_of(&rt, board).is_none());
