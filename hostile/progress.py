@@ -1,8 +1,8 @@
 """Runs the built program on boards of which one takes seconds, and on many that take none, and looks at the line of progress.
 
 On a terminal that line has to come, show how far the search or the run is, be renewed in place and never wrapped, and be gone when the
-answer is written; where standard error is no terminal, or another job has it, not a byte of it may come. A terminal that takes nothing
-holds no answer up that goes into a file.
+answer is written; where standard error is no terminal not a byte of it may come. A terminal that takes nothing holds no answer up that
+goes into a file.
 """
 import contextlib
 import os
@@ -11,7 +11,6 @@ import re
 import select
 import subprocess
 import tempfile
-import termios
 import time
 
 from running import EMPTY_BOOK, TOP, board_lines, file_of, ran
@@ -198,36 +197,6 @@ def counting(program, folder):
         yield f"{name}: the line of progress counts up to {last} on a terminal of {NARROW} columns", wrong
 
 
-def as_job(program, boards, answers, script):
-    """Runs the script by a shell with jobs, on a terminal that stops a job in its background which writes; gives what is said too."""
-    terminal, end = pty.openpty()
-    how = termios.tcgetattr(end)
-    how[3] |= termios.TOSTOP
-    termios.tcsetattr(end, termios.TCSANOW, how)
-    words = ["setsid", "-w", "-c", "sh", "-mc", script, program, boards, answers]
-    with subprocess.Popen(words, stdin=end, stdout=end, stderr=end, env={**os.environ, "TERM": "xterm"}) as started:
-        os.close(end)
-        said = read_all(terminal, started)
-    os.close(terminal)
-    return started.returncode, said
-
-
-def behind(program, folder):
-    """Yields a step for a job that has its terminal, and for one in its background."""
-    given = board_lines(SEED, MANY, BY_ONE)
-    boards, wanted = file_of(folder, "boards.txt", given), ran([program, "solve"], given, PATIENCE).wrote
-    for name, script, is_shown in (
-        ("a job that has its terminal: the line of progress comes", '"$0" solve "$1" > "$2"', True),
-        ("a job in the background writes nothing to its terminal", '"$0" solve "$1" > "$2" & wait $!', False),
-    ):
-        answers = file_of(folder, "answers.txt", b"")
-        status, said = as_job(program, boards, answers, script)
-        with open(answers, "rb") as wrote:
-            is_right = (status, wrote.read()) == (0, wanted)
-        is_right = is_right and (b" read, " in said if is_shown else not said)
-        yield name, None if is_right else f"status {status}, said {said!r}"
-
-
 def full_terminal():
     """Makes a terminal that takes no further byte until it is read: both of its ends."""
     terminal, end = pty.openpty()
@@ -289,4 +258,3 @@ def steps(program):
     yield from standing_still(program, plain.wrote)
     with tempfile.TemporaryDirectory() as folder:
         yield from counting(program, folder)
-        yield from behind(program, folder)

@@ -4,10 +4,9 @@
 //! `addition` adds boards to a book, `book_commands` prints and writes. `message` has the lines that a command of the
 //! book prints, and `reasons` what it prints them to: standard error, whether words are told there, and the reason,
 //! which is kept until it is told so. `explaining` finds the faults that a report tells, for words beside it. `showing`
-//! has a terminal with the line that shows how far a run is (`look`, in its `row`), where the terminal is its own
-//! (`foreground`). `Progress` (`progress`) hears of each search (`under_search`) as the gate of the run, and counts
-//! (`counts`) the lines that its source reads (`Input`) and that its sink answers (`answered`, `hearing`); that sink
-//! takes the line away before each answer (`Report`).
+//! has a terminal with the line that shows how far a run is (`look`, in its `row`). `Progress` (`progress`) hears of
+//! each search (`under_search`) as the gate of the run, and counts (`counts`) the lines that its source reads (`Input`)
+//! and that its sink answers (`answered`, `hearing`); that sink takes the line away before each answer (`Report`).
 #![tactic(auto)]
 
 mod addition;
@@ -16,7 +15,6 @@ mod book_commands;
 mod book_file;
 mod counts;
 mod explaining;
-mod foreground;
 mod hearing;
 mod input;
 mod joined;

@@ -4,7 +4,6 @@ ghost use Rattle.std.specs.Prelude.{◌≡◌};
 ghost use denote.Param.Send.{IsSend, IsSync};
 
 use crate::explaining::{Faults, FaultyLine};
-use crate::foreground::is_in_background;
 use crate::hearing::Hearing;
 use crate::look::Times;
 use crate::progress::Progress;
@@ -109,12 +108,9 @@ impl<E: Sink + Send> Watch<E> {
         }
     }
 
-    // Shows how far the run is now, or nothing where it hasn't worked long. A job in the background writes nothing.
+    // Shows how far the run is now, or nothing where it hasn't worked long.
     fn show_once<R: Wait + Clock>(&self, rt: &R, alloc: Global, times: &mut Times) {
         let shown = times.shown(rt, self.progress.look(rt));
-        if is_in_background() {
-            return;
-        }
         let mut screen = self.screen.lock(rt);
         match shown {
             Some(shown) => {
@@ -128,9 +124,7 @@ impl<E: Sink + Send> Watch<E> {
 
     // Takes the line away.
     fn clear<R: Wait>(&self, rt: &R) {
-        if !is_in_background() {
-            self.screen.lock(rt).clear();
-        }
+        self.screen.lock(rt).clear();
     }
 }
 
