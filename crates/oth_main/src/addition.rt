@@ -43,13 +43,13 @@ pub enum Stop {
 
 // How boards are solved, and what hears of it.
 #[derive(Drop)]
-struct Means<'p> {
+struct Conditions<'p> {
     alloc: Global,
     settings: Lawful,
     progress: &'p Progress,
 }
 
-impl<'p> Means<'p> {
+impl<'p> Conditions<'p> {
     // The settings, under the book's scoring.
     fn asked(&self, book: &Book) -> Lawful
         ensures scoring { result.scoring ≡ book.now.scoring }
@@ -59,19 +59,19 @@ impl<'p> Means<'p> {
 }
 
 // Advances `ahead` past the first line in `bytes`. The solver that it may call asks the book of each board first.
-fn pass_line<T: Threads + Sync>(
+fn advance_line<T: Threads + Sync>(
     ahead: &mut Ahead,
     rt: &T,
     book: &Book,
     bytes: &[u8],
-    means: &Means<'_>,
+    conditions: &Conditions<'_>,
 ) {
     let solver = Solver {
         rt,
-        alloc: means.alloc,
-        gate: means.progress,
+        alloc: conditions.alloc,
+        gate: conditions.progress,
         book: Some(book),
-        settings: means.asked(book),
+        settings: conditions.asked(book),
     };
     ahead.pass(&solver, bytes);
 }
@@ -82,7 +82,7 @@ fn answer_by<T: Threads + Sync>(
     rt: &T,
     book: &Book,
     board: &Board,
-    means: &Means<'_>,
+    conditions: &Conditions<'_>,
 ) -> Result<Answer, TooManyEmpties>
     ensures refused { IsErr result ↔ (30 < empty_count board.now) }
     ensures counted { IfErr result (λ e. e.empties ≡ empty_count board.now) }
@@ -91,10 +91,10 @@ fn answer_by<T: Threads + Sync>(
 {
     let solver = Solver {
         rt,
-        alloc: means.alloc,
-        gate: means.progress,
+        alloc: conditions.alloc,
+        gate: conditions.progress,
         book: Some(book),
-        settings: means.asked(book),
+        settings: conditions.asked(book),
     };
     ahead.answer_of(&solver, board)
 }
@@ -106,7 +106,7 @@ pub struct Addition<'p> {
     line: BoardReader,
     number: u64,
     ahead: Ahead,
-    means: Means<'p>,
+    conditions: Conditions<'p>,
 }
 
 impl<'p> Addition<'p> {
@@ -121,7 +121,7 @@ impl<'p> Addition<'p> {
             line: BoardReader::new(),
             number: 1,
             ahead: Ahead::nothing(alloc),
-            means: Means {
+            conditions: Conditions {
                 alloc,
                 settings,
                 progress,
@@ -194,7 +194,7 @@ impl<'p> Addition<'p> {
     {
         let mut rest = bytes;
         while let Some((line, others)) = split_line(rest) {
-            pass_line(&mut self.ahead, rt, &self.book, rest, &self.means);
+            advance_line(&mut self.ahead, rt, &self.book, rest, &self.conditions);
             self.take_line(rt, line, errors)?;
             rest = others;
         }
@@ -244,7 +244,7 @@ impl<'p> Addition<'p> {
         self.add_line(rt, errors)?;
         self.line.clear();
         self.number = self.number.saturating_add(1);
-        self.means.progress.pass_line();
+        self.conditions.progress.count_line();
         Ok(())
     }
 
@@ -279,8 +279,8 @@ impl<'p> Addition<'p> {
     {
         let position = self.line.read()?;
         let board = &position.board;
-        self.means.progress.awaits(board);
-        match answer_by(&self.ahead, rt, &self.book, board, &self.means) {
+        self.conditions.progress.awaits(board);
+        match answer_by(&self.ahead, rt, &self.book, board, &self.conditions) {
             Ok(answer) => Ok(answer),
             Err(many) => Err(LineFault::Empties(many.empties)),
         }

@@ -98,7 +98,7 @@ impl Counts {
     }
 
     /// Counts a line that is answered, or an entry whose turn it is.
-    pub fn pass(&self) {
+    pub fn advance(&self) {
         let _ = self.done.fetch_add(1, Ordering::SeqCst);
     }
 

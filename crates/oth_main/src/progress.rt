@@ -162,7 +162,7 @@ impl Gate for Progress {
             return;
         }
         if self.counts.stage() == Stage::Entries {
-            self.counts.pass();
+            self.counts.advance();
         }
         if let Some(mut state) = self.heard() {
             state.await_board(board, &self.counts);
@@ -202,9 +202,9 @@ impl Progress {
     }
 
     /// Counts a line as answered.
-    pub(crate) fn pass_line(&self) {
+    pub(crate) fn count_line(&self) {
         if self.is_shown {
-            self.counts.pass();
+            self.counts.advance();
         }
     }
 

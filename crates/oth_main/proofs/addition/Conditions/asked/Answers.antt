@@ -1,5 +1,5 @@
 use Rattle.std.proofs.Common.{rules}
-use Rattle.oth_main.proofs.addition.Means.asked.Goals as goal
+use Rattle.oth_main.proofs.addition.Conditions.asked.Goals as goal
 
 pub returns : goal.returns
 returns c = search rules
