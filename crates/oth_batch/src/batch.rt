@@ -66,7 +66,7 @@ impl<'b, R: Threads + Sync, G: Gate> Batch<'b, R, G> {
     }
 
     // The answer of the board by one worker, if it has at most 30 empty squares and the cells are a lawful number.
-    fn answer_of(&self, board: &Board) -> Option<Answer>
+    fn answer_by_one(&self, board: &Board) -> Option<Answer>
         ensures board { IfSome result (λ a. a.board ≡ board.now) }
         ensures scoring { IfSome result (λ a. a.scoring ≡ self.now.scoring) }
     {
@@ -96,7 +96,7 @@ impl<'b, R: Threads + Sync, G: Gate> Batch<'b, R, G> {
     // What is asked of the board, by one worker.
     pub(crate) fn find(&self, asked: Asked, board: &Board) -> Option<Found> {
         match asked {
-            Asked::Answer => Some(Found::Answer(self.answer_of(board)?)),
+            Asked::Answer => Some(Found::Answer(self.answer_by_one(board)?)),
             Asked::Scores => Some(Found::Scores(self.scores_of(board)?)),
         }
     }

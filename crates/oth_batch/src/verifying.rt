@@ -101,7 +101,7 @@ impl<'b, R: Threads + Sync, G: Gate> ClaimSolver<'b, R, G> {
         let Ok(mut boards) = Boards::new(self.batch.alloc) else {
             return;
         };
-        self.claims = gather(&mut boards, claims);
+        self.claims = fill_with_claims(&mut boards, claims);
         self.answers = self.batch.answers(&boards);
     }
 
@@ -122,7 +122,7 @@ impl<'b, R: Threads + Sync, G: Gate> ClaimSolver<'b, R, G> {
 }
 
 // Lets the boards of the first claims wait, up to a batch, and gives the number of these claims.
-fn gather(boards: &mut Boards, claims: &[Claim]) -> usize {
+fn fill_with_claims(boards: &mut Boards, claims: &[Claim]) -> usize {
     for count in 0..claims.len() {
         if boards.is_full() {
             return count;

@@ -102,7 +102,7 @@ impl Book {
                 if !is_exact(&entry) {
                     return None;
                 }
-                Some(answer_of(board, &entry, symmetry, self.scoring))
+                Some(answer_by_entry(board, &entry, symmetry, self.scoring))
             }
             Err(_) => None,
         }
@@ -261,7 +261,7 @@ fn closer_of(kept: &Claim, solved: &Solved) -> Claim
 }
 
 // The answer of a board, by the exact entry of its image along the symmetry.
-fn answer_of(board: &Board, entry: &Claim, symmetry: Sym, scoring: Scoring) -> Answer
+fn answer_by_entry(board: &Board, entry: &Claim, symmetry: Sym, scoring: Scoring) -> Answer
     requires holds { IsBookEntry scoring entry.now }
     requires exact { IsExact entry.now }
     requires image { entry.now.board ≡ image symmetry board.now }

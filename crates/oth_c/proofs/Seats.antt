@@ -33,7 +33,7 @@ use Rattle.std.specs.contracts.impls.GlobalAllocator.TheImpl.{ghosts}
 use Rattle.std.proofs.GlobalToken.{dealloc_token-Testable}
 use Rattle.oth_table.specs.Parts.{Use}
 use Rattle.oth_c.specs.Owned.{boxed, owned}
-use Rattle.oth_c.specs.contracts.seated.Place as place
+use Rattle.oth_c.specs.contracts.seated.SeatSlot as place
 use Rattle.oth_c.specs.contracts.seat.OthSeat as seat
 use Rattle.oth_c.proofs.Values.{both}
 

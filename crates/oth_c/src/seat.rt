@@ -9,7 +9,7 @@ ghost use Rattle.oth_c.specs.Owned.{owned};
 ghost use Rattle.oth_c.specs.contracts.seated.Seated.{the_row};
 
 use crate::loose::Loose;
-use crate::seated::Place;
+use crate::seated::SeatSlot;
 use std::alloc::Global;
 use std::marker::Model;
 use std::mem::replace;
@@ -28,7 +28,7 @@ impl Model for OthSeat {
 }
 
 impl OthSeat {
-    fn of(place: Loose<Place, Global>) -> OthSeat
+    fn of(place: Loose<SeatSlot, Global>) -> OthSeat
         ensures { result.held ≡ place.value.seated }
     {
         let Loose { at, alloc } = place;
@@ -45,20 +45,20 @@ impl OthSeat {
         }
     }
 
-    fn into_loose(self) -> Option<Loose<Place, Global>>
+    fn into_loose(self) -> Option<Loose<SeatSlot, Global>>
         ensures { MatchOption result (self.held ≡ None) (λ l. self.held ≡ l.value.seated) }
     {
         let OthSeat { at, alloc } = self;
         if at.is_null() {
             None
         } else {
-            let at = at as *mut Place;
+            let at = at as *mut SeatSlot;
             Some(Loose { at, alloc })
         }
     }
 
     /// Takes the seat out, and leaves none.
-    pub fn take(&mut self, alloc: Global) -> Option<Box<Place>>
+    pub fn take(&mut self, alloc: Global) -> Option<Box<SeatSlot>>
         ensures none { self.new.held ≡ None }
         ensures taken { MatchOption result (self.old.held ≡ None) (λ b. self.old.held ≡ b.value.seated) }
     {
@@ -69,7 +69,7 @@ impl OthSeat {
     }
 
     /// Puts a seat in, in place of what is there.
-    pub fn put(&mut self, place: Box<Place>)
+    pub fn put(&mut self, place: Box<SeatSlot>)
         ensures { self.new.held ≡ place.value.seated }
     {
         *self = OthSeat::of(Loose::of(place));

@@ -70,7 +70,7 @@ impl Model for Seated {
 
 /// The place of a `Seated`, empty while a call has it.
 #[derive(Drop)]
-pub struct Place {
+pub struct SeatSlot {
     pub seated: Option<Seated>,
 }
 

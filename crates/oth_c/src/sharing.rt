@@ -13,7 +13,7 @@ use crate::answer::OthAnswer;
 use crate::board::OthBoard;
 use crate::refusal::{DONE, Refusal, deliver};
 use crate::seat::OthSeat;
-use crate::seated::{Place, Seated};
+use crate::seated::{SeatSlot, Seated};
 use crate::solving::scoring_of;
 use crate::within::OthBounds;
 use oth_rules::{Board, Scoring};
@@ -49,12 +49,12 @@ fn opened(alloc: Global, cells: u32, scoring: u8, seat: &mut OthSeat) -> Result<
 }
 
 // The first seat of a new table, at a place of its own.
-fn first_place(alloc: Global, cells: u32, scoring: Scoring) -> Result<Box<Place>, Refusal>
+fn first_place(alloc: Global, cells: u32, scoring: Scoring) -> Result<Box<SeatSlot>, Refusal>
     ensures ok { IfOk result (λ b. IsSize cells × IsOpenedAt cells scoring b.value.seated) }
     ensures err { IfErr result (RefusesCells cells) }
 {
     let seated = Seated::new(alloc, cells, scoring)?;
-    let place = Place {
+    let place = SeatSlot {
         seated: Some(seated),
     };
     match Box::new(alloc, place) {
@@ -117,7 +117,7 @@ fn joined_at(alloc: Global, seated: &mut Option<Seated>, more: &mut OthSeat) -> 
     if is_held(alloc, more) {
         return Err(Refusal::Taken);
     }
-    let Ok(mut place) = Box::new(alloc, Place { seated: None }) else {
+    let Ok(mut place) = Box::new(alloc, SeatSlot { seated: None }) else {
         return Err(Refusal::Memory);
     };
     let another = seated.another(alloc)?;
@@ -132,7 +132,7 @@ pub fn lifted(
     alloc: Global,
     seat: &mut OthSeat,
     board: OthBoard,
-) -> Result<(Board, Seated, Box<Place>), Refusal>
+) -> Result<(Board, Seated, Box<SeatSlot>), Refusal>
     ensures board { IfOk result (λ x. (overlaps board ≡ false) × (empty_count (position board) ≤ 30)
         × (x.0 ≡ position board)) }
     ensures seated { IfOk result (λ x. seat.old.held ≡ Some x.1) }

@@ -96,7 +96,7 @@ fn answer_by<T: Threads + Sync>(
         book: Some(book),
         settings: conditions.asked(book),
     };
-    ahead.answer_of(&solver, board)
+    ahead.find_answer(&solver, board)
 }
 
 /// The book so far, the line that has begun and its number from 1, answers of the next lines, and how they are solved.
@@ -120,7 +120,7 @@ impl<'p> Addition<'p> {
             book,
             line: BoardReader::new(),
             number: 1,
-            ahead: Ahead::nothing(alloc),
+            ahead: Ahead::new(alloc),
             conditions: Conditions {
                 alloc,
                 settings,

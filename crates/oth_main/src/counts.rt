@@ -5,7 +5,7 @@ use std::sync::atomic::{AtomicU64, Ordering};
 
 /// What a run goes through.
 #[derive(Clone, Copy, Debug, PartialEq, Eq)]
-pub enum Stage {
+pub enum Counted {
     /// The lines of the input, whose answers are written in their order.
     Lines,
     /// The lines of the input, whose boards are solved side by side before they are added to a book.
@@ -35,8 +35,8 @@ impl fmt::Display for Reached {
 /// What is counted of a run.
 #[derive(Drop)]
 pub(crate) struct Counts {
-    // The number of the stage.
-    stage: AtomicU64,
+    // The number of the counted.
+    counted: AtomicU64,
     // 1 while there is work, 0 while input is awaited.
     is_at_work: AtomicU64,
     // The lines that were read, or the entries of the book.
@@ -51,7 +51,7 @@ impl Counts {
     /// No line was read.
     pub fn new() -> Counts {
         Counts {
-            stage: AtomicU64::new(number_of(Stage::Lines)),
+            counted: AtomicU64::new(number_of(Counted::Lines)),
             is_at_work: AtomicU64::new(0),
             all: AtomicU64::new(0),
             done: AtomicU64::new(0),
@@ -59,21 +59,21 @@ impl Counts {
         }
     }
 
-    /// Begins a stage of which `all` lines or entries are known.
-    pub fn begin(&self, stage: Stage, all: u64) {
+    /// Begins a counted of which `all` lines or entries are known.
+    pub fn begin(&self, counted: Counted, all: u64) {
         self.is_at_work.store(0, Ordering::SeqCst);
-        self.stage.store(number_of(stage), Ordering::SeqCst);
+        self.counted.store(number_of(counted), Ordering::SeqCst);
         self.all.store(all, Ordering::SeqCst);
         self.done.store(0, Ordering::SeqCst);
         self.begun.store(0, Ordering::SeqCst);
     }
 
-    /// The stage.
-    pub fn stage(&self) -> Stage {
-        match self.stage.load(Ordering::SeqCst) {
-            0 => Stage::Lines,
-            1 => Stage::Added,
-            _ => Stage::Entries,
+    /// The counted.
+    pub fn counted(&self) -> Counted {
+        match self.counted.load(Ordering::SeqCst) {
+            0 => Counted::Lines,
+            1 => Counted::Added,
+            _ => Counted::Entries,
         }
     }
 
@@ -104,7 +104,7 @@ impl Counts {
 
     /// Counts a board whose search begins, unless answers are written in the order of the lines.
     pub fn search(&self) {
-        if self.stage() != Stage::Lines {
+        if self.counted() != Counted::Lines {
             let _ = self.begun.fetch_add(1, Ordering::SeqCst);
         }
     }
@@ -125,12 +125,12 @@ impl Counts {
             return None;
         }
         let all = self.all.load(Ordering::SeqCst).max(1);
-        match self.stage() {
-            Stage::Lines | Stage::Added => {
+        match self.counted() {
+            Counted::Lines | Counted::Added => {
                 let next = self.done().saturating_add(1);
                 Some(Reached::Line(next.max(self.begun()).min(all), all))
             }
-            Stage::Entries => {
+            Counted::Entries => {
                 let next = self.done().max(1);
                 Some(Reached::Entry(next.max(self.begun()).min(all), all))
             }
@@ -138,11 +138,11 @@ impl Counts {
     }
 }
 
-// The number of the stage.
-fn number_of(stage: Stage) -> u64 {
-    match stage {
-        Stage::Lines => 0,
-        Stage::Added => 1,
-        Stage::Entries => 2,
+// The number of the counted.
+fn number_of(counted: Counted) -> u64 {
+    match counted {
+        Counted::Lines => 0,
+        Counted::Added => 1,
+        Counted::Entries => 2,
     }
 }

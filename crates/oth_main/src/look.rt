@@ -25,7 +25,7 @@ pub struct Awaited {
 
 /// What a run is at.
 #[derive(Clone, Copy, Drop)]
-pub(crate) struct Look {
+pub(crate) struct Snapshot {
     pub reached: Reached,
     pub awaited: Option<Awaited>,
 }
@@ -77,8 +77,8 @@ impl Times {
     }
 
     /// What is shown of what the run is at, if it has been at work for `PATIENCE` or more.
-    pub fn shown<C: Clock>(&mut self, clock: &C, look: Option<Look>) -> Option<Shown> {
-        let Some(Look { reached, awaited }) = look else {
+    pub fn shown<C: Clock>(&mut self, clock: &C, snapshot: Option<Snapshot>) -> Option<Shown> {
+        let Some(Snapshot { reached, awaited }) = snapshot else {
             self.work = Since::new();
             return None;
         };

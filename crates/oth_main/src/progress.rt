@@ -1,7 +1,7 @@
 //! What a run is at, as its gate hears it, for who sits at a terminal.
 
-use crate::counts::{Counts, Reached, Stage};
-use crate::look::{Awaited, Look};
+use crate::counts::{Counted, Counts, Reached};
+use crate::look::{Awaited, Snapshot};
 use crate::under_search::UnderSearch;
 use oth_pool::Gate;
 use oth_rules::{Board, Square};
@@ -161,7 +161,7 @@ impl Gate for Progress {
         if !self.is_shown {
             return;
         }
-        if self.counts.stage() == Stage::Entries {
+        if self.counts.counted() == Counted::Entries {
             self.counts.advance();
         }
         if let Some(mut state) = self.heard() {
@@ -187,18 +187,18 @@ impl Gate for Progress {
 impl Progress {
     /// Begins to go through the entries of a book.
     pub(crate) fn begin_entries(&self, count: usize) {
-        self.counts.begin(Stage::Entries, count as u64);
+        self.counts.begin(Counted::Entries, count as u64);
         self.counts.work();
     }
 
     /// Begins to go through lines of input, none of which was read, whose boards are added to a book or not.
     pub(crate) fn begin_lines(&self, are_added: bool) {
-        let stage = if are_added {
-            Stage::Added
+        let counted = if are_added {
+            Counted::Added
         } else {
-            Stage::Lines
+            Counted::Lines
         };
-        self.counts.begin(stage, 0);
+        self.counts.begin(counted, 0);
     }
 
     /// Counts a line as answered.
@@ -250,9 +250,9 @@ impl Progress {
     }
 
     /// What is to be shown, if the run is at work.
-    pub(crate) fn look<R: Wait>(&self, rt: &R) -> Option<Look> {
+    pub(crate) fn look<R: Wait>(&self, rt: &R) -> Option<Snapshot> {
         let reached = self.reached()?;
         let awaited = self.state.lock(rt).awaited(&self.counts);
-        Some(Look { reached, awaited })
+        Some(Snapshot { reached, awaited })
     }
 }

@@ -229,9 +229,9 @@ struct InWords<'a> {
 
 impl fmt::Display for InWords<'_> {
     fn fmt<W: fmt::Write>(&self, f: &mut fmt::Formatter<W>) -> fmt::Result {
-        let file = Name(self.scene.file);
+        let file = FileName(self.scene.file);
         match &self.reason {
-            Reason::File(error) => write!(f, "{file}: {}", Why(error)),
+            Reason::File(error) => write!(f, "{file}: {}", ErrorWords(error)),
             Reason::Book(refusal) => {
                 let words = words_of(refusal);
                 match place_of(refusal) {
@@ -255,10 +255,14 @@ impl Scene<'_> {
     fn fmt_run<W: fmt::Write>(&self, fault: RunFault, f: &mut fmt::Formatter<W>) -> fmt::Result {
         match (fault, self.input, self.output) {
             (RunFault::Read, Some(error), _) => {
-                let input = Name(self.input_name);
-                write!(f, "{input}: {}", Why(error))
+                let input = FileName(self.input_name);
+                write!(f, "{input}: {}", ErrorWords(error))
             }
-            (RunFault::Write, _, Some(error)) => write!(f, "standard output: {}", Why(error)),
+            (RunFault::Write, _, Some(error)) => write!(
+                f,
+                "standard output: {}",
+                ErrorWords(error)
+            ),
             _ => f.write_str(words_of_run(fault)),
         }
     }
@@ -272,18 +276,18 @@ struct NotAsked<'a> {
 
 impl fmt::Display for NotAsked<'_> {
     fn fmt<W: fmt::Write>(&self, f: &mut fmt::Formatter<W>) -> fmt::Result {
-        let file = Name(self.file);
+        let file = FileName(self.file);
         write!(f, "{file}: by the other scoring, so it is not asked")
     }
 }
 
 // The error of a file or a device in words: those of the system where there are none of this program's.
 #[derive(Drop)]
-struct Why<'a>(&'a Error);
+struct ErrorWords<'a>(&'a Error);
 
-impl fmt::Display for Why<'_> {
+impl fmt::Display for ErrorWords<'_> {
     fn fmt<W: fmt::Write>(&self, f: &mut fmt::Formatter<W>) -> fmt::Result {
-        let Why(error) = *self;
+        let ErrorWords(error) = *self;
         match error.kind() {
             ErrorKind::NotFound => f.write_str("no such file"),
             ErrorKind::PermissionDenied => f.write_str("permission denied"),
@@ -298,11 +302,11 @@ impl fmt::Display for Why<'_> {
 
 // The name of a file, with `?` for each control character, as `ls` writes it to a terminal.
 #[derive(Drop)]
-struct Name<'a>(&'a str);
+struct FileName<'a>(&'a str);
 
-impl fmt::Display for Name<'_> {
+impl fmt::Display for FileName<'_> {
     fn fmt<W: fmt::Write>(&self, f: &mut fmt::Formatter<W>) -> fmt::Result {
-        let Name(name) = *self;
+        let FileName(name) = *self;
         for character in name.chars() {
             f.write_char(if character.is_control() {
                 '?'

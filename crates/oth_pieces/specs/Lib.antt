@@ -7,4 +7,4 @@ pub mod Dealing
 pub mod Hands
 pub mod Settling
 pub mod Drawn
-pub mod Turns
+pub mod DealOrder

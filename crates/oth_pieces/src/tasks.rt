@@ -2,7 +2,7 @@
 //! Chase and Lev (Dynamic circular work-stealing deque, 2005), and takes from the others where its own is empty.
 //!
 //! Number `j` lies in deque `j` modulo the hands, once, pushed in the order of the ranks that the caller gives
-//! (`Tasks::by_rank`; the order is a permutation by its type, `Turns`). A hand pops from its own deque and steals
+//! (`Tasks::by_rank`; the order is a permutation by its type, `DealOrder`). A hand pops from its own deque and steals
 //! from the others, at most 64 tries for each deque in a round. Invariant of a deque: each pushed number is either
 //! still in it, or in the list of what exactly one pass took.
 ghost use Rattle.std.specs.Prelude.{◌≡◌, ◌<◌, ◌≤◌, true, false, IfNone, IfOk, IfSome, [], ◌∷◌, ◌++◌, MatchOption, map};
@@ -14,27 +14,27 @@ ghost use Rattle.oth_pieces.specs.Hands.{number_of, has_ended, room_of, count_of
 ghost use Rattle.oth_pieces.specs.Drawn.{lists_of, AreOnce};
 ghost use Rattle.oth_pieces.specs.declared.frontier.TheConstants.{MOST_ITEMS};
 
+mod balance;
 mod closing;
+mod deal_order;
 mod dealing;
+mod ranked;
 mod rule;
-mod settle;
 mod share;
 mod state;
-mod turn;
-mod turns;
 
 use crate::frontier::Frontier;
+use balance::balance;
 use closing::{left_of, parts_of};
 use crossbeam_deque::Steal;
+use deal_order::DealOrder;
 use dealing::dealt;
 use rule::Takes;
-use settle::settle;
 pub use share::Share;
 pub use state::{Drawn, Hand, Tasks};
 use state::{Parts, Thief, Token};
 use std::alloc::{AllocError, Global};
 use thiserror::Error;
-use turns::Turns;
 
 // How often a steal that must be tried again is tried.
 const STEAL_TRIES: u32 = 64;
@@ -86,7 +86,7 @@ impl Tasks {
         ensures room { IfOk result (λ made. HaveRoom made.1.items) }
         ensures count { IfOk result (λ made. count_of made.0 ≡ length frontier.now) }
     {
-        let turns = Turns::by_rank(frontier.len(), ranks);
+        let turns = DealOrder::by_rank(frontier.len(), ranks);
         let made = dealt(alloc, &turns, hands as usize)?;
         Ok(made)
     }
@@ -110,7 +110,7 @@ impl Tasks {
             mut piles,
             lists,
         } = parts_of(hands);
-        settle(owners, piles.as_mut_slice());
+        balance(owners, piles.as_mut_slice());
         let left = left_of(self.count, lists.as_slice());
         Drawn { lists, left }
     }

@@ -1,4 +1,4 @@
--- What a worker's job keeps.
+-- What a worker's duty keeps.
 use Rattle.std.proofs.Common.{◌≡◌, Bool, true, false, cond, ℕ, ◌+◌, ◌<◌, ◌≤◌, length, get_or, List, [], ◌∷◌, ◌++◌, map, sym, refl, ap, ◌∙◌, subst, arith, Vec}
 use Rattle.std.proofs.lemmas.List.{map-append}
 use Rattle.std.proofs.lemmas.List.Elements.{All-push, All-nil}
@@ -9,7 +9,7 @@ use Rattle.oth_rules.specs.declared.scoring.Scoring.{Scoring}
 use Rattle.oth_pieces.specs.declared.frontier.item.Item.{Item}
 use Rattle.oth_pieces.specs.declared.reply.Reply.{Reply}
 use Rattle.oth_pool.specs.declared.work.Work.{Work}
-use Rattle.oth_pool.specs.declared.work.Job.{Job}
+use Rattle.oth_pool.specs.declared.work.Duty.{Duty}
 use Rattle.oth_pieces.specs.declared.tasks.state.Tasks.{Tasks}
 use Rattle.oth_pieces.specs.declared.tasks.state.Hand.{Hand}
 use Rattle.oth_pieces.specs.Hands.{IsHandOf, AreAllHands, list_of, number_of}
@@ -102,38 +102,38 @@ pub All-longer : {X : Type 0} (P : X → Type 0) (xs ys : List X) (x : X) → ys
 All-longer P xs ys x e all one = subst (All P) (sym e) (All-push P xs x all one)
 
 module _ {C G : Type 0} (items : List Item) (scoring : Scoring) (tasks : Tasks) where
-  pub jobs_can : (jobs : List (Job C G)) → AreAllHands tasks (map (λ (j : Job C G). j.work.hand) jobs) → All (λ (j : Job C G). Holds items scoring j.work) jobs → (i : ℕ) (d : Job C G)
-      → i < length jobs → CanWork items scoring tasks (get_or jobs i d).work
-  jobs_can jobs all each i d below = record {
+  pub duties_can : (duties : List (Duty C G)) → AreAllHands tasks (map (λ (j : Duty C G). j.work.hand) duties) → All (λ (j : Duty C G). Holds items scoring j.work) duties → (i : ℕ) (d : Duty C G)
+      → i < length duties → CanWork items scoring tasks (get_or duties i d).work
+  duties_can duties all each i d below = record {
     hand =
         let P : Hand → Type 0 = IsHandOf tasks in
-        let long = length_map (λ (j : Job C G). j.work.hand) jobs in
-        subst P (get_or_map (λ (j : Job C G). j.work.hand) jobs i d d.work.hand below) (all.each i d.work.hand (omega arith)).0;
+        let long = length_map (λ (j : Duty C G). j.work.hand) duties in
+        subst P (get_or_map (λ (j : Duty C G). j.work.hand) duties i d d.work.hand below) (all.each i d.work.hand (omega arith)).0;
     holds = each i d below;
   }
 
-  pub jobs_did : (old new : List (Job C G)) → AreAllHands tasks (map (λ (j : Job C G). j.work.hand) old) → length new ≡ length old
-      → ((i : ℕ) (d : Job C G) → i < length old → CanWork items scoring tasks (get_or new i d).work)
-      → ((i : ℕ) (d : Job C G) → i < length old → number_of (get_or new i d).work.hand ≡ number_of (get_or old i d).work.hand)
-      → AreAllHands tasks (map (λ (j : Job C G). j.work.hand) new)
-  jobs_did [] new all long each same = let z = all.some in absurd (omega arith)
-  jobs_did (o ∷ os) new all long each same =
-      let was : List Hand = map (λ (j : Job C G). j.work.hand) (o ∷ os) in
-      let now : List Hand = map (λ (j : Job C G). j.work.hand) new in
-      let a : length was ≡ length (o ∷ os) = length_map (λ (j : Job C G). j.work.hand) (o ∷ os) in
-      let b : length now ≡ length new = length_map (λ (j : Job C G). j.work.hand) new in
+  pub duties_did : (old new : List (Duty C G)) → AreAllHands tasks (map (λ (j : Duty C G). j.work.hand) old) → length new ≡ length old
+      → ((i : ℕ) (d : Duty C G) → i < length old → CanWork items scoring tasks (get_or new i d).work)
+      → ((i : ℕ) (d : Duty C G) → i < length old → number_of (get_or new i d).work.hand ≡ number_of (get_or old i d).work.hand)
+      → AreAllHands tasks (map (λ (j : Duty C G). j.work.hand) new)
+  duties_did [] new all long each same = let z = all.some in absurd (omega arith)
+  duties_did (o ∷ os) new all long each same =
+      let was : List Hand = map (λ (j : Duty C G). j.work.hand) (o ∷ os) in
+      let now : List Hand = map (λ (j : Duty C G). j.work.hand) new in
+      let a : length was ≡ length (o ∷ os) = length_map (λ (j : Duty C G). j.work.hand) (o ∷ os) in
+      let b : length now ≡ length new = length_map (λ (j : Duty C G). j.work.hand) new in
       each_drew tasks was now all (b ∙ (long ∙ sym a))
-      (λ i h below. let P : Hand → Type 0 = IsHandOf tasks in subst P (sym (get_or_map (λ (j : Job C G). j.work.hand) new i o h (omega arith))) (each i o (omega arith)).hand)
+      (λ i h below. let P : Hand → Type 0 = IsHandOf tasks in subst P (sym (get_or_map (λ (j : Duty C G). j.work.hand) new i o h (omega arith))) (each i o (omega arith)).hand)
       (λ i h below.
-      ap number_of (get_or_map (λ (j : Job C G). j.work.hand) new i o h (omega arith))
-      ∙ (same i o (omega arith) ∙ sym (ap number_of (get_or_map (λ (j : Job C G). j.work.hand) (o ∷ os) i o h (omega arith)))))
+      ap number_of (get_or_map (λ (j : Duty C G). j.work.hand) new i o h (omega arith))
+      ∙ (same i o (omega arith) ∙ sym (ap number_of (get_or_map (λ (j : Duty C G). j.work.hand) (o ∷ os) i o h (omega arith)))))
 
-pub twice : {C G : Type 0} (js : List (Job C G)) → map (λ (j : Job C G). j.work.hand) js ≡ map hand_of (map (λ (j : Job C G). j.work) js)
+pub twice : {C G : Type 0} (js : List (Duty C G)) → map (λ (j : Duty C G). j.work.hand) js ≡ map hand_of (map (λ (j : Duty C G). j.work) js)
 twice [] = refl
 twice (j ∷ js) = ap (λ l. j.work.hand ∷ l) (twice js)
 
-pub times_more : {C G : Type 0} (x : ℕ) (jobs : List (Job C G)) (j : Job C G)
-    → times_by x (map (λ (k : Job C G). k.work) (jobs ++ j ∷ [])) ≡ times_by x (map (λ (k : Job C G). k.work) jobs) + times x (list_of j.work.hand)
-times_more {C} {G} x jobs j =
-    let e : map (λ (k : Job C G). k.work) (jobs ++ j ∷ []) ≡ map (λ (k : Job C G). k.work) jobs ++ j.work ∷ [] = map-append (λ (k : Job C G). k.work) jobs (j ∷ []) in
-    ap (times_by x) e ∙ sum_by_push (λ (w : Work). times x (list_of (hand_of w))) (map (λ (k : Job C G). k.work) jobs) j.work
+pub times_more : {C G : Type 0} (x : ℕ) (duties : List (Duty C G)) (j : Duty C G)
+    → times_by x (map (λ (k : Duty C G). k.work) (duties ++ j ∷ [])) ≡ times_by x (map (λ (k : Duty C G). k.work) duties) + times x (list_of j.work.hand)
+times_more {C} {G} x duties j =
+    let e : map (λ (k : Duty C G). k.work) (duties ++ j ∷ []) ≡ map (λ (k : Duty C G). k.work) duties ++ j.work ∷ [] = map-append (λ (k : Duty C G). k.work) duties (j ∷ []) in
+    ap (times_by x) e ∙ sum_by_push (λ (w : Work). times x (list_of (hand_of w))) (map (λ (k : Duty C G). k.work) duties) j.work

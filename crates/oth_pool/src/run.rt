@@ -7,7 +7,9 @@ ghost use Rattle.oth_walk.specs.Lending.{LendsFloor, LendsTable};
 ghost use Rattle.oth_pool.specs.Working.{HasLists, AreGathered};
 
 use crate::draw_order::ranks;
-use crate::work::{found_by_workers, hands_in, jobs_of, replies_of, run_jobs, told_by_all};
+use crate::work::{
+    collect_replies, duties_of, found_by_workers, hands_in, run_duties, told_by_all,
+};
 use oth_pieces::floor::Root;
 use oth_pieces::{Drawn, Floor, FloorSeat, Frontier, Reply, Tasks};
 use oth_search::{RootMove, RootMoves, Solved};
@@ -118,11 +120,11 @@ pub(crate) fn run<'w, 't, R: Threads + Sync, G: Gate>(
     let ranks = ranks(search);
     let Ok((tasks, hands)) = Tasks::by_rank(alloc, search.frontier, ranks.as_slice(), means.workers)
     else {
-        return nothing(alloc, search);
+        return nothing_drawn(alloc, search);
     };
     let count = hands.len();
     let items = search.frontier.len() as usize;
-    let (Some(workers), Ok(jobs), Ok(room), Ok(replies), Ok(told)) = (
+    let (Some(workers), Ok(duties), Ok(room), Ok(replies), Ok(told)) = (
         workers_of(means, search, links, seat, table),
         Vec::with_capacity(alloc, count),
         Vec::with_capacity(alloc, count),
@@ -133,12 +135,12 @@ pub(crate) fn run<'w, 't, R: Threads + Sync, G: Gate>(
         let replies = Vec::new(alloc);
         return (Gathered { drawn, replies }, Vec::new(alloc));
     };
-    let jobs = jobs_of(alloc, search, hands, workers, jobs);
-    let jobs = run_jobs(means, search, &tasks, jobs);
-    let replies = replies_of(jobs.as_slice(), replies);
-    let replies = told_by_all(jobs.as_slice(), replies.as_slice(), told);
-    let found = found_by_workers(alloc, jobs.as_slice());
-    let hands = hands_in(room, jobs);
+    let duties = duties_of(alloc, search, hands, workers, duties);
+    let duties = run_duties(means, search, &tasks, duties);
+    let replies = collect_replies(duties.as_slice(), replies);
+    let replies = told_by_all(duties.as_slice(), replies.as_slice(), told);
+    let found = found_by_workers(alloc, duties.as_slice());
+    let hands = hands_in(room, duties);
     let drawn = tasks.close(hands);
     (Gathered { drawn, replies }, found)
 }
@@ -166,7 +168,7 @@ pub(crate) fn bounds_for<R, G>(means: &Means<R, G>, root: &Solved) -> Option<Mov
 
 // What is gathered where nobody drew anything: all items are left.
 #[inline(never)]
-fn nothing(alloc: Global, search: &Search) -> (Gathered, Vec<RootMove>)
+fn nothing_drawn(alloc: Global, search: &Search) -> (Gathered, Vec<RootMove>)
     ensures gathered { AreGathered search.now.frontier.now search.now.scoring result.0 }
     ensures lists { lists_of result.0.drawn ≡ [] }
 {

@@ -59,13 +59,13 @@ pub fn scores<R: Threads + Sync, G: Gate>(
         gate,
         workers,
     };
-    let replies = replies_of(&means, board, book, scoring, cells);
+    let replies = valued_children(&means, board, book, scoring, cells);
     let answer = answer_by(*board, replies.as_slice(), &mut NoCells, scoring);
     Ok(Scores::of(answer, replies.as_slice(), &mut NoCells))
 }
 
 // Returns the children of `board` with their values, found over a table unless `cells` is 0 or memory is refused.
-fn replies_of<R: Threads + Sync, G: Gate>(
+fn valued_children<R: Threads + Sync, G: Gate>(
     means: &Means<R, G>,
     board: &Board,
     book: Option<&Book>,
@@ -85,8 +85,8 @@ fn replies_of<R: Threads + Sync, G: Gate>(
     }
 }
 
-// As `replies_of`, over the table at hand, if there is one: each worker values children by itself where there are at
-// least as many children as workers, else all workers value one child after another.
+// As `valued_children`, over the table at hand, if there is one: each worker values children by itself where there are
+// at least as many children as workers, else all workers value one child after another.
 fn replies_over<'t, R: Threads + Sync, G: Gate>(
     means: &Means<R, G>,
     board: &Board,

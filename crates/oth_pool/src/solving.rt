@@ -235,7 +235,7 @@ fn answer_together<'t, R: Threads + Sync, G: Gate>(
     for root_move in found.as_slice() {
         worker.update(root_move.square, &root_move.child);
     }
-    let replies = replies_of(alloc, &search, &gathered, &mut worker);
+    let replies = found_replies(alloc, &search, &gathered, &mut worker);
     take_in_items(&search, replies.as_slice(), &mut worker);
     moves.narrow_root(&worker.root());
     let (mut cells, known) = worker.into_parts();
@@ -267,7 +267,7 @@ fn raised_floor(alloc: Global, by_book: &Solved) -> Option<(Floor, FloorSeat)>
 }
 
 // Returns what the workers found of the items, and the caller of those that none took, as far as there is room for it.
-fn replies_of<G: Gate, C: Cells>(
+fn found_replies<G: Gate, C: Cells>(
     alloc: Global,
     search: &Search,
     gathered: &Gathered,

@@ -1,4 +1,4 @@
-//! What one worker of a run has of its own, and the jobs of all of them.
+//! What one worker of a run has of its own, and the duties of all of them.
 ghost use Rattle.std.specs.Prelude.{◌≡◌, ◌≤◌, ℕ, List, map, vec_len, vec_capacity, All, []};
 ghost use Rattle.oth_rules.specs.declared.scoring.Scoring.{Scoring};
 ghost use Rattle.oth_pieces.specs.declared.frontier.item.Item.{Item};
@@ -23,21 +23,21 @@ pub struct Work {
 
 /// A worker's work, and what it searches with.
 #[derive(Drop)]
-pub(crate) struct Job<'w, C, G> {
+pub(crate) struct Duty<'w, C, G> {
     pub work: Work,
     pub worker: Worker<'w, C, G>,
 }
 
-/// Makes a job of each hand and a worker. A job for whose replies there is no memory gets no room for them.
-pub(crate) fn jobs_of<'w, G, C: Drop>(
+/// Makes a duty of each hand and a worker. A duty for whose replies there is no memory gets no room for them.
+pub(crate) fn duties_of<'w, G, C: Drop>(
     alloc: Global,
     search: &Search,
     hands: Vec<Hand>,
     mut workers: Vec<Worker<'w, C, G>>,
-    mut jobs: Vec<Job<'w, C, G>>,
-) -> Vec<Job<'w, C, G>>
+    mut duties: Vec<Duty<'w, C, G>>,
+) -> Vec<Duty<'w, C, G>>
     requires many { vec_len workers ≡ vec_len hands }
-    requires room { (vec_len jobs ≡ 0) × (vec_len hands ≤ vec_capacity jobs) }
+    requires room { (vec_len duties ≡ 0) × (vec_len hands ≤ vec_capacity duties) }
     ensures hands { map (λ j. j.work.hand) result.items ≡ hands.items }
     ensures each { All (λ j. Holds search.now.frontier.now search.now.scoring j.work) result.items }
     ensures many { vec_len result ≡ vec_len hands }
@@ -48,26 +48,26 @@ pub(crate) fn jobs_of<'w, G, C: Drop>(
         };
         let replies = room_for(alloc, search.frontier.len());
         let work = Work { hand, replies };
-        jobs.push_reserved(Job { work, worker });
+        duties.push_reserved(Duty { work, worker });
     }
-    jobs
+    duties
 }
 
-/// Returns the jobs after each has searched until nothing was left.
-pub(crate) fn run_jobs<'w, R: Threads + Sync, G: Gate, C: Cells + Send + Drop>(
+/// Returns the duties after each has searched until nothing was left.
+pub(crate) fn run_duties<'w, R: Threads + Sync, G: Gate, C: Cells + Send + Drop>(
     means: &Means<R, G>,
     search: &Search,
     tasks: &Tasks,
-    mut jobs: Vec<Job<'w, C, G>>,
-) -> Vec<Job<'w, C, G>>
-    requires hands { AreAllHands tasks.now (map (λ j. j.work.hand) jobs.items) }
-    requires each { All (λ j. Holds search.now.frontier.now search.now.scoring j.work) jobs.items }
+    mut duties: Vec<Duty<'w, C, G>>,
+) -> Vec<Duty<'w, C, G>>
+    requires hands { AreAllHands tasks.now (map (λ j. j.work.hand) duties.items) }
+    requires each { All (λ j. Holds search.now.frontier.now search.now.scoring j.work) duties.items }
     ensures hands { AreAllHands tasks.now (map (λ j. j.work.hand) result.items) }
     ensures each { All (λ j. Holds search.now.frontier.now search.now.scoring j.work) result.items }
-    ensures many { vec_len result ≡ vec_len jobs.entry }
+    ensures many { vec_len result ≡ vec_len duties.entry }
 {
-    work_all(means.rt, search, tasks, jobs.as_mut_slice());
-    jobs
+    work_all(means.rt, search, tasks, duties.as_mut_slice());
+    duties
 }
 
 /// Returns an empty list with room for `count` elements, or without room where there is no memory.
@@ -80,17 +80,17 @@ pub(crate) fn room_for<T: Drop>(alloc: Global, count: u32) -> Vec<T>
     }
 }
 
-/// Returns all replies of the jobs, as far as there is room for them.
-pub(crate) fn replies_of<'w, C, G>(jobs: &[Job<'w, C, G>], room: Vec<Reply>) -> Vec<Reply>
+/// Returns all replies of the duties, as far as there is room for them.
+pub(crate) fn collect_replies<'w, C, G>(duties: &[Duty<'w, C, G>], room: Vec<Reply>) -> Vec<Reply>
     requires { room.items ≡ [] }
-    ensures replies { (items : List Item) (scoring : Scoring) → All (λ j. Holds items scoring j.work) jobs.now
+    ensures replies { (items : List Item) (scoring : Scoring) → All (λ j. Holds items scoring j.work) duties.now
         → All (IsReplyOf items scoring) result.items }
-    ensures once { (items : List Item) (scoring : Scoring) → All (λ j. Holds items scoring j.work) jobs.now
-        → (x : ℕ) → times x (numbers_of result.items) ≤ times_by x (map (λ j. j.work) jobs.now) }
+    ensures once { (items : List Item) (scoring : Scoring) → All (λ j. Holds items scoring j.work) duties.now
+        → (x : ℕ) → times x (numbers_of result.items) ≤ times_by x (map (λ j. j.work) duties.now) }
 {
     let mut replies = room;
-    for job in jobs {
-        let _ = replies.extend_from_slice(job.work.replies.as_slice());
+    for duty in duties {
+        let _ = replies.extend_from_slice(duty.work.replies.as_slice());
     }
     replies
 }
@@ -98,7 +98,7 @@ pub(crate) fn replies_of<'w, C, G>(jobs: &[Job<'w, C, G>], room: Vec<Reply>) -> 
 /// Returns these replies with what any of the workers found of their items, as far as there is room for them: the
 /// worker that drew an item need not be the one that searched it.
 pub(crate) fn told_by_all<'w, G: Gate, C: Cells>(
-    jobs: &[Job<'w, C, G>],
+    duties: &[Duty<'w, C, G>],
     replies: &[Reply],
     room: Vec<Reply>,
 ) -> Vec<Reply>
@@ -109,20 +109,20 @@ pub(crate) fn told_by_all<'w, G: Gate, C: Cells>(
 {
     let mut told = room;
     for reply in replies {
-        let _ = told.push(told_of(jobs, reply));
+        let _ = told.push(told_of(duties, reply));
     }
     told
 }
 
 // Returns the reply with what any of the workers found of its item.
-fn told_of<'w, G: Gate, C: Cells>(jobs: &[Job<'w, C, G>], reply: &Reply) -> Reply
+fn told_of<'w, G: Gate, C: Cells>(duties: &[Duty<'w, C, G>], reply: &Reply) -> Reply
     ensures number { result.number ≡ reply.now.number }
     ensures board { result.solved.board ≡ reply.now.solved.board }
     ensures scoring { result.solved.scoring ≡ reply.now.solved.scoring }
 {
     let mut solved = reply.solved;
-    for job in jobs {
-        solved = job.worker.known_of_item(reply.number, &solved);
+    for duty in duties {
+        solved = duty.worker.known_of_item(reply.number, &solved);
     }
     Reply {
         number: reply.number,
@@ -131,21 +131,27 @@ fn told_of<'w, G: Gate, C: Cells>(jobs: &[Job<'w, C, G>], reply: &Reply) -> Repl
 }
 
 /// Returns what the workers found of the root's moves, as far as there is memory.
-pub(crate) fn found_by_workers<'w, C, G>(alloc: Global, jobs: &[Job<'w, C, G>]) -> Vec<RootMove> {
+pub(crate) fn found_by_workers<'w, C, G>(
+    alloc: Global,
+    duties: &[Duty<'w, C, G>],
+) -> Vec<RootMove> {
     let mut found = Vec::new(alloc);
-    for job in jobs {
-        let _ = found.extend_from_slice(job.worker.moves.as_slice());
+    for duty in duties {
+        let _ = found.extend_from_slice(duty.worker.moves.as_slice());
     }
     found
 }
 
-/// Moves the hands of the jobs into `room`.
-pub(crate) fn hands_in<'w, G, C: Drop>(mut room: Vec<Hand>, jobs: Vec<Job<'w, C, G>>) -> Vec<Hand>
-    requires { (vec_len room ≡ 0) × (vec_len jobs ≤ vec_capacity room) }
-    ensures { result.items ≡ map (λ j. j.work.hand) jobs.entry.items }
+/// Moves the hands of the duties into `room`.
+pub(crate) fn hands_in<'w, G, C: Drop>(
+    mut room: Vec<Hand>,
+    duties: Vec<Duty<'w, C, G>>,
+) -> Vec<Hand>
+    requires { (vec_len room ≡ 0) × (vec_len duties ≤ vec_capacity room) }
+    ensures { result.items ≡ map (λ j. j.work.hand) duties.entry.items }
 {
-    for job in jobs {
-        let Job { work, worker: _ } = job;
+    for duty in duties {
+        let Duty { work, worker: _ } = duty;
         let Work { hand, replies: _ } = work;
         room.push_reserved(hand);
     }

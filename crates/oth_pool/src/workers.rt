@@ -4,36 +4,36 @@ ghost use Rattle.oth_pieces.specs.Hands.{number_of};
 ghost use Rattle.oth_pool.specs.Working.{CanWork};
 
 use crate::at_once::for_each_at_once;
-use crate::work::{Job, Work};
+use crate::work::{Duty, Work};
 use oth_pieces::{Reply, Tasks};
 use oth_search::Cells;
 use oth_walk::{Gate, Search, Worker, search_item, settle_all};
 use std::thread::Threads;
 
-/// Lets each job search items until no number is left and no move of the root is open, in a thread of its own where one
-/// can be made.
+/// Lets each duty search items until no number is left and no move of the root is open, in a thread of its own where
+/// one can be made.
 pub(crate) fn work_all<'w, R: Threads + Sync, G: Gate, C: Cells + Send>(
     rt: &R,
     search: &Search,
     tasks: &Tasks,
-    jobs: &mut [Job<'w, C, G>],
+    duties: &mut [Duty<'w, C, G>],
 )
-    requires { (i : ℕ) (d : Job C G) → i < length jobs.old
-        → CanWork search.now.frontier.now search.now.scoring tasks.now (slice_index_or jobs.old i d).work }
-    ensures works { (i : ℕ) (d : Job C G) → i < length jobs.old
-        → CanWork search.now.frontier.now search.now.scoring tasks.now (slice_index_or jobs.new i d).work }
-    ensures numbers { (i : ℕ) (d : Job C G) → i < length jobs.old
-        → number_of (slice_index_or jobs.new i d).work.hand ≡ number_of (slice_index_or jobs.old i d).work.hand }
+    requires { (i : ℕ) (d : Duty C G) → i < length duties.old
+        → CanWork search.now.frontier.now search.now.scoring tasks.now (slice_index_or duties.old i d).work }
+    ensures works { (i : ℕ) (d : Duty C G) → i < length duties.old
+        → CanWork search.now.frontier.now search.now.scoring tasks.now (slice_index_or duties.new i d).work }
+    ensures numbers { (i : ℕ) (d : Duty C G) → i < length duties.old
+        → number_of (slice_index_or duties.new i d).work.hand ≡ number_of (slice_index_or duties.old i d).work.hand }
 {
     for_each_at_once(
         rt,
-        &|job: &mut Job<C, G>|
-            requires { CanWork search.now.frontier.now search.now.scoring tasks.now job.old.work }
+        &|duty: &mut Duty<C, G>|
+            requires { CanWork search.now.frontier.now search.now.scoring tasks.now duty.old.work }
             ensures works { CanWork search.entry.now.frontier.now search.entry.now.scoring
-                tasks.entry.now job.new.work }
-            ensures number { number_of job.new.work.hand ≡ number_of job.old.work.hand }
-        { search_all(search, tasks, &mut job.work, &mut job.worker) },
-        jobs,
+                tasks.entry.now duty.new.work }
+            ensures number { number_of duty.new.work.hand ≡ number_of duty.old.work.hand }
+        { search_all(search, tasks, &mut duty.work, &mut duty.worker) },
+        duties,
     );
 }
 

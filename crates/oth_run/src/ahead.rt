@@ -24,7 +24,7 @@ pub struct Ahead {
 
 impl Ahead {
     /// No line was gathered.
-    pub fn nothing(alloc: Global) -> Self {
+    pub fn new(alloc: Global) -> Self {
         Ahead {
             answers: Vec::new(alloc),
             lines: 0,
@@ -32,7 +32,7 @@ impl Ahead {
     }
 
     /// The value and all best moves of a board, found before or now.
-    pub fn answer_of<T: Threads + Sync, G: Gate>(
+    pub fn find_answer<T: Threads + Sync, G: Gate>(
         &self,
         solver: &Solver<'_, T, G>,
         board: &Board,
@@ -72,7 +72,7 @@ impl Ahead {
         let Ok(mut boards) = Boards::new(solver.alloc) else {
             return;
         };
-        self.lines = gather(&mut boards, bytes);
+        self.lines = fill_with_lines(&mut boards, bytes);
         self.answers = solver.batch().answers(&boards);
     }
 }
@@ -88,7 +88,7 @@ pub(crate) fn asked_by(command: Command) -> Option<Asked> {
 
 /// Makes jobs of the boards of the whole lines in `bytes`, up to a batch. There are none where the command asks for no
 /// search, one worker is asked for or enough, or there is no memory.
-pub(crate) fn jobs_of<'b, T: Threads + Sync, G: Gate>(
+pub(crate) fn jobs_of_lines<'b, T: Threads + Sync, G: Gate>(
     batch: &'b Batch<'b, T, G>,
     command: Command,
     bytes: &[u8],
@@ -102,7 +102,7 @@ pub(crate) fn jobs_of<'b, T: Threads + Sync, G: Gate>(
     let Ok(mut boards) = Boards::new(batch.alloc) else {
         return Jobs::none(&*batch);
     };
-    gather(&mut boards, bytes);
+    fill_with_lines(&mut boards, bytes);
     match Jobs::of(&*batch, asked, boards.as_slice()) {
         Some(jobs) => jobs,
         None => Jobs::none(&*batch),
@@ -111,7 +111,7 @@ pub(crate) fn jobs_of<'b, T: Threads + Sync, G: Gate>(
 
 // Lets the boards of the whole lines in these bytes wait, up to a batch, and gives the number of these lines, each of
 // which has at least one byte.
-fn gather(boards: &mut Boards, bytes: &[u8]) -> usize {
+fn fill_with_lines(boards: &mut Boards, bytes: &[u8]) -> usize {
     let mut rest = bytes;
     for lines in 0..bytes.len() {
         if boards.is_full() {

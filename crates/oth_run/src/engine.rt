@@ -9,7 +9,7 @@ ghost use Rattle.oth_run.specs.Reply.{reply};
 ghost use Rattle.oth_run.specs.Report.{last_line, last_report, next_number, with_end};
 ghost use Rattle.oth_run.specs.Run.{FailsBy};
 
-use crate::ahead::jobs_of;
+use crate::ahead::jobs_of_lines;
 use crate::buffer::{long_buffer, longer};
 use crate::fault::RunFault;
 use crate::line::Line;
@@ -179,7 +179,7 @@ impl Engine {
         ensures fails { OnErr result (W.failed writer.new ≡ true) }
     {
         let batch = solver.batch();
-        let jobs = jobs_of(&batch, solver.settings.get().command, bytes);
+        let jobs = jobs_of_lines(&batch, solver.settings.get().command, bytes);
         self.take_beside(solver, &jobs, writer, bytes)?;
         self.waiting.write_to(writer)?;
         Ok(())

@@ -195,11 +195,11 @@ fn solve_reply<T: Wait + Threads + Sync, G: Gate>(
 {
     let position = match reader.read() {
         Ok(position) => position,
-        Err(fault) => return copied(fault_line(&fault).as_slice()),
+        Err(fault) => return as_reply(fault_line(&fault).as_slice()),
     };
     match solver.awaited_answer_of(jobs, &position.board) {
-        Ok(answer) => copied(report_line(&answer).as_slice()),
-        Err(many) => copied(fault_line(&LineFault::Empties(many.empties)).as_slice()),
+        Ok(answer) => as_reply(report_line(&answer).as_slice()),
+        Err(many) => as_reply(fault_line(&LineFault::Empties(many.empties)).as_slice()),
     }
 }
 
@@ -214,12 +214,12 @@ fn scores_reply<T: Wait + Threads + Sync, G: Gate>(
 {
     let position = match reader.read() {
         Ok(position) => position,
-        Err(fault) => return copied(fault_line(&fault).as_slice()),
+        Err(fault) => return as_reply(fault_line(&fault).as_slice()),
     };
     match solver.awaited_scores_line(jobs, &position.board) {
         Ok(line) => line,
         Err(TooManyEmpties { empties }) => {
-            copied(fault_line(&LineFault::Empties(empties)).as_slice())
+            as_reply(fault_line(&LineFault::Empties(empties)).as_slice())
         }
     }
 }
@@ -229,8 +229,8 @@ fn moves_reply(reader: &BoardReader) -> ArrayVec<u8, REPLY_LEN>
     ensures { (line : List ℕ) → KeepsLine reader.now line → result.items ≡ board_reply moves_line_of (reading line) }
 {
     match reader.read() {
-        Ok(position) => copied(moves_line(&position.board).as_slice()),
-        Err(fault) => copied(fault_line(&fault).as_slice()),
+        Ok(position) => as_reply(moves_line(&position.board).as_slice()),
+        Err(fault) => as_reply(fault_line(&fault).as_slice()),
     }
 }
 
@@ -240,8 +240,8 @@ fn transcript_reply(reader: &TranscriptReader) -> ArrayVec<u8, REPLY_LEN>
         → result.items ≡ transcript_reply (transcript_reading line) }
 {
     match reader.read() {
-        Ok(position) => copied(write_board(&position).as_slice()),
-        Err(fault) => copied(transcript_fault_line(&fault).as_slice()),
+        Ok(position) => as_reply(write_board(&position).as_slice()),
+        Err(fault) => as_reply(transcript_fault_line(&fault).as_slice()),
     }
 }
 
@@ -250,13 +250,13 @@ fn play_reply(reader: &GameReader) -> ArrayVec<u8, REPLY_LEN>
     ensures { (line : List ℕ) → KeepsGame reader.now line → result.items ≡ play_reply (game_reading line) }
 {
     match reader.read() {
-        Ok(reached) => copied(write_board(&reached).as_slice()),
-        Err(fault) => copied(game_fault_line(&fault).as_slice()),
+        Ok(reached) => as_reply(write_board(&reached).as_slice()),
+        Err(fault) => as_reply(game_fault_line(&fault).as_slice()),
     }
 }
 
 // The text as a reply.
-fn copied(text: &[u8]) -> ArrayVec<u8, REPLY_LEN>
+fn as_reply(text: &[u8]) -> ArrayVec<u8, REPLY_LEN>
     requires { length text.now ≤ 512 }
     ensures { result.items ≡ text.now }
 {

@@ -15,6 +15,6 @@ pub use book_and_workers::{NoAnswer, solve_by_book};
 pub use engine_cells::bounds_about;
 pub use game::board_after;
 pub use in_time::bounds_in_time;
-pub use own_sink::{Kept, kept_report};
+pub use own_sink::{KeptText, kept_report};
 pub use shared_table::solve_both;
 pub use solved_board::{Unsolved, best_moves};

@@ -9,13 +9,13 @@ use std::alloc::Global;
 
 /// The bytes that were written. Where there is no memory for more, it has failed.
 #[derive(Drop)]
-pub struct Kept {
+pub struct KeptText {
     pub text: Vec<u8>,
     pub failed: bool,
     pub flushed: bool,
 }
 
-impl Sink for Kept {
+impl Sink for KeptText {
     ghost contents = { λ s. Some s.text.items };
 
     ghost failed = { λ s. s.failed };
@@ -45,7 +45,7 @@ impl Sink for Kept {
 pub fn kept_report(alloc: Global, answer: &Answer) -> Result<Vec<u8>, Failed>
     ensures { IfOk result (λ v. v.items ≡ report_line_of answer.now.scoring answer.now.board) }
 {
-    let mut kept = Kept {
+    let mut kept = KeptText {
         text: Vec::new(alloc),
         failed: false,
         flushed: false,

@@ -74,27 +74,27 @@ fn zeros(alloc: Global, count: usize) -> Option<Vec<u64>> {
 
 // A worker's seat of the words.
 #[derive(Drop)]
-struct Place<'h> {
+struct HintWords<'h> {
     hints: &'h Hints,
     seat: Seat<u8, ()>,
     ghost sits: { seat.table_id ≡ hints.now },
 }
 
-impl<'h> Place<'h> {
+impl<'h> HintWords<'h> {
     // A further seat. It takes no memory.
-    fn of(hints: &'h Hints) -> Option<Place<'h>> {
+    fn of(hints: &'h Hints) -> Option<HintWords<'h>> {
         if hints.table.word_count() == 0 {
             return None;
         }
         let (_, seat) = hints.table.shared.load_new_seat::<Step>(0);
-        Some(Place { hints, seat })
+        Some(HintWords { hints, seat })
     }
 }
 
 /// A worker's access to the hints, or to none: then nobody has told anything, and what it tells is forgotten.
 #[derive(Drop)]
 pub struct HintSeat<'h> {
-    place: Option<Place<'h>>,
+    place: Option<HintWords<'h>>,
 }
 
 impl<'h> HintSeat<'h> {
@@ -102,7 +102,7 @@ impl<'h> HintSeat<'h> {
     pub fn of(hints: &'h Option<Hints>) -> HintSeat<'h> {
         HintSeat {
             place: match hints {
-                Some(hints) => Place::of(hints),
+                Some(hints) => HintWords::of(hints),
                 None => None,
             },
         }
@@ -148,13 +148,13 @@ impl<'h> HintSeat<'h> {
     }
 
     /// Whether the root's move needs no further search.
-    pub fn is_settled(&mut self, square: Square) -> bool {
+    pub fn seems_settled(&mut self, square: Square) -> bool {
         self.settled() & square.word() != 0
     }
 
     /// Tells that the root's move needs no further search. Tries again where another worker settles a move at the same
     /// time, at most once for each square.
-    pub fn settle(&mut self, square: Square) {
+    pub fn note_settled(&mut self, square: Square) {
         for _ in 0..64 {
             let settled = self.settled();
             if settled & square.word() != 0 {

@@ -4,7 +4,7 @@
 //! alone: the worker's own, the table's, or those that workers tell each other (`MoveBounds`).
 //!
 //! `Search` (`shared`) is what all workers have in common: the root, its scoring, its moves, its frontier, and the
-//! `Shape` of the search, which says who learns from whom (`Sharing`) and how small the shared nodes get. It is
+//! `SharedNodes` of the search, which says who learns from whom (`Sharing`) and how small the shared nodes get. It is
 //! passed beside `Worker` where a contract names it, not kept in it: a shared reference can't change, so no contract
 //! has to say that it didn't.
 #![tactic(auto)]
@@ -28,6 +28,6 @@ pub use drawn::{search_item, settle_all};
 pub use hints::{HintSeat, Hints};
 pub use move_bounds::{BoundsSeat, MoveBounds};
 pub use root_bound::RootBound;
-pub use shared::{Search, Seats, Shape, Sharing};
+pub use shared::{Search, Seats, SharedNodes, Sharing};
 pub use tuning::orders_for;
 pub use worker::Worker;

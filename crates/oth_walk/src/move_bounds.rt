@@ -14,7 +14,7 @@ use atomic_table::{Seat, Table};
 use oth_pieces::floor::Root;
 use oth_rules::Square;
 use oth_search::{Interval, Solved};
-use rule::{Look, Raise, TrueBounds};
+use rule::{Hear, Raise, TrueBounds};
 use std::alloc::Global;
 use std::marker::Model;
 
@@ -35,7 +35,7 @@ impl Model for MoveBounds {
     ghost use Rattle.std.specs.Prelude.{◌≡◌};
     ghost use Rattle.oth_pieces.specs.Watch.{Place};
 
-    ghost Value = { Place };
+    ghost Value = { BoundWords };
 
     ghost view = { λ b. record { id = b.table.shared.table_id; root = b.root } };
 
@@ -73,19 +73,19 @@ fn number_at(height: u64) -> i8
 
 // A worker's seat of the words.
 #[derive(Drop)]
-struct Place<'b> {
+struct BoundWords<'b> {
     bounds: &'b MoveBounds,
     seat: Seat<u8, Root>,
     ghost sits: { (seat.table_id ≡ bounds.now.id) × (seat.me.0 ≡ bounds.now.root) },
 }
 
-impl<'b> Place<'b> {
+impl<'b> BoundWords<'b> {
     // A further seat. It takes no memory.
-    fn of(bounds: &'b MoveBounds) -> Place<'b>
+    fn of(bounds: &'b MoveBounds) -> BoundWords<'b>
         ensures { result.bounds.now ≡ bounds.now }
     {
-        let (_, seat) = bounds.table.shared.load_new_seat::<Look>(0);
-        Place { bounds, seat }
+        let (_, seat) = bounds.table.shared.load_new_seat::<Hear>(0);
+        BoundWords { bounds, seat }
     }
 
     // The word at this place, less 64.
@@ -96,7 +96,7 @@ impl<'b> Place<'b> {
         ensures same { self.new.bounds ≡ self.old.bounds }
     {
         let bounds = self.bounds;
-        let height = bounds.table.shared.load::<Look>(&mut self.seat, word);
+        let height = bounds.table.shared.load::<Hear>(&mut self.seat, word);
         number_at(height)
     }
 
@@ -119,7 +119,7 @@ impl<'b> Place<'b> {
 /// A worker's access to the bounds, or to none: then nobody has told anything, and what it tells is forgotten.
 #[derive(Drop)]
 pub struct BoundsSeat<'b> {
-    place: Option<Place<'b>>,
+    place: Option<BoundWords<'b>>,
 }
 
 impl<'b> Model for BoundsSeat<'b> {
@@ -139,7 +139,7 @@ impl<'b> BoundsSeat<'b> {
     {
         BoundsSeat {
             place: match bounds {
-                Some(bounds) => Some(Place::of(bounds)),
+                Some(bounds) => Some(BoundWords::of(bounds)),
                 None => None,
             },
         }

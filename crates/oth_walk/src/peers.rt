@@ -20,7 +20,7 @@ use crate::announcing::{Announcer, Gate};
 use crate::hints::HintSeat;
 use crate::move_bounds::BoundsSeat;
 use crate::root_bound::RootBound;
-use crate::shared::{Search, Seats, Shape};
+use crate::shared::{Search, Seats, SharedNodes};
 use crate::tuning::{KEPT_ORDER_MIN_EMPTIES, SHARED_GUESS_MIN_EMPTIES, SMALL_NODE_MARGIN};
 use arrayvec::ArrayVec;
 use oth_pieces::Frontier;
@@ -36,7 +36,7 @@ use std::alloc::Global;
 /// announces to the gate, and the searches that it has under way itself.
 #[derive(Drop)]
 pub(crate) struct Peers<'w, G> {
-    shape: Shape,
+    shape: SharedNodes,
     pub root_bound: RootBound<'w>,
     pub hints: HintSeat<'w>,
     bounds: BoundsSeat<'w>,
@@ -145,7 +145,7 @@ impl<'w, G> Peers<'w, G> {
         if known.child.is_settled(-floor) {
             self.bounds.tell(known.square, &known.child);
             self.settled |= known.square.word();
-            self.hints.settle(known.square);
+            self.hints.note_settled(known.square);
         }
     }
 
@@ -153,7 +153,7 @@ impl<'w, G> Peers<'w, G> {
     /// hint says that they do.
     pub fn is_settled(&mut self, square: Square) -> bool {
         self.settled & square.word() != 0
-            || self.hints.is_settled(square) && self.is_settled_as_told(square)
+            || self.hints.seems_settled(square) && self.is_settled_as_told(square)
     }
 
     // Whether the bounds that were told of the board after the root's move settle it.
@@ -174,7 +174,7 @@ impl<'w, G> Peers<'w, G> {
         if self.is_settled(square) {
             return true;
         }
-        if !self.hints.is_settled(square) {
+        if !self.hints.seems_settled(square) {
             return false;
         }
         let floor = self.root_bound.floor();

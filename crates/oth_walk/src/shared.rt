@@ -18,7 +18,7 @@ pub struct Search<'s> {
     pub scoring: Scoring,
     pub moves: &'s RootMoves,
     pub frontier: &'s Frontier,
-    pub shape: Shape,
+    pub shape: SharedNodes,
 }
 
 impl<'s> Search<'s> {
@@ -34,7 +34,7 @@ impl<'s> Search<'s> {
             scoring: root.scoring,
             moves,
             frontier,
-            shape: Shape::of(root.board.empties(), sharing),
+            shape: SharedNodes::of(root.board.empties(), sharing),
         }
     }
 }
@@ -79,7 +79,7 @@ impl Sharing {
 
 /// Which nodes workers share, by their empty squares, and how.
 #[derive(Clone, Copy)]
-pub struct Shape {
+pub struct SharedNodes {
     /// Nodes of fewer empty squares are searched to the end by one worker each.
     pub fewest: u8,
     /// At nodes of more empty squares workers search more of the first moves together, before any is deferred: later
@@ -88,14 +88,14 @@ pub struct Shape {
     pub sharing: Sharing,
 }
 
-impl Shape {
+impl SharedNodes {
     /// The shape of a search below a root of `empties` empty squares. The boards after its moves are shared however few
     /// are empty there, so that each board after a reply is searched by itself.
-    pub fn of(empties: u8, sharing: Sharing) -> Shape
+    pub fn of(empties: u8, sharing: Sharing) -> SharedNodes
         ensures { result.sharing ≡ sharing }
     {
         let (fewest, dealt) = shared_empties(empties);
-        Shape {
+        SharedNodes {
             fewest: fewest.min(empties.saturating_sub(1)),
             dealt,
             sharing,

@@ -47,7 +47,7 @@ fn book_copied(alloc: Global, book: Option<&str>) -> Result<Option<String>, Allo
 }
 
 // The plan with texts of its own.
-fn copied(alloc: Global, plan: Plan<'_, '_>) -> Result<Words, AllocError>
+fn owned(alloc: Global, plan: Plan<'_, '_>) -> Result<Words, AllocError>
     ensures { IfOk result (λ w. meaning_of w ≡ plan_meaning plan.entry) }
 {
     match plan {
@@ -77,7 +77,7 @@ fn read_with<'a>(
     let Some(plan) = chosen(&matches) else {
         return Err(command.error(ErrorKind::ValueValidation, "not a lawful value")?);
     };
-    Ok(copied(alloc, plan)?)
+    Ok(owned(alloc, plan)?)
 }
 
 /// Reads the words of a command line, of which the first names the program:

@@ -47,7 +47,7 @@ struct Task {
 
 // What the words are obeyed with.
 #[derive(Clone, Copy)]
-struct Means<'m, T, S> {
+struct Runner<'m, T, S> {
     rt: &'m T,
     sitter: &'m Sitter<'m, S>,
 }
@@ -119,8 +119,8 @@ fn obey_watched<
     ensures statuses { result ≤ 4 }
 {
     let rt = report.runtime();
-    let means = Means { rt, sitter };
-    let status = obey_beside(&means, words, reader, report, errors);
+    let runner = Runner { rt, sitter };
+    let status = obey_beside(&runner, words, reader, report, errors);
     explain(rt.alloc(), words, reader.source(), report.writer(), errors);
     status
 }
@@ -133,7 +133,7 @@ fn obey_beside<
     S: Sink + Send,
     E: Sink,
 >(
-    means: &Means<'_, T, S>,
+    runner: &Runner<'_, T, S>,
     words: &Words,
     reader: &mut R,
     writer: &mut W,
@@ -148,7 +148,7 @@ fn obey_beside<
     ensures untouched { result ≡ 2 → (reader.new ≡ reader.old) × (writer.new ≡ writer.old) }
     ensures statuses { result ≤ 4 }
 {
-    let (rt, watch) = (means.rt, means.sitter.watch);
+    let (rt, watch) = (runner.rt, runner.sitter.watch);
     let mut obeying = || -> u8
         requires { (R.failed reader.now ≡ false) × (W.failed writer.now ≡ false) }
         ensures done { IsDone result → HasObeyed words.entry.now result
@@ -158,7 +158,7 @@ fn obey_beside<
         ensures refused { result ≡ 2 ↔ AreRefused words.entry.now }
         ensures untouched { result ≡ 2 → (reader.exit.now ≡ reader.entry.now) × (writer.exit.now ≡ writer.entry.now) }
         ensures statuses { result ≤ 4 }
-    { obey(means, words, reader, writer, errors) };
+    { obey(runner, words, reader, writer, errors) };
     watch.beside(rt, rt.alloc(), &mut obeying)
 }
 
@@ -211,7 +211,7 @@ fn obey<
     S: Sink + Send,
     E: Sink,
 >(
-    means: &Means<'_, T, S>,
+    runner: &Runner<'_, T, S>,
     words: &Words,
     reader: &mut R,
     writer: &mut W,
@@ -226,25 +226,25 @@ fn obey<
     ensures untouched { result ≡ 2 → (reader.new ≡ reader.old) × (writer.new ≡ writer.old) }
     ensures statuses { result ≤ 4 }
 {
-    let (rt, gate) = (means.rt, means.sitter.watch.gate());
+    let (rt, gate) = (runner.rt, runner.sitter.watch.gate());
     match words {
         Words::Run(settings, telling, None, names) => {
-            greet(means, settings, names.is_empty(), errors);
+            greet(runner, settings, names.is_empty(), errors);
             let task = Task {
                 settings: *settings,
                 telling: *telling,
             };
-            report(means, &task, None, reader, writer, errors)
+            report(runner, &task, None, reader, writer, errors)
         }
         Words::Run(settings, telling, Some(name), names) => {
             match book_of(rt, settings, name.as_str(), errors, gate) {
                 Ok(book) => {
-                    greet(means, settings, names.is_empty(), errors);
+                    greet(runner, settings, names.is_empty(), errors);
                     let task = Task {
                         settings: *settings,
                         telling: *telling,
                     };
-                    report(means, &task, Some(&book), reader, writer, errors)
+                    report(runner, &task, Some(&book), reader, writer, errors)
                 }
                 Err(status) => status,
             }
@@ -256,7 +256,7 @@ fn obey<
         Words::Add(settings, _, name) => {
             match tested_file_of(rt, settings, name.as_str(), errors) {
                 Ok(file) => {
-                    greet(means, settings, true, errors);
+                    greet(runner, settings, true, errors);
                     book_add(
                         rt,
                         rt.alloc(),
@@ -276,19 +276,19 @@ fn obey<
 
 // Tells whoever types the lines that they are awaited, where no file is named and the settings are lawful.
 fn greet<T, S, E: Sink>(
-    means: &Means<'_, T, S>,
+    runner: &Runner<'_, T, S>,
     settings: &Settings,
     names_none: bool,
     errors: &mut Errors<E>,
 ) {
-    if means.sitter.types && names_none && check_settings(settings).is_ok() {
+    if runner.sitter.types && names_none && check_settings(settings).is_ok() {
         errors.tell_awaited(settings.command);
     }
 }
 
 // Reports the lines of the input.
 fn report<T: Wait + Threads + Sync + AllocGlobal, R: Source, W: Sink, S: Sink + Send, E: Sink>(
-    means: &Means<'_, T, S>,
+    runner: &Runner<'_, T, S>,
     task: &Task,
     book: Option<&Book>,
     reader: &mut R,
@@ -305,7 +305,7 @@ fn report<T: Wait + Threads + Sync + AllocGlobal, R: Source, W: Sink, S: Sink + 
     ensures untouched { result ≡ 2 → (reader.new ≡ reader.old) × (writer.new ≡ writer.old) }
     ensures statuses { (result ≤ 2) ⊎ (result ≡ 4) }
 {
-    let (rt, gate) = (means.rt, means.sitter.watch.gate());
+    let (rt, gate) = (runner.rt, runner.sitter.watch.gate());
     match run_judged(rt, rt.alloc(), reader, writer, &task.settings, gate, book) {
         Ok(is_faulty) => lines_status(task.telling, is_faulty),
         Err(fault) => print_run_fault(fault, errors),

@@ -30,7 +30,7 @@ pub fn read_entries(alloc: Global, bytes: &[u8], version: Version) -> Result<Vec
 {
     let mut rest = after_line(bytes, Shape::Header(version));
     let mut claims = Vec::new(alloc);
-    while let Some(claim) = read_line(rest, version, Place::after(claims.as_slice()))? {
+    while let Some(claim) = read_line(rest, version, ReadSoFar::after(claims.as_slice()))? {
         if claims.push(claim).is_err() {
             return Err(BookFault::Memory);
         }
@@ -50,7 +50,7 @@ pub fn check_entries(bytes: &[u8], version: Version) -> Result<(), BookFault>
     let mut rest = after_line(bytes, Shape::Header(version));
     let mut count = 0;
     let mut last = None;
-    while let Some(claim) = read_line(rest, version, Place { count, last })? {
+    while let Some(claim) = read_line(rest, version, ReadSoFar { count, last })? {
         count += 1;
         last = Some(claim);
         rest = after_line(rest, Shape::Entry(version));
@@ -60,20 +60,20 @@ pub fn check_entries(bytes: &[u8], version: Version) -> Result<(), BookFault>
 
 // How far the lines of entries were read.
 #[derive(Clone, Copy)]
-struct Place {
+struct ReadSoFar {
     // The number of entries.
     count: usize,
     // The last of them.
     last: Option<Claim>,
 }
 
-impl Place {
+impl ReadSoFar {
     // The place after these entries.
     fn after(before: &[Claim]) -> Self
         ensures count { result.count ≡ length before.now }
         ensures last { result.last ≡ last_of before.now }
     {
-        Place {
+        ReadSoFar {
             count: before.len(),
             last: before.last().copied(),
         }
@@ -113,7 +113,7 @@ pub fn read_header(bytes: &[u8]) -> Result<Version, BookFault>
 
 // The next entry after those before, or None where the text ends there.
 #[tactic(auto, unfolding(crate::specs::Fault::stand))]
-fn read_line(rest: &[u8], version: Version, place: Place) -> Result<Option<Claim>, BookFault>
+fn read_line(rest: &[u8], version: Version, place: ReadSoFar) -> Result<Option<Claim>, BookFault>
     requires { place.count ≤ MAX_ENTRIES }
     ensures entry { IfOk result (λ next. IfSome next (IsNext version place.count place.last rest.now)) }
     ensures long { IfOk result (λ next. OnSome next (shape_len (Shape.Entry version) ≤ length rest.now)) }
@@ -153,7 +153,7 @@ fn begins_entry_line(rest: &[u8]) -> bool
 }
 
 // Reads the end line, behind which nothing may stand.
-fn read_end_line(rest: &[u8], version: Version, place: Place) -> Result<(), BookFault>
+fn read_end_line(rest: &[u8], version: Version, place: ReadSoFar) -> Result<(), BookFault>
     requires stand { end_stand rest.now ≡ stand version place.count rest.now }
     requires few { place.count ≤ MAX_ENTRIES }
     ensures ok { OnOk result (rest.now ≡ end_line place.count) }
@@ -175,7 +175,7 @@ fn read_end_line(rest: &[u8], version: Version, place: Place) -> Result<(), Book
 }
 
 // The entry of the next line, which must stand above the last one.
-fn read_entry_line(rest: &[u8], version: Version, place: Place) -> Result<Claim, BookFault>
+fn read_entry_line(rest: &[u8], version: Version, place: ReadSoFar) -> Result<Claim, BookFault>
     requires stand { entry_stand version rest.now ≡ stand version place.count rest.now }
     requires few { place.count ≤ MAX_ENTRIES }
     ensures entry { IfOk result (λ c. IsEntryAt version rest.now c) }

@@ -3,14 +3,18 @@ ghost use Rattle.std.specs.Prelude.{◌≡◌, ◌<◌, ◌≤◌, IfOk, All, le
 ghost use Rattle.oth_pieces.specs.Hands.{IsDealt, AreDealt, AreThievesOf, AreTokensOf, StayOwners, KnowTheirs};
 ghost use Rattle.oth_pieces.specs.Hands.{OwnerFits, OwnersFit, PileFits, IsNewHand, AreHandsOf, HasRoom, count_of};
 
+use super::deal_order::DealOrder;
 use super::rule::{Puts, Thieves};
 use super::state::{Hand, Owner, Parts, Tasks, Thief, Token};
-use super::turns::Turns;
 use crate::frontier::MOST_ITEMS;
 use std::alloc::{AllocError, Global};
 
 /// Tasks of the numbers, dealt in the order of their turns, and their hands.
-pub fn dealt(alloc: Global, turns: &Turns, hands: usize) -> Result<(Tasks, Vec<Hand>), AllocError>
+pub fn dealt(
+    alloc: Global,
+    turns: &DealOrder,
+    hands: usize,
+) -> Result<(Tasks, Vec<Hand>), AllocError>
     requires { length turns.now.numbers.items ≤ MOST_ITEMS }
     ensures hands { IfOk result (λ made. AreHandsOf made.0 hands made.1.items) }
     ensures count { IfOk result (λ made. count_of made.0 ≡ length turns.now.numbers.items) }
@@ -36,7 +40,7 @@ fn room_of(alloc: Global, hands: usize) -> Result<Parts, AllocError>
 }
 
 // The deques of `hands` hands, with the numbers in the order of their turns.
-fn deques(alloc: Global, turns: &Turns, hands: usize) -> Result<Vec<Owner>, AllocError>
+fn deques(alloc: Global, turns: &DealOrder, hands: usize) -> Result<Vec<Owner>, AllocError>
     ensures { IfOk result (λ owners. (length owners.items ≡ hands)
         × AreDealt hands (length turns.now.numbers.items) owners.items) }
 {
@@ -147,7 +151,7 @@ fn hand_of(
 
 // The deque of all numbers with this remainder, in the order of their turns. It has room for all numbers, so that no
 // push is refused.
-fn deal(alloc: Global, turns: &Turns, deque: usize, hands: usize) -> Result<Owner, AllocError>
+fn deal(alloc: Global, turns: &DealOrder, deque: usize, hands: usize) -> Result<Owner, AllocError>
     requires { deque < hands }
     ensures { IfOk result (λ owner. IsDealt hands (length turns.now.numbers.items) deque owner) }
 {

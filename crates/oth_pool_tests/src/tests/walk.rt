@@ -9,7 +9,7 @@ use oth_rules::{Board, Scoring, Square};
 use oth_search::{Interval, MoveOrder, NoCells, RootMoves, Solved, order};
 use oth_walk::{
     Announced, Announcer, BoundsSeat, HintSeat, Hints, MoveBounds, Open, RootBound, Search, Seats,
-    Shape, Sharing, Worker, search_item, settle_all,
+    SharedNodes, Sharing, Worker, search_item, settle_all,
 };
 use std::process::Abort;
 use std::test::Fail;
@@ -50,7 +50,7 @@ fn check_settled_beside<R: AllocGlobal + Abort>(
     let frontier = Frontier::of(&root, 1);
     let moves = RootMoves::of(&Solved::unknown(root, Scoring::Winner), &[]);
     let shared = Search {
-        shape: Shape {
+        shape: SharedNodes {
             fewest: 12,
             dealt: 64,
             sharing,

@@ -142,7 +142,7 @@ fn abdada_moves<C: Cells, H: TreePeers<C>>(
     if let Some(found) = decided_by_child(asked, window, cells) {
         return asked.joined(&found);
     }
-    let squares = peers.order(&asked.board);
+    let squares = peers.kept_order(&asked.board);
     let mut node = OpenNode {
         window,
         undeferred: peers.undeferred(asked.board.empties()),

@@ -14,7 +14,7 @@ struct Ordered {
 
 impl Ordered {
     // No move of the board that has no disc.
-    fn nothing() -> Ordered {
+    fn empty() -> Ordered {
         Ordered {
             board: Board::default(),
             order: MoveOrder::of(&[]),
@@ -35,7 +35,7 @@ impl Orders {
     pub(crate) fn new(alloc: Global) -> Orders {
         let places = usize::from(MOST_EMPTIES) + 1;
         Orders {
-            last: vec![in alloc; Ordered::nothing(); places].ok(),
+            last: vec![in alloc; Ordered::empty(); places].ok(),
         }
     }
 

@@ -93,7 +93,7 @@ impl Seen {
     }
 
     /// The moves of the board in move order.
-    pub(crate) fn order(&mut self, board: &Board) -> ArrayVec<Square, 64> {
+    pub(crate) fn kept_order(&mut self, board: &Board) -> ArrayVec<Square, 64> {
         self.orders.of(board)
     }
 

@@ -160,8 +160,8 @@ impl<'s, C: Cells> TreePeers<Limited<C>> for UntilEnded<'s> {
     }
 
     // As they were kept, since a search that goes on comes to the boards on its way once more.
-    fn order(&mut self, board: &Board) -> ArrayVec<Square, 64> {
-        self.seen.order(board)
+    fn kept_order(&mut self, board: &Board) -> ArrayVec<Square, 64> {
+        self.seen.kept_order(board)
     }
 }
 

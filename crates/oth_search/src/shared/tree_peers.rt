@@ -44,7 +44,7 @@ pub trait TreePeers<C: Cells> {
         ensures fixed { C.fixed cells.new ≡ C.fixed cells.old };
 
     /// The moves of the board in the order in which they are searched: by default each legal one once.
-    fn order(&mut self, board: &Board) -> ArrayVec<Square, 64> {
+    fn kept_order(&mut self, board: &Board) -> ArrayVec<Square, 64> {
         order(board)
     }
 

@@ -14,9 +14,9 @@ impl TableRule<u8, Root, Root> for TrueBounds {
 }
 
 /// Hears what was told.
-pub struct Look;
+pub struct Hear;
 
-impl Play<u8, Root> for Look {
+impl Play<u8, Root> for Hear {
     ghost then = { Looked };
 }
 

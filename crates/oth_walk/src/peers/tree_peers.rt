@@ -72,7 +72,7 @@ impl<'w, G: Gate, C: Cells> TreePeers<C> for Peers<'w, G> {
             || self.is_any_decided(most, cells)
     }
 
-    fn order(&mut self, board: &Board) -> ArrayVec<Square, 64> {
+    fn kept_order(&mut self, board: &Board) -> ArrayVec<Square, 64> {
         self.order_of(board)
     }
 

@@ -28,7 +28,7 @@ pub returns : goal.returns
 returns c =
     let same = exact c.args.scorings _ _ _ c.in_ok-command.ensures c.in_ok-matches.ensures.ok.2 in (
       no_fault c.args.scorings _ _ c.in_ok-command.ensures c.in_ok-matches.ensures.kinds,
-      subst (λ (m : Meaning). Means (subcommand_of (othsolve c.args.scorings) (map (λ w. w.now) c.args.words.now)) m) (sym c.in_ok-copied.ensures)
+      subst (λ (m : Meaning). Means (subcommand_of (othsolve c.args.scorings) (map (λ w. w.now) c.args.words.now)) m) (sym c.in_ok-owned.ensures)
           (subst (λ (o : Option (Text × List Row)). Means o (plan_meaning c.in-Some.plan)) same c.in-Some.ensures),
     )
 
@@ -37,7 +37,7 @@ returns-in_err-error c =
     let p = err_from_is_err_and c.from_residual-in_err-error.result c.from_residual-in_err-error.ensures.1 in
     rw (p.1) (unread _ _ p.0 p.2)
 
-pub returns-in_err-copied : goal.returns-in_err-copied
-returns-in_err-copied c =
-    let p = err_from_is_err_and c.from_residual-in_err-copied.result c.from_residual-in_err-copied.ensures.1 in
+pub returns-in_err-owned : goal.returns-in_err-owned
+returns-in_err-owned c =
+    let p = err_from_is_err_and c.from_residual-in_err-owned.result c.from_residual-in_err-owned.ensures.1 in
     rw (p.1) (unread _ _ p.0 p.2)

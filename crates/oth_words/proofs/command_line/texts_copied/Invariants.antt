@@ -1,4 +1,4 @@
--- the texts before this place are copied
+-- the texts before this place are owned
 use Rattle.std.proofs.Common.{◌≡◌, map, take}
 use Rattle.std.specs.String.{string_bytes}
 use Rattle.oth_words.proofs.command_line.texts_copied.Given as goal

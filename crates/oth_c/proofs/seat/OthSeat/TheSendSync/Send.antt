@@ -11,8 +11,8 @@ use Rattle.std.proofs.alloc.Global.TheSendSync as heap
 use Rattle.std.proofs.Crossing.{frees}
 use Rattle.oth_table.specs.Parts.{Use}
 use Rattle.oth_c.specs.Owned.{owned}
-use Rattle.oth_c.specs.contracts.seated.Place as place
-use Rattle.oth_c.proofs.seated.Place.TheSendSync as sent
+use Rattle.oth_c.specs.contracts.seated.SeatSlot as place
+use Rattle.oth_c.proofs.seated.SeatSlot.TheSendSync as sent
 use Rattle.oth_c.specs.contracts.seat.OthSeat.{the_row}
 
 owned_keyless : (a : Global) (p : Ptr) (x : Option Use) → Keyless (owned a p x)

@@ -1,5 +1,0 @@
-use Rattle.oth_pieces.proofs.Settlings.{Gathering}
-use Rattle.oth_pieces.proofs.tasks.settle.gather.Given as goal
-
-abbrev pub invariant-loop-i : goal.invariant-loop-i
-invariant-loop-i l = Gathering l.initial.owner l.initial.piles l.owner l.piles l.i

@@ -1,5 +1,0 @@
-use Rattle.oth_pieces.proofs.Dealings.{gathers}
-use Rattle.oth_pieces.proofs.tasks.settle.take_in.Goals as goal
-
-pub absorb-requires-clause-rule : goal.absorb-requires-clause-rule
-absorb-requires-clause-rule c = gathers _ _ _ _

@@ -1,5 +1,0 @@
-use Rattle.std.proofs.Common.{rules}
-use Rattle.oth_words.proofs.command_line.copied.Goals as goal
-
-pub returns-in_ok-from_str-in-Verify : goal.returns-in_ok-from_str-in-Verify
-returns-in_ok-from_str-in-Verify c = search rules
