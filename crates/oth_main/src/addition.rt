@@ -73,7 +73,7 @@ fn advance_line<T: Threads + Sync>(
         book: Some(book),
         settings: conditions.asked(book),
     };
-    ahead.pass(&solver, bytes);
+    ahead.advance(&solver, bytes);
 }
 
 // The answer of the board, found ahead or now. The solver that is called asks the book of it first.

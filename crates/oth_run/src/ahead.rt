@@ -56,7 +56,7 @@ impl Ahead {
     /// Advances past the first line in `bytes`, which may be the rest of a line. If the last batch is used up, first
     /// solves the boards of the next lines side by side, as a new batch. Does nothing unless the command is `Solve` and
     /// there are two workers or more.
-    pub fn pass<T: Threads + Sync, G: Gate>(&mut self, solver: &Solver<'_, T, G>, bytes: &[u8]) {
+    pub fn advance<T: Threads + Sync, G: Gate>(&mut self, solver: &Solver<'_, T, G>, bytes: &[u8]) {
         let asked = solver.settings.get();
         if asked.command != Command::Solve || asked.workers < 2 {
             return;

@@ -169,7 +169,7 @@ fn search_moves<C: Cells>(board: Board, alpha: i8, beta: i8, cells: &mut C, scor
     for square in squares.as_slice() {
         let low = greater(alpha, best);
         let is_first = best == -64;
-        let reply = search_reply(
+        let score = search_child(
             board.play_legal(*square),
             low,
             beta,
@@ -177,10 +177,10 @@ fn search_moves<C: Cells>(board: Board, alpha: i8, beta: i8, cells: &mut C, scor
             cells,
             scoring,
         );
-        if reply >= beta {
-            return reply;
+        if score >= beta {
+            return score;
         }
-        best = greater(best, reply);
+        best = greater(best, score);
     }
     best
 }
@@ -188,7 +188,7 @@ fn search_moves<C: Cells>(board: Board, alpha: i8, beta: i8, cells: &mut C, scor
 // The score of the move to `child`. The first move is searched with the whole window, each later one with a null
 // window, and again only if what that finds lies inside the window.
 #[cycle(window)]
-fn search_reply<C: Cells>(
+fn search_child<C: Cells>(
     child: Board,
     alpha: i8,
     beta: i8,

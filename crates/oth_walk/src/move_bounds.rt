@@ -35,7 +35,7 @@ impl Model for MoveBounds {
     ghost use Rattle.std.specs.Prelude.{◌≡◌};
     ghost use Rattle.oth_pieces.specs.Watch.{Place};
 
-    ghost Value = { BoundWords };
+    ghost Value = { Place };
 
     ghost view = { λ b. record { id = b.table.shared.table_id; root = b.root } };
 

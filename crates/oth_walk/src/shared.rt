@@ -5,7 +5,7 @@ use crate::announcing::Announcer;
 use crate::hints::HintSeat;
 use crate::move_bounds::BoundsSeat;
 use crate::root_bound::RootBound;
-use crate::tuning::{FEWEST_CELLS_SHARED, shared_empties};
+use crate::tuning::{SHARED_MIN_CELLS, shared_empties};
 use oth_pieces::Frontier;
 use oth_rules::Scoring;
 use oth_search::RootMoves;
@@ -66,7 +66,7 @@ impl Sharing {
     /// find they learn nothing, as without one.
     pub fn of_several<'t>(table: &Option<TableCells<'t>>) -> Sharing {
         match table {
-            Some(cells) if cells.count() >= FEWEST_CELLS_SHARED => Sharing::OverTable,
+            Some(cells) if cells.count() >= SHARED_MIN_CELLS => Sharing::OverTable,
             _ => Sharing::Apart,
         }
     }

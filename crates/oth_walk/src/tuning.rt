@@ -5,7 +5,7 @@
 
 /// Cells: workers share what they find over a table of at least as many. A smaller one loses it before another worker
 /// looks, so that each would search it again.
-pub(crate) const FEWEST_CELLS_SHARED: u32 = 64;
+pub(crate) const SHARED_MIN_CELLS: u32 = 64;
 
 /// Empty squares, by those of the root: the smallest nodes that workers share, so that their searches are deferred and
 /// given up, and the largest nodes at which only `FEW_TOGETHER` children are undeferred. The trees of deeper roots

@@ -193,12 +193,12 @@ fn nws_children<C: Cells>(
     while left != 0 {
         let child = next_child(&node.board, children, left);
         left = without(left, child.square());
-        let reply = -nws_node(child.node(), -alpha - 1, cells, scoring);
-        if reply > alpha {
-            return reply;
+        let score = -nws_node(child.node(), -alpha - 1, cells, scoring);
+        if score > alpha {
+            return score;
         }
-        if reply > best {
-            best = reply;
+        if score > best {
+            best = score;
         }
     }
     best
@@ -235,9 +235,9 @@ pub fn bounded_by_child<C: Cells>(
     for child in children {
         if child.moves != 0 {
             let told = by_either_table(&child.board, cells, scoring);
-            let reply = -told.interval.upper;
-            if reply > alpha {
-                return Some(reply);
+            let score = -told.interval.upper;
+            if score > alpha {
+                return Some(score);
             }
         }
     }

@@ -74,13 +74,13 @@ fn nws_heard_moves<C: Cells, H: Hearer>(
         let child = next_child(&node.board, list.as_mut_slice(), left);
         left = without(left, child.square());
         hearer.begin(&child.board);
-        let reply = -nws_node(child.node(), -alpha - 1, cells, scoring);
+        let score = -nws_node(child.node(), -alpha - 1, cells, scoring);
         hearer.end(&child.board);
-        if reply > alpha {
-            return reply;
+        if score > alpha {
+            return score;
         }
-        if reply > best {
-            best = reply;
+        if score > best {
+            best = score;
         }
     }
     best
@@ -101,12 +101,12 @@ fn nws_heard_few<H: Hearer>(node: Node, alpha: i8, scoring: Scoring, hearer: &mu
         left = without(left, square);
         let child = node.board.play_legal(square);
         hearer.begin(&child);
-        let reply = -nws(child, -alpha - 1, scoring);
+        let score = -nws(child, -alpha - 1, scoring);
         hearer.end(&child);
-        if reply > alpha {
-            return reply;
+        if score > alpha {
+            return score;
         }
-        best = greater(best, reply);
+        best = greater(best, score);
     }
     best
 }

@@ -77,12 +77,12 @@ fn nws_moves(board: Twin, moves: u64, empties: Empties, alpha: i8, scoring: Scor
         let square = preferred(rest, empties.odd);
         rest = without(rest, square);
         let child = board.play_legal(square);
-        let reply = -nws_at(child, empties.without(square), -alpha - 1, scoring);
-        if reply > alpha {
-            return reply;
+        let score = -nws_at(child, empties.without(square), -alpha - 1, scoring);
+        if score > alpha {
+            return score;
         }
-        if reply > best {
-            best = reply;
+        if score > best {
+            best = score;
         }
     }
     best

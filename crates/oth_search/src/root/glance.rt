@@ -107,11 +107,11 @@ fn glance_at_moves<C: Cells>(
         }
         let child = next_child(&node.board, ranked.as_mut_slice(), left);
         left = without(left, child.square());
-        let reply = -glance(child.node(), -alpha - 1, sight.below(), cells, scoring);
-        if reply > alpha {
-            return reply;
+        let score = -glance(child.node(), -alpha - 1, sight.below(), cells, scoring);
+        if score > alpha {
+            return score;
         }
-        best = greater(best, reply);
+        best = greater(best, score);
     }
     best
 }

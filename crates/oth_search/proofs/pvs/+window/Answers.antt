@@ -20,8 +20,8 @@ pub search_moves-play_legal-requires : goal.search_moves-play_legal-requires
 search_moves-play_legal-requires g t c =
     c.loop-square.invariant.0.replies.untried _ (c.loop-square.square-index, omega arith, omega (arith, c.loop-square-test.true), search rules)
 
-pub search_moves-search_reply-reply-requires : goal.search_moves-search_reply-reply-requires
-search_moves-search_reply-reply-requires g t c =
+pub search_moves-search_child-score-requires : goal.search_moves-search_child-score-requires
+search_moves-search_child-score-requires g t c =
     let s : ℕ = c.square-item.result in
     let legal = c.loop-square.invariant.0.replies.untried s (c.loop-square.square-index, omega arith, omega (arith, c.loop-square-test.true), search rules) in
     let i = c.loop-square.invariant.0 in
@@ -35,41 +35,41 @@ search_moves-search_reply-reply-requires g t c =
       (within, w.IsInner-same c.greater-low.result c.args.beta _ _ (to_z-of_z w8 c.greater-low.result (record { sfits = c.greater-low.type_inv })) (to_z-of_z w8 c.args.beta c.ranges.beta) n),
     )
 
-pub search_moves-returns-then-reply-beta-clause-value : goal.search_moves-returns-then-reply-beta-clause-value
-search_moves-returns-then-reply-beta-clause-value g t c =
+pub search_moves-returns-then-score-beta-clause-value : goal.search_moves-returns-then-score-beta-clause-value
+search_moves-returns-then-score-beta-clause-value g t c =
     let s : ℕ = c.square-item.result in
-    let r = c.search_reply-reply.result in
+    let r = c.search_child-score.result in
     let low = c.greater-low.result in
     w.WithinAt-same _ _ _ _ _ _ _ r refl (sym (to_z-of_z w8 c.args.alpha c.ranges.alpha)) (sym (to_z-of_z w8 c.args.beta c.ranges.beta))
-    (to_z-of_z w8 c.search_reply-reply.result (record { sfits = c.search_reply-reply.type_inv }))
+    (to_z-of_z w8 c.search_child-score.result (record { sfits = c.search_child-score.type_inv }))
     (w.WithinAt-cut c.args.scoring c.args.board _ _ _ s (to_z w8 c.loop-square.best-bits) low r c.loop-square.invariant.0
     (c.loop-square.square-index, omega arith, omega (arith, c.loop-square-test.true), search rules)
     (w.WithinAt-reply c.args.scoring c.args.board c.play_legal.result s _ _ _ _ r c.play_legal.ensures
-    (sym (to_z-of_z w8 c.greater-low.result (record { sfits = c.greater-low.type_inv }))) refl c.search_reply-reply.ensures.value)
+    (sym (to_z-of_z w8 c.greater-low.result (record { sfits = c.greater-low.type_inv }))) refl c.search_child-score.ensures.value)
     (greater-of _ (to_z w8 c.loop-square.best-bits) low _ _ refl (omega (arith, ints, c.loop-square.best-is)) c.greater-low.ensures.left c.greater-low.ensures.right
     c.greater-low.ensures.one)
     (w.IsInner-same c.args.alpha c.args.beta _ _ (to_z-of_z w8 c.args.alpha c.ranges.alpha) (to_z-of_z w8 c.args.beta c.ranges.beta) c.requires.window)
-    (omega (arith, ints, c.if-reply-beta.true)))
+    (omega (arith, ints, c.if-score-beta.true)))
 
 pub search_moves-loop-square-preserved : goal.search_moves-loop-square-preserved
 search_moves-loop-square-preserved g t c =
     let xs = c.as_slice-square-items.result.now in
     let i = c.loop-square.square-index in
     let s : ℕ = c.square-item.result in
-    let r = c.search_reply-reply.result in
+    let r = c.search_child-score.result in
     let low = c.greater-low.result in (
       w.WithinLoop-same c.args.scoring c.args.board _ _ _ _ c.greater-best.result (to_z-of_z w8 c.greater-best.result (record { sfits = c.greater-best.type_inv }))
           (w.WithinLoop-next c.args.scoring c.args.board _ _ _ s _ (to_z w8 c.loop-square.best-bits) low r c.greater-best.result c.loop-square.invariant.0
           (Takes-next xs i s (omega (arith, c.loop-square-test.true)) (search rules))
           (w.WithinAt-reply c.args.scoring c.args.board c.play_legal.result s _ _ _ _ r c.play_legal.ensures
-          (sym (to_z-of_z w8 c.greater-low.result (record { sfits = c.greater-low.type_inv }))) refl c.search_reply-reply.ensures.value)
+          (sym (to_z-of_z w8 c.greater-low.result (record { sfits = c.greater-low.type_inv }))) refl c.search_child-score.ensures.value)
           (greater-of _ (to_z w8 c.loop-square.best-bits) low _ _ refl (omega (arith, ints, c.loop-square.best-is)) c.greater-low.ensures.left
           c.greater-low.ensures.right c.greater-low.ensures.one)
-          (omega (arith, ints, c.if-reply-beta.false))
+          (omega (arith, ints, c.if-score-beta.false))
           (greater-of (to_z w8 c.loop-square.best-bits) r c.greater-best.result _ _ (omega (arith, ints, c.loop-square.best-is))
-          (to_z-of_z w8 c.search_reply-reply.result (record { sfits = c.search_reply-reply.type_inv })) c.greater-best.ensures.left
+          (to_z-of_z w8 c.search_child-score.result (record { sfits = c.search_child-score.type_inv })) c.greater-best.ensures.left
           c.greater-best.ensures.right c.greater-best.ensures.one)),
-      c.search_reply-reply.ensures.fixed ∙ c.loop-square.invariant.1,
+      c.search_child-score.ensures.fixed ∙ c.loop-square.invariant.1,
     )
 
 pub search_moves-returns-clause-value : goal.search_moves-returns-clause-value
@@ -79,34 +79,34 @@ search_moves-returns-clause-value g t c =
     (w.WithinAt-end c.args.scoring c.args.board _ _ _ (to_z w8 c.loop-square.best-bits) c.loop-square.invariant.0
     (λ s h. FromPlace-end _ _ s (omega (arith, c.loop-square-test.false)) h) c.requires.some)
 
-pub search_reply-returns-then-found-alpha-clause-value : goal.search_reply-returns-then-found-alpha-clause-value
-search_reply-returns-then-found-alpha-clause-value g t c =
+pub search_child-returns-then-found-alpha-clause-value : goal.search_child-returns-then-found-alpha-clause-value
+search_child-returns-then-found-alpha-clause-value g t c =
     w.WithinAt-nws _ c.args.alpha c.args.beta _
     (BoundsAt-negated _ c.args.alpha _ _ c.nws_with-found.result (w.reply_threshold c.args.alpha c.args.beta c.requires)
     (read-negated c.nws_with-found.result c.nws_with-found.ensures.value.score) c.nws_with-found.ensures.value)
     (inl (omega (arith, ints, c.if-found-alpha.true))) (let o = c.requires.ordered in omega (arith, ints, o))
 
-pub search_reply-returns-then-found-beta-clause-value : goal.search_reply-returns-then-found-beta-clause-value
-search_reply-returns-then-found-beta-clause-value g t c =
+pub search_child-returns-then-found-beta-clause-value : goal.search_child-returns-then-found-beta-clause-value
+search_child-returns-then-found-beta-clause-value g t c =
     w.WithinAt-nws _ c.args.alpha c.args.beta _
     (BoundsAt-negated _ c.args.alpha _ _ c.nws_with-found.result (w.reply_threshold c.args.alpha c.args.beta c.requires)
     (read-negated c.nws_with-found.result c.nws_with-found.ensures.value.score) c.nws_with-found.ensures.value)
     (inr (omega (arith, ints, c.if-found-beta.true))) (let o = c.requires.ordered in omega (arith, ints, o))
 
-pub search_reply-search_window-requires : goal.search_reply-search_window-requires
-search_reply-search_window-requires g t c =
+pub search_child-search_window-requires : goal.search_child-search_window-requires
+search_child-search_window-requires g t c =
     λ κs within. (
       omega (arith, c.decreases),
       (within, w.IsInner-negated c.args.alpha c.args.beta _ _ (read-negated_beta c.args.alpha c.args.beta c.requires) (read-negated_alpha c.args.alpha c.args.beta c.requires) c.requires),
     )
 
-pub search_reply-returns-then-beta-alpha-clause-value : goal.search_reply-returns-then-beta-alpha-clause-value
-search_reply-returns-then-beta-alpha-clause-value g t c =
+pub search_child-returns-then-beta-alpha-clause-value : goal.search_child-returns-then-beta-alpha-clause-value
+search_child-returns-then-beta-alpha-clause-value g t c =
     w.WithinAt-negated _ c.args.alpha c.args.beta _ _ _ c.search_window.result (read-negated_beta c.args.alpha c.args.beta c.requires) (read-negated_alpha c.args.alpha c.args.beta c.requires)
     (read-negated c.search_window.result c.search_window.ensures.value.score) c.search_window.ensures.value
 
-pub search_reply-search_window-requires-2 : goal.search_reply-search_window-requires-2
-search_reply-search_window-requires-2 g t c =
+pub search_child-search_window-requires-2 : goal.search_child-search_window-requires-2
+search_child-search_window-requires-2 g t c =
     λ κs within. (
       omega (arith, c.decreases),
       (
@@ -117,8 +117,8 @@ search_reply-search_window-requires-2 g t c =
       ),
     )
 
-pub search_reply-returns-clause-value : goal.search_reply-returns-clause-value
-search_reply-returns-clause-value g t c =
+pub search_child-returns-clause-value : goal.search_child-returns-clause-value
+search_child-returns-clause-value g t c =
     let s = c.nws_with-found.ensures.value.score in
     let found = neg_ℤ c.nws_with-found.result in
     let n = c.search_window-2.ensures.value.score in
@@ -176,8 +176,8 @@ search_window-returns-clause-value g t c =
     (can_move-from_none c.pass-passed.result _ c.moves-2.ensures c.if-moves-ne0-2.false)
     (omega (arith, ints, c.final_score.ensures))
 
-pub search_moves-returns-then-reply-beta-clause-fixed : goal.search_moves-returns-then-reply-beta-clause-fixed
-search_moves-returns-then-reply-beta-clause-fixed g t c = c.search_reply-reply.ensures.fixed ∙ c.loop-square.invariant.1
+pub search_moves-returns-then-score-beta-clause-fixed : goal.search_moves-returns-then-score-beta-clause-fixed
+search_moves-returns-then-score-beta-clause-fixed g t c = c.search_child-score.ensures.fixed ∙ c.loop-square.invariant.1
 
 pub search_moves-returns-clause-fixed : goal.search_moves-returns-clause-fixed
 search_moves-returns-clause-fixed g t c = c.loop-square.invariant.1

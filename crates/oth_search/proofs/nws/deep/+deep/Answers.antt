@@ -74,8 +74,8 @@ nws_children-loop-left-init g t c = record {
 pub nws_children-next_child-child-requires-clause-legal : goal.nws_children-next_child-child-requires-clause-legal
 nws_children-next_child-child-requires-clause-legal g t c = c.loop-left.invariant.loop.replies.untried
 
-pub nws_children-nws_node-reply-requires : goal.nws_children-nws_node-reply-requires
-nws_children-nws_node-reply-requires g t c =
+pub nws_children-nws_node-score-requires : goal.nws_children-nws_node-score-requires
+nws_children-nws_node-score-requires g t c =
     let made = c.next_child-child.ensures.child in
     λ κs within. (
       omega (arith, c.decreases, fewer_after c.args.node.board c.node.result.board _ (c.node.ensures ∙ made.board) made.legal),
@@ -85,41 +85,41 @@ nws_children-nws_node-reply-requires g t c =
       ),
     )
 
-pub nws_children-returns-then-reply-alpha-clause-value : goal.nws_children-returns-then-reply-alpha-clause-value
-nws_children-returns-then-reply-alpha-clause-value g t c =
+pub nws_children-returns-then-score-alpha-clause-value : goal.nws_children-returns-then-score-alpha-clause-value
+nws_children-returns-then-score-alpha-clause-value g t c =
     let made = c.next_child-child.ensures.child in
     BoundsAt-cut c.args.scoring c.args.node.board (key_square c.next_child-child.result.key) c.args.alpha _ made.legal
-    (BoundsAt-reply c.args.scoring c.args.node.board c.node.result.board (key_square c.next_child-child.result.key) c.args.alpha _ _ c.nws_node-reply.result (c.node.ensures ∙ made.board)
-    (read-reply c.args.alpha c.requires.threshold) (read-negated c.nws_node-reply.result c.nws_node-reply.ensures.value.score) c.nws_node-reply.ensures.value)
-    (omega (arith, ints, c.if-reply-alpha.true))
+    (BoundsAt-reply c.args.scoring c.args.node.board c.node.result.board (key_square c.next_child-child.result.key) c.args.alpha _ _ c.nws_node-score.result (c.node.ensures ∙ made.board)
+    (read-reply c.args.alpha c.requires.threshold) (read-negated c.nws_node-score.result c.nws_node-score.ensures.value.score) c.nws_node-score.ensures.value)
+    (omega (arith, ints, c.if-score-alpha.true))
 
 pub nws_children-loop-left-preserved : goal.nws_children-loop-left-preserved
 nws_children-loop-left-preserved g t c =
     let child = c.next_child-child.result in
     let made = c.next_child-child.ensures.child in
-    let r : ℤ = neg_ℤ c.nws_node-reply.result in
+    let r : ℤ = neg_ℤ c.nws_node-score.result in
     record {
       loop = ReplyLoop-keeps c.args.scoring c.args.node.board _ _ (key_square child.key) _ _ r c.loop-left.invariant.loop
           (Takes-same _ _ _ _ c.square.ensures c.next_child-child.ensures.member c.without-left.ensures.rest)
-          (BoundsAt-reply c.args.scoring c.args.node.board c.node.result.board (key_square child.key) _ _ r c.nws_node-reply.result (c.node.ensures ∙ made.board)
-          (read-reply_read c.args.alpha c.requires.threshold) refl c.nws_node-reply.ensures.value)
-          (omega (arith, ints, c.if-reply-best.false));
-      fixed = c.nws_node-reply.ensures.fixed ∙ c.loop-left.invariant.fixed;
+          (BoundsAt-reply c.args.scoring c.args.node.board c.node.result.board (key_square child.key) _ _ r c.nws_node-score.result (c.node.ensures ∙ made.board)
+          (read-reply_read c.args.alpha c.requires.threshold) refl c.nws_node-score.ensures.value)
+          (omega (arith, ints, c.if-score-best.false));
+      fixed = c.nws_node-score.ensures.fixed ∙ c.loop-left.invariant.fixed;
       each = c.next_child-child.ensures.children;
     }
 
-pub nws_children-loop-left-preserved-then-reply-best : goal.nws_children-loop-left-preserved-then-reply-best
-nws_children-loop-left-preserved-then-reply-best g t c =
+pub nws_children-loop-left-preserved-then-score-best : goal.nws_children-loop-left-preserved-then-score-best
+nws_children-loop-left-preserved-then-score-best g t c =
     let child = c.next_child-child.result in
     let made = c.next_child-child.ensures.child in
     record {
       loop = ReplyLoop-takes c.args.scoring c.args.node.board _ _ (key_square child.key) _ _ _ c.loop-left.invariant.loop
           (Takes-same _ _ _ _ c.square.ensures c.next_child-child.ensures.member c.without-left.ensures.rest)
-          (BoundsAt-reply c.args.scoring c.args.node.board c.node.result.board (key_square child.key) _ _ _ c.nws_node-reply.result (c.node.ensures ∙ made.board)
-          (read-reply_read c.args.alpha c.requires.threshold) (read-negated c.nws_node-reply.result c.nws_node-reply.ensures.value.score) c.nws_node-reply.ensures.value)
-          (omega (arith, ints, c.if-reply-alpha.false))
-          (omega (arith, ints, c.if-reply-best.true));
-      fixed = c.nws_node-reply.ensures.fixed ∙ c.loop-left.invariant.fixed;
+          (BoundsAt-reply c.args.scoring c.args.node.board c.node.result.board (key_square child.key) _ _ _ c.nws_node-score.result (c.node.ensures ∙ made.board)
+          (read-reply_read c.args.alpha c.requires.threshold) (read-negated c.nws_node-score.result c.nws_node-score.ensures.value.score) c.nws_node-score.ensures.value)
+          (omega (arith, ints, c.if-score-alpha.false))
+          (omega (arith, ints, c.if-score-best.true));
+      fixed = c.nws_node-score.ensures.fixed ∙ c.loop-left.invariant.fixed;
       each = c.next_child-child.ensures.children;
     }
 
@@ -127,8 +127,8 @@ pub nws_children-returns-clause-value : goal.nws_children-returns-clause-value
 nws_children-returns-clause-value g t c =
     ReplyLoop-end c.args.scoring c.args.node.board c.args.alpha _ _ _ c.loop-left.invariant.loop (to_z-of_z w8 c.args.alpha c.ranges.alpha) (In-none _ c.loop-left-test.false) c.requires.some
 
-pub nws_children-returns-then-reply-alpha-clause-fixed : goal.nws_children-returns-then-reply-alpha-clause-fixed
-nws_children-returns-then-reply-alpha-clause-fixed g t c = c.nws_node-reply.ensures.fixed ∙ c.loop-left.invariant.fixed
+pub nws_children-returns-then-score-alpha-clause-fixed : goal.nws_children-returns-then-score-alpha-clause-fixed
+nws_children-returns-then-score-alpha-clause-fixed g t c = c.nws_node-score.ensures.fixed ∙ c.loop-left.invariant.fixed
 
 pub nws_children-returns-clause-fixed : goal.nws_children-returns-clause-fixed
 nws_children-returns-clause-fixed g t c = c.loop-left.invariant.fixed

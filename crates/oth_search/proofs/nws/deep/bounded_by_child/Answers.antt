@@ -6,8 +6,8 @@ use Rattle.oth_search.specs.Ordering.Children.{IsChild}
 use Rattle.oth_search.proofs.BoundsLemmas.Enclosing.{BoundsAt-child}
 use Rattle.oth_search.proofs.nws.deep.bounded_by_child.Goals as goal
 
-pub returns-then-reply-alpha-clause-value : goal.returns-then-reply-alpha-clause-value
-returns-then-reply-alpha-clause-value g c =
+pub returns-then-score-alpha-clause-value : goal.returns-then-score-alpha-clause-value
+returns-then-score-alpha-clause-value g c =
     let child = c.child-item.result in
     let k = c.by_either_table-told.result in
     let made = All-contains (IsChild c.args.parent.now) c.args.children.now child c.requires (c.loop-child.child-index, c.loop-child-test.true, sym c.child-item.is) in
@@ -15,4 +15,4 @@ returns-then-reply-alpha-clause-value g c =
     k.interval.is_interval
     c.by_either_table-told.ensures.value
     (omega (arith, ints))
-    (omega (arith, ints, c.if-reply-alpha.true))
+    (omega (arith, ints, c.if-score-alpha.true))

@@ -12,26 +12,26 @@ loop-left-init g c =
 pub play_legal-child-requires : goal.play_legal-child-requires
 play_legal-child-requires g c = c.loop-left.invariant.replies.untried c.preferred-square.result c.preferred-square.ensures
 
-pub nws-reply-requires : goal.nws-reply-requires
-nws-reply-requires g c =
+pub nws-score-requires : goal.nws-score-requires
+nws-score-requires g c =
     record { low = omega (arith, ints, c.requires.threshold.high); high = omega (arith, ints, c.requires.threshold.low) }
 
-pub returns-then-reply-alpha : goal.returns-then-reply-alpha
-returns-then-reply-alpha g c =
+pub returns-then-score-alpha : goal.returns-then-score-alpha
+returns-then-score-alpha g c =
     BoundsAt-cut c.args.scoring c.args.node.board c.preferred-square.result c.args.alpha _
     (c.loop-left.invariant.replies.untried c.preferred-square.result c.preferred-square.ensures)
-    (BoundsAt-reply c.args.scoring c.args.node.board c.play_legal-child.result c.preferred-square.result c.args.alpha _ _ c.nws-reply.result c.play_legal-child.ensures
-    (omega (arith, ints)) (omega (arith, ints)) c.nws-reply.ensures)
-    (omega (arith, ints, c.if-reply-alpha.true))
+    (BoundsAt-reply c.args.scoring c.args.node.board c.play_legal-child.result c.preferred-square.result c.args.alpha _ _ c.nws-score.result c.play_legal-child.ensures
+    (omega (arith, ints)) (omega (arith, ints)) c.nws-score.ensures)
+    (omega (arith, ints, c.if-score-alpha.true))
 
 pub loop-left-preserved : goal.loop-left-preserved
 loop-left-preserved g c =
     let most = c.greater-best.ensures in
     ReplyLoop-greater c.args.scoring c.args.node.board _ _ c.preferred-square.result _ _ _ c.greater-best.result _ c.loop-left.invariant
     (Takes-without _ _ _ c.preferred-square.ensures c.without-left.ensures.rest)
-    (BoundsAt-reply c.args.scoring c.args.node.board c.play_legal-child.result c.preferred-square.result _ _ _ c.nws-reply.result c.play_legal-child.ensures
-    (omega (arith, ints)) (omega (arith, ints)) c.nws-reply.ensures)
-    (omega (arith, ints, c.if-reply-alpha.false)) most.left most.right most.one (omega (arith, ints))
+    (BoundsAt-reply c.args.scoring c.args.node.board c.play_legal-child.result c.preferred-square.result _ _ _ c.nws-score.result c.play_legal-child.ensures
+    (omega (arith, ints)) (omega (arith, ints)) c.nws-score.ensures)
+    (omega (arith, ints, c.if-score-alpha.false)) most.left most.right most.one (omega (arith, ints))
 
 pub returns : goal.returns
 returns g c =

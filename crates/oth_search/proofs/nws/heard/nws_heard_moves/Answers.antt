@@ -20,45 +20,45 @@ loop-left-init g c = record {
 pub next_child-child-requires-clause-legal : goal.next_child-child-requires-clause-legal
 next_child-child-requires-clause-legal g c = c.loop-left.invariant.loop.replies.untried
 
-pub nws_node-reply-requires : goal.nws_node-reply-requires
-nws_node-reply-requires g c =
+pub nws_node-score-requires : goal.nws_node-score-requires
+nws_node-score-requires g c =
     record { low = omega (arith, ints, c.requires.threshold.high); high = omega (arith, ints, c.requires.threshold.low) }
 
-pub returns-then-reply-alpha-clause-value : goal.returns-then-reply-alpha-clause-value
-returns-then-reply-alpha-clause-value g c =
+pub returns-then-score-alpha-clause-value : goal.returns-then-score-alpha-clause-value
+returns-then-score-alpha-clause-value g c =
     let made = c.next_child-child.ensures.child in
     BoundsAt-cut c.args.scoring c.args.node.board (key_square c.next_child-child.result.key) c.args.alpha _ made.legal
-    (BoundsAt-reply c.args.scoring c.args.node.board c.node.result.board (key_square c.next_child-child.result.key) c.args.alpha _ _ c.nws_node-reply.result (c.node.ensures ∙ made.board)
-    (read-reply c.args.alpha c.requires.threshold) (read-negated c.nws_node-reply.result c.nws_node-reply.ensures.value.score) c.nws_node-reply.ensures.value)
-    (omega (arith, ints, c.if-reply-alpha.true))
+    (BoundsAt-reply c.args.scoring c.args.node.board c.node.result.board (key_square c.next_child-child.result.key) c.args.alpha _ _ c.nws_node-score.result (c.node.ensures ∙ made.board)
+    (read-reply c.args.alpha c.requires.threshold) (read-negated c.nws_node-score.result c.nws_node-score.ensures.value.score) c.nws_node-score.ensures.value)
+    (omega (arith, ints, c.if-score-alpha.true))
 
 pub loop-left-preserved : goal.loop-left-preserved
 loop-left-preserved g c =
     let child = c.next_child-child.result in
     let made = c.next_child-child.ensures.child in
-    let r : ℤ = neg_ℤ c.nws_node-reply.result in
+    let r : ℤ = neg_ℤ c.nws_node-score.result in
     record {
       loop = ReplyLoop-keeps c.args.scoring c.args.node.board _ _ (key_square child.key) _ _ r c.loop-left.invariant.loop
           (Takes-same _ _ _ _ c.square.ensures c.next_child-child.ensures.member c.without-left.ensures.rest)
-          (BoundsAt-reply c.args.scoring c.args.node.board c.node.result.board (key_square child.key) _ _ r c.nws_node-reply.result (c.node.ensures ∙ made.board)
-          (read-reply_read c.args.alpha c.requires.threshold) refl c.nws_node-reply.ensures.value)
-          (omega (arith, ints, c.if-reply-best.false));
-      fixed = c.nws_node-reply.ensures.fixed ∙ c.loop-left.invariant.fixed;
+          (BoundsAt-reply c.args.scoring c.args.node.board c.node.result.board (key_square child.key) _ _ r c.nws_node-score.result (c.node.ensures ∙ made.board)
+          (read-reply_read c.args.alpha c.requires.threshold) refl c.nws_node-score.ensures.value)
+          (omega (arith, ints, c.if-score-best.false));
+      fixed = c.nws_node-score.ensures.fixed ∙ c.loop-left.invariant.fixed;
       each = All-refill (IsChild c.args.node.board) _ _ _ c.loop-left.invariant.each c.next_child-child.ensures.children;
     }
 
-pub loop-left-preserved-then-reply-best : goal.loop-left-preserved-then-reply-best
-loop-left-preserved-then-reply-best g c =
+pub loop-left-preserved-then-score-best : goal.loop-left-preserved-then-score-best
+loop-left-preserved-then-score-best g c =
     let child = c.next_child-child.result in
     let made = c.next_child-child.ensures.child in
     record {
       loop = ReplyLoop-takes c.args.scoring c.args.node.board _ _ (key_square child.key) _ _ _ c.loop-left.invariant.loop
           (Takes-same _ _ _ _ c.square.ensures c.next_child-child.ensures.member c.without-left.ensures.rest)
-          (BoundsAt-reply c.args.scoring c.args.node.board c.node.result.board (key_square child.key) _ _ _ c.nws_node-reply.result (c.node.ensures ∙ made.board)
-          (read-reply_read c.args.alpha c.requires.threshold) (read-negated c.nws_node-reply.result c.nws_node-reply.ensures.value.score) c.nws_node-reply.ensures.value)
-          (omega (arith, ints, c.if-reply-alpha.false))
-          (omega (arith, ints, c.if-reply-best.true));
-      fixed = c.nws_node-reply.ensures.fixed ∙ c.loop-left.invariant.fixed;
+          (BoundsAt-reply c.args.scoring c.args.node.board c.node.result.board (key_square child.key) _ _ _ c.nws_node-score.result (c.node.ensures ∙ made.board)
+          (read-reply_read c.args.alpha c.requires.threshold) (read-negated c.nws_node-score.result c.nws_node-score.ensures.value.score) c.nws_node-score.ensures.value)
+          (omega (arith, ints, c.if-score-alpha.false))
+          (omega (arith, ints, c.if-score-best.true));
+      fixed = c.nws_node-score.ensures.fixed ∙ c.loop-left.invariant.fixed;
       each = All-refill (IsChild c.args.node.board) _ _ _ c.loop-left.invariant.each c.next_child-child.ensures.children;
     }
 

@@ -61,8 +61,8 @@ nws_moves-without-requires t c =
     let legal = c.loop-rest.invariant.replies.untried c.preferred-square.result c.preferred-square.ensures in
     record { on_board = legal.on_board; member = empty-word c.args.board _ c.requires.empties c.preferred-square.result legal.on_board ∙ legal-empty c.args.board c.preferred-square.result legal }
 
-pub nws_moves-nws_at-reply-requires : goal.nws_moves-nws_at-reply-requires
-nws_moves-nws_at-reply-requires t c =
+pub nws_moves-nws_at-score-requires : goal.nws_moves-nws_at-score-requires
+nws_moves-nws_at-score-requires t c =
     let legal = c.loop-rest.invariant.replies.untried c.preferred-square.result c.preferred-square.ensures in (
       omega (arith, c.decreases, fewer_after c.args.board c.play_legal-child.result c.preferred-square.result c.play_legal-child.ensures legal),
       (
@@ -72,31 +72,31 @@ nws_moves-nws_at-reply-requires t c =
       ),
     )
 
-pub nws_moves-returns-then-reply-alpha : goal.nws_moves-returns-then-reply-alpha
-nws_moves-returns-then-reply-alpha t c =
+pub nws_moves-returns-then-score-alpha : goal.nws_moves-returns-then-score-alpha
+nws_moves-returns-then-score-alpha t c =
     BoundsAt-cut c.args.scoring c.args.board c.preferred-square.result c.args.alpha _
     (c.loop-rest.invariant.replies.untried c.preferred-square.result c.preferred-square.ensures)
-    (BoundsAt-reply c.args.scoring c.args.board c.play_legal-child.result c.preferred-square.result c.args.alpha _ _ c.nws_at-reply.result c.play_legal-child.ensures
-    (omega (arith, ints)) (omega (arith, ints)) c.nws_at-reply.ensures)
-    (omega (arith, ints, c.if-reply-alpha.true))
+    (BoundsAt-reply c.args.scoring c.args.board c.play_legal-child.result c.preferred-square.result c.args.alpha _ _ c.nws_at-score.result c.play_legal-child.ensures
+    (omega (arith, ints)) (omega (arith, ints)) c.nws_at-score.ensures)
+    (omega (arith, ints, c.if-score-alpha.true))
 
 pub nws_moves-loop-rest-preserved : goal.nws_moves-loop-rest-preserved
 nws_moves-loop-rest-preserved t c =
-    let r : ℤ = neg_ℤ c.nws_at-reply.result in
+    let r : ℤ = neg_ℤ c.nws_at-score.result in
     ReplyLoop-keeps c.args.scoring c.args.board _ _ c.preferred-square.result _ _ r c.loop-rest.invariant
     (Takes-without _ _ _ c.preferred-square.ensures c.without-rest.ensures.rest)
-    (BoundsAt-reply c.args.scoring c.args.board c.play_legal-child.result c.preferred-square.result _ _ r c.nws_at-reply.result c.play_legal-child.ensures (omega (arith, ints))
-    refl c.nws_at-reply.ensures)
-    (omega (arith, ints, c.if-reply-best.false))
+    (BoundsAt-reply c.args.scoring c.args.board c.play_legal-child.result c.preferred-square.result _ _ r c.nws_at-score.result c.play_legal-child.ensures (omega (arith, ints))
+    refl c.nws_at-score.ensures)
+    (omega (arith, ints, c.if-score-best.false))
 
-pub nws_moves-loop-rest-preserved-then-reply-best : goal.nws_moves-loop-rest-preserved-then-reply-best
-nws_moves-loop-rest-preserved-then-reply-best t c =
+pub nws_moves-loop-rest-preserved-then-score-best : goal.nws_moves-loop-rest-preserved-then-score-best
+nws_moves-loop-rest-preserved-then-score-best t c =
     ReplyLoop-takes c.args.scoring c.args.board _ _ c.preferred-square.result _ _ _ c.loop-rest.invariant
     (Takes-without _ _ _ c.preferred-square.ensures c.without-rest.ensures.rest)
-    (BoundsAt-reply c.args.scoring c.args.board c.play_legal-child.result c.preferred-square.result _ _ _ c.nws_at-reply.result c.play_legal-child.ensures (omega (arith, ints))
-    (omega (arith, ints)) c.nws_at-reply.ensures)
-    (omega (arith, ints, c.if-reply-alpha.false))
-    (omega (arith, ints, c.if-reply-best.true))
+    (BoundsAt-reply c.args.scoring c.args.board c.play_legal-child.result c.preferred-square.result _ _ _ c.nws_at-score.result c.play_legal-child.ensures (omega (arith, ints))
+    (omega (arith, ints)) c.nws_at-score.ensures)
+    (omega (arith, ints, c.if-score-alpha.false))
+    (omega (arith, ints, c.if-score-best.true))
 
 pub nws_moves-returns : goal.nws_moves-returns
 nws_moves-returns t c =

@@ -22,10 +22,10 @@ glance_at_moves-loop-init g t c = record {
 
 pub glance_at_moves-loop-preserved : goal.glance_at_moves-loop-preserved
 glance_at_moves-loop-preserved g t c = record {
-  score = IsScore-one _ (neg_ℤ c.glance-reply.result) _ _ c.greater-best.result _ c.loop.invariant.score
-      (IsScore-negated _ _ (omega (arith, ints)) c.glance-reply.ensures.score)
+  score = IsScore-one _ (neg_ℤ c.glance-score.result) _ _ c.greater-best.result _ c.loop.invariant.score
+      (IsScore-negated _ _ (omega (arith, ints)) c.glance-score.ensures.score)
       (omega (arith, ints)) (omega (arith, ints)) (omega (arith, ints)) c.greater-best.ensures.one;
-  fixed = c.glance-reply.ensures.fixed ∙ c.loop.invariant.fixed;
+  fixed = c.glance-score.ensures.fixed ∙ c.loop.invariant.fixed;
   legal = λ s h. c.loop.invariant.legal s ((Takes-same _ _ _ _ c.square.ensures c.next_child-child.ensures.member c.without-left.ensures.rest).kept s h);
   each = All-refill (IsChild c.args.node.board) _ _ _ c.loop.invariant.each c.next_child-child.ensures.children;
 }
