@@ -68,7 +68,10 @@ MODULES = {
     "oth_search_tests": ("tests::limited::refused",),
     "oth_table_tests": ("tests::refused",),
     "oth_book_tests": ("tests::refused",),
-    "oth_pool_tests": ("tests::refused", "tests::pieces::refused", "tests::batch::refused"),
+    "oth_pieces_tests": ("tests::refused",),
+    "oth_pool_tests": ("tests::refused",),
+    "oth_batch_tests": ("tests::refused",),
+    "oth_run_tests": ("tests::refused",),
     "oth_main_tests": ("tests::refused",),
 }
 
@@ -120,7 +123,7 @@ def steps(crates):
                 yield f"{test}: holds whichever request is refused", wrong
             if crate == "oth_pool_tests":
                 yield "64 cells take more requests than none, by more than the table alone takes", table(counts)
-            if crate == "oth_main_tests":
+            if crate == "oth_run_tests":
                 yield "a run over 64 cells takes more requests than one without", run_cells(counts)
 
 

@@ -1,24 +1,15 @@
-//! Runs over rows and over devices that fail, the commands of the book, and the reasons in words. The expected lines
-//! are those that the rules and the formats give.
+//! The commands of the book, the reasons in words, and what a terminal shows. The expected lines are those that the
+//! rules and the formats give.
 
-mod batches;
 mod books;
-mod devices;
 mod explaining;
-mod games;
-mod gates;
 mod joined;
 mod reasons;
 mod refused;
-mod rows;
 mod showing;
 
-use oth_main::{Command, Progress, RunFault, Settings, run};
-use oth_pool::Open;
+use oth_main::{Command, Progress, Settings};
 use oth_rules::Scoring;
-use oth_text::fakes::{BrokenSource, ByteSink};
-use std::sync::Wait;
-use std::thread::Threads;
 
 const NO_FAILURE: usize = usize::MAX;
 
@@ -42,41 +33,4 @@ fn by_two_workers(scoring: Scoring) -> Settings {
 // What hears of a run that nobody watches.
 fn unseen() -> Progress {
     Progress::new(false)
-}
-
-// What a run did: how it ended, how often each device was called, and what was written.
-#[derive(Drop)]
-struct Walked {
-    result: Result<(), RunFault>,
-    reads: u64,
-    writes: u64,
-    writer: ByteSink<512>,
-}
-
-// A run with a reader that gives one byte a call and fails after some, and a writer that takes one byte a call and
-// fails after some.
-fn walk<R: Wait + Threads + Sync + AllocGlobal>(
-    rt: &R,
-    settings: &Settings,
-    input: &[u8],
-    until_read: usize,
-    until_write: usize,
-) -> Walked {
-    let mut reader = BrokenSource::new(input, until_read).in_steps(1);
-    let mut writer = ByteSink::new(until_write);
-    let result = run(
-        rt,
-        rt.alloc(),
-        &mut reader,
-        &mut writer,
-        settings,
-        &Open,
-        None,
-    );
-    Walked {
-        result,
-        reads: reader.calls(),
-        writes: writer.calls(),
-        writer,
-    }
 }

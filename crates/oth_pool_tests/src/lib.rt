@@ -1,5 +1,5 @@
-//! The tests of `oth_pieces`, `oth_walk`, `oth_pool` and `oth_batch`, which call what these export. They stand apart so
-//! that none of these crates is proved a second time for them.
+//! The tests of `solve` and `scores` of `oth_pool`, which call what it exports. They stand apart so that the crate
+//! isn't proved a second time for them.
 #![tactic(auto)]
 
 #[cfg(test)]

@@ -1,53 +1,12 @@
 //! Out of memory. Each of these tests holds whichever one of its requests for memory is refused; `hostile/refusals.py`
 //! runs each of them once for each request, thread starts among them.
 
-use super::books::{BOOK_OF_A, BOOK_OF_TWO, EMPTY_BOOK, TWO_LINES as NEW_LINES, add};
-use super::devices::{SCORED_TWO, SOLVED_TWO, TWO_LINES};
+use super::books::{BOOK_OF_A, BOOK_OF_TWO, EMPTY_BOOK, TWO_LINES, add};
 use super::reasons::told;
-use super::{NO_FAILURE, by_two_workers, unseen, walk};
-use oth_main::{Command, Errors, Reason, RunFault, Settings, book_verify};
+use super::{NO_FAILURE, by_two_workers, unseen};
+use oth_main::{Errors, Reason, RunFault, book_verify};
 use oth_rules::Scoring;
 use oth_text::fakes::ByteSink;
-use std::process::Abort;
-use std::sync::Wait;
-use std::thread::Threads;
-
-fn check_run<R: Wait + Threads + Sync + AllocGlobal + Abort>(rt: &R, cells: u32) {
-    let asked = Settings {
-        cells,
-        ..by_two_workers(Scoring::Winner)
-    };
-    let done = walk(rt, &asked, TWO_LINES, NO_FAILURE, NO_FAILURE);
-    assert!(rt; done.result == Ok(()));
-    assert!(rt; done.writer.taken() == SOLVED_TWO);
-}
-
-#[test]
-fn a_run_writes_the_same_report(rt: HostRuntime) {
-    check_run(&rt, 1);
-}
-
-// `hostile/refusals.py` compares how many requests this test and the next one make.
-#[test]
-fn a_run_without_cells(rt: HostRuntime) {
-    check_run(&rt, 0);
-}
-
-#[test]
-fn a_run_over_64_cells(rt: HostRuntime) {
-    check_run(&rt, 64);
-}
-
-#[test]
-fn a_run_of_scores_writes_the_same_report(rt: HostRuntime) {
-    let asked = Settings {
-        command: Command::Scores,
-        ..by_two_workers(Scoring::Winner)
-    };
-    let done = walk(&rt, &asked, TWO_LINES, NO_FAILURE, NO_FAILURE);
-    assert!(rt; done.result == Ok(()));
-    assert!(rt; done.writer.taken() == SCORED_TWO);
-}
 
 // What is told where no book can be made.
 const WANTING: [&[u8]; 2] = [b"book error 7\n", b"book wrong 4\n"];
@@ -78,7 +37,7 @@ const REFUSED: [&[u8]; 2] = [b"line 1: book error 1\n", b"line 2: book error 1\n
 #[test]
 fn an_addition_writes_the_whole_book_or_none(rt: HostRuntime) {
     let asked = by_two_workers(Scoring::Winner);
-    let done = add(&rt, EMPTY_BOOK, NEW_LINES, NO_FAILURE, NO_FAILURE, &asked);
+    let done = add(&rt, EMPTY_BOOK, TWO_LINES, NO_FAILURE, NO_FAILURE, &asked);
     if done.status == 0 {
         assert!(rt; done.writer.taken() == BOOK_OF_TWO && done.errors.taken().is_empty());
         return;

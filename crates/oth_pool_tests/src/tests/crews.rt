@@ -1,6 +1,8 @@
 //! Boards whose moves several workers search together: what they answer.
 
 use super::fixtures::{answer_of, board_of};
+use super::rows::ROWS;
+use super::solved;
 use oth_pool::{Open, solve};
 use oth_rules::Scoring;
 use std::process::Abort;
@@ -67,4 +69,25 @@ fn crews_agree_with_one_over_one_cell(rt: HostRuntime) {
 fn crews_agree_with_one_over_a_table(rt: HostRuntime) {
     check_boards(&rt, 65_536, Scoring::Winner);
     check_boards(&rt, 65_536, Scoring::Discs);
+}
+
+#[test]
+fn sixteen_workers_share_one_cell(rt: HostRuntime) {
+    for _ in 0..100 {
+        for (words, score, best, kind) in &ROWS[4..] {
+            let found = solved(&rt, rt.alloc(), *words, 16, 1, Scoring::Winner);
+            assert!(rt;
+                found == Some((*score, *best, *kind)),
+                "the board of {}",
+                words[0]
+            );
+        }
+    }
+}
+
+#[test]
+fn crews_share_one_cell_where_they_search_together(rt: HostRuntime) {
+    for _ in 0..20 {
+        check_board(&rt, BOARDS[0], 1, Scoring::Winner);
+    }
 }

@@ -2,15 +2,10 @@
 
 ghost use Rattle.std.specs.Prelude.{◌≤◌};
 ghost use Rattle.oth_rules.specs.Position.{empty_count};
-ghost use Rattle.oth_pieces.specs.Hands.{AreAllHands, IsCrew};
-ghost use Rattle.oth_pieces.specs.Watch as floor;
-ghost use Rattle.oth_table.specs.SharedTable as table;
 
-use oth_pieces::{Floor, FloorSeat, Frontier, Hand, Tasks};
 use oth_rules::samples::board;
 use oth_rules::{Board, Scoring};
 use oth_search::{Answer, solve_alone};
-use oth_table::{SharedTable, TableSeat};
 use std::process::Abort;
 
 // The board of these discs.
@@ -29,39 +24,4 @@ pub(super) fn answer_of(rt: &impl Abort, board: &Board, scoring: Scoring) -> Ans
         panic!(rt; "no answer")
     };
     answer
-}
-
-// A floor of the board by winner, and its first seat.
-pub(super) fn floor_of<R: AllocGlobal + Abort>(rt: &R, board: &Board) -> (Floor, FloorSeat)
-    ensures { floor.IsSeatOf result.0 result.1 }
-{
-    let Ok((floor, seat)) = Floor::new(rt.alloc(), board, Scoring::Winner) else {
-        panic!(rt; "no floor")
-    };
-    (floor, seat)
-}
-
-// A table of `cells` cells by winner, and its first seat.
-pub(super) fn table_of<R: AllocGlobal + Abort>(rt: &R, cells: u32) -> (SharedTable, TableSeat)
-    ensures { table.IsSeatOf result.0 result.1 }
-{
-    let Ok((table, seat)) = SharedTable::new(rt.alloc(), cells, Scoring::Winner) else {
-        panic!(rt; "no table")
-    };
-    (table, seat)
-}
-
-// The frontier's items among `hands` hands.
-pub(super) fn tasks_of<R: AllocGlobal + Abort>(
-    rt: &R,
-    frontier: &Frontier,
-    hands: u8,
-) -> (Tasks, Vec<Hand>)
-    requires { IsCrew hands }
-    ensures { AreAllHands result.0 result.1.items }
-{
-    let Ok((tasks, hands)) = Tasks::new(rt.alloc(), frontier, hands) else {
-        panic!(rt; "no tasks")
-    };
-    (tasks, hands)
 }

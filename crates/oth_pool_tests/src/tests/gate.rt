@@ -1,22 +1,20 @@
 //! What a gate hears, and that two workers work at once.
 
-mod announcing;
+mod at_once;
 mod following;
-mod noting;
-mod ways;
 
 use super::crews::{BOARDS, TABLES, WITH_PASSES};
 use super::fixtures::{answer_of, board_of};
 use super::{A, B, C, CORNERS};
-use announcing::{line_to, with_passes};
-use noting::Tally;
-use oth_pool::{Frontier, Gate, solve};
+use oth_pieces::Frontier;
+use oth_pool::solve;
+use oth_rules::samples::least_moves_from;
 use oth_rules::{Board, Scoring};
 use oth_search::Answer;
+use oth_walk::{Gate, ItemSet};
 use std::alloc::Global;
 use std::process::Abort;
 use std::sync::atomic::{AtomicU64, Ordering};
-use std::thread;
 use std::thread::Threads;
 
 // Four bits for each of the first 16 items count how often it is heard of.
@@ -161,6 +159,46 @@ impl Gate for Counting {
     }
 }
 
+// Hears of each item, and counts the calls that came a second time or without the one before.
+#[derive(Drop)]
+struct Once {
+    begun: ItemSet,
+    ended: ItemSet,
+    items: AtomicU64,
+    wrong: AtomicU64,
+}
+
+impl Once {
+    fn new() -> Once {
+        Once {
+            begun: ItemSet::new(),
+            ended: ItemSet::new(),
+            items: AtomicU64::new(0),
+            wrong: AtomicU64::new(0),
+        }
+    }
+
+    // Whether it has heard once of each of `items`.
+    fn heard(&self, items: u64) -> bool {
+        self.wrong.load(Ordering::SeqCst) == 0 && self.items.load(Ordering::SeqCst) == items
+    }
+}
+
+impl Gate for Once {
+    fn before(&self, task: u32) {
+        if !self.begun.add(task) {
+            self.wrong.fetch_add(1, Ordering::SeqCst);
+        }
+    }
+
+    fn after(&self, task: u32) {
+        if !self.begun.has(task) || !self.ended.add(task) {
+            self.wrong.fetch_add(1, Ordering::SeqCst);
+        }
+        self.items.fetch_add(1, Ordering::SeqCst);
+    }
+}
+
 // The gate of `solve` by this number of workers and of cells hears once of each of the items of the answer's board.
 fn check_heard_by<R: Threads + Sync + AllocGlobal + Abort>(
     rt: &R,
@@ -168,7 +206,7 @@ fn check_heard_by<R: Threads + Sync + AllocGlobal + Abort>(
     workers: u8,
     cells: u32,
 ) {
-    let tally = Tally::new();
+    let gate = Once::new();
     let alloc = rt.alloc();
     let found = solve(
         rt,
@@ -176,12 +214,23 @@ fn check_heard_by<R: Threads + Sync + AllocGlobal + Abort>(
         &alone.board,
         workers,
         cells,
-        &tally,
+        &gate,
         None,
         Scoring::Winner,
     );
     assert!(rt; found == Ok(*alone), "{workers} workers, {cells} cells");
-    tally.counts(rt, items_of(&alone.board).0.min(1_000) as u32);
+    assert!(rt; gate.heard(items_of(&alone.board).0));
+}
+
+// Whether a side must pass in the first two plies, so that the root's mover isn't to move two plies below.
+fn passes_below(root: &Board) -> bool {
+    let frontier = Frontier::of(root, 2);
+    for number in 0..frontier.len() {
+        if frontier.entry(number).is_some_and(|item| !item.same_mover) {
+            return true;
+        }
+    }
+    false
 }
 
 // It does so by each number of workers and over each table.
@@ -197,12 +246,18 @@ fn check_heard_once<R: Threads + Sync + AllocGlobal + Abort>(rt: &R, root: &Boar
 #[test]
 fn each_crew_announces_each_item_once(rt: HostRuntime) {
     for (words, empties) in [(BOARDS[0], 13), (BOARDS[1], 11), (BOARDS[2], 9)] {
-        check_heard_once(&rt, &line_to(&rt, words, empties));
+        let Some(root) = least_moves_from(board_of(&rt, words), empties) else {
+            panic!(rt; "no line")
+        };
+        assert!(rt; root.empties() == empties && root.can_move());
+        check_heard_once(&rt, &root);
     }
     for words in WITH_PASSES {
-        check_heard_once(&rt, &with_passes(&rt, words));
+        let root = board_of(&rt, words);
+        assert!(rt; root.can_move() && passes_below(&root));
+        check_heard_once(&rt, &root);
     }
-    let passing = with_passes(&rt, WITH_PASSES[0]).pass();
+    let passing = board_of(&rt, WITH_PASSES[0]).pass();
     assert!(rt; !passing.can_move());
     check_heard_once(&rt, &passing);
 }
@@ -223,108 +278,4 @@ fn a_finished_board_is_not_announced(rt: HostRuntime) {
     let found = by_two(&rt, rt.alloc(), [0, u64::MAX], 64, &gate);
     assert!(rt; found == Some((-64, 0)));
     assert!(rt; gate.heard_once(0));
-}
-
-// Each of the first two items waits a while until the search of the other one has begun.
-#[derive(Drop)]
-struct Meeting {
-    hearing: Hearing,
-    given_up: AtomicU64,
-}
-
-impl Meeting {
-    fn has_begun(&self, task: u32) -> bool {
-        let heard = self.hearing.before.load(Ordering::SeqCst);
-        task < 16 && heard >> (4 * task) & 15 != 0
-    }
-}
-
-impl Gate for Meeting {
-    fn before(&self, task: u32) {
-        self.hearing.before(task);
-        if task >= 2 {
-            return;
-        }
-        for _ in 0..10_000_000 {
-            if self.has_begun(1 - task) {
-                return;
-            }
-            thread::yield_now();
-        }
-        self.given_up.store(1, Ordering::SeqCst);
-    }
-
-    fn after(&self, task: u32) {
-        self.hearing.after(task);
-    }
-}
-
-#[test]
-fn two_workers_begin_the_two_items_at_once(rt: HostRuntime) {
-    let gate = Meeting {
-        hearing: Hearing::new(),
-        given_up: AtomicU64::new(0),
-    };
-    let found = by_two(&rt, rt.alloc(), C, 0, &gate);
-    assert!(rt; found == Some((64, 0x81)));
-    assert!(rt; gate.hearing.heard_once(2));
-    assert!(rt; gate.given_up.load(Ordering::SeqCst) == 0);
-}
-
-// Each item waits a while until as many searches as wanted have begun.
-#[derive(Drop)]
-struct Crowding {
-    wanted: u64,
-    begun: AtomicU64,
-    given_up: AtomicU64,
-}
-
-impl Gate for Crowding {
-    fn before(&self, _task: u32) {
-        self.begun.fetch_add(1, Ordering::SeqCst);
-        for _ in 0..10_000_000 {
-            if self.begun.load(Ordering::SeqCst) >= self.wanted {
-                return;
-            }
-            thread::yield_now();
-        }
-        self.given_up.store(1, Ordering::SeqCst);
-    }
-
-    fn after(&self, _task: u32) {}
-}
-
-// As many of `workers` workers as wanted begin an item each before any of these is searched.
-fn check_at_once<R: Threads + Sync + AllocGlobal + Abort>(rt: &R, workers: u8, wanted: u64) {
-    let board = board_of(rt, BOARDS[1]);
-    for cells in [0, 64, 4096] {
-        let gate = Crowding {
-            wanted,
-            begun: AtomicU64::new(0),
-            given_up: AtomicU64::new(0),
-        };
-        let alloc = rt.alloc();
-        let found = solve(
-            rt,
-            alloc,
-            &board,
-            workers,
-            cells,
-            &gate,
-            None,
-            Scoring::Winner,
-        );
-        assert!(rt; found.is_ok());
-        assert!(rt; gate.given_up.load(Ordering::SeqCst) == 0, "{cells} cells");
-    }
-}
-
-#[test]
-fn two_workers_work_at_once(rt: HostRuntime) {
-    check_at_once(&rt, 2, 2);
-}
-
-#[test]
-fn three_workers_work_at_once(rt: HostRuntime) {
-    check_at_once(&rt, 4, 3);
 }

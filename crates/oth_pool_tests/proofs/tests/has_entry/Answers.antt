@@ -1,5 +1,0 @@
-use Rattle.oth_search.proofs.BoundsLemmas.Enclosing.{IsCanonical-canonical}
-use Rattle.oth_pool_tests.proofs.tests.has_entry.Goals as goal
-
-pub look-requires : goal.look-requires
-look-requires c = IsCanonical-canonical _ c.canonical-least.result.0 c.canonical-least.ensures.board

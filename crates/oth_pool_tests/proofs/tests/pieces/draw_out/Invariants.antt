@@ -1,6 +1,0 @@
-use Rattle.std.proofs.Common.{◌≡◌}
-use Rattle.oth_pieces.specs.Hands.{IsHandOf, number_of}
-use Rattle.oth_pool_tests.proofs.tests.pieces.draw_out.Given as goal
-
-abbrev pub invariant-loop : goal.invariant-loop
-invariant-loop l = IsHandOf l.tasks l.hand × (number_of l.hand ≡ number_of l.initial.hand)

@@ -1,9 +1,0 @@
-use Rattle.std.proofs.Common.{arith}
-use Rattle.oth_pieces.proofs.Handouts.{one_drew}
-use Rattle.oth_pool_tests.proofs.tests.pieces.drawn.Goals as goal
-
-pub returns : goal.returns
-returns c =
-    let long = c.len.ensures in
-    let size = c.args.hands.now.ok.0 in
-    one_drew c.args.tasks.now c.args.hands.now.items c.args.at c.index_mut.result.now c.draw.new.hand c.requires (omega arith) c.index_mut.ensures.value c.draw.ensures.hand c.draw.ensures.number

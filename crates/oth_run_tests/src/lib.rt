@@ -1,0 +1,6 @@
+//! The tests of `oth_run`, which call what it exports. They stand apart so that the crate isn't proved a second time
+//! for them.
+#![tactic(auto)]
+
+#[cfg(test)]
+mod tests;

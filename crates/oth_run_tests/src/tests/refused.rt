@@ -1,0 +1,47 @@
+//! Out of memory. Each of these tests holds whichever one of its requests for memory is refused; `hostile/refusals.py`
+//! runs each of them once for each request, thread starts among them.
+
+use super::devices::{SCORED_TWO, SOLVED_TWO, TWO_LINES};
+use super::{NO_FAILURE, by_two_workers, walk};
+use oth_rules::Scoring;
+use oth_words::{Command, Settings};
+use std::process::Abort;
+use std::sync::Wait;
+use std::thread::Threads;
+
+fn check_run<R: Wait + Threads + Sync + AllocGlobal + Abort>(rt: &R, cells: u32) {
+    let asked = Settings {
+        cells,
+        ..by_two_workers(Scoring::Winner)
+    };
+    let done = walk(rt, &asked, TWO_LINES, NO_FAILURE, NO_FAILURE);
+    assert!(rt; done.result == Ok(()));
+    assert!(rt; done.writer.taken() == SOLVED_TWO);
+}
+
+#[test]
+fn a_run_writes_the_same_report(rt: HostRuntime) {
+    check_run(&rt, 1);
+}
+
+// `hostile/refusals.py` compares how many requests this test and the next one make.
+#[test]
+fn a_run_without_cells(rt: HostRuntime) {
+    check_run(&rt, 0);
+}
+
+#[test]
+fn a_run_over_64_cells(rt: HostRuntime) {
+    check_run(&rt, 64);
+}
+
+#[test]
+fn a_run_of_scores_writes_the_same_report(rt: HostRuntime) {
+    let asked = Settings {
+        command: Command::Scores,
+        ..by_two_workers(Scoring::Winner)
+    };
+    let done = walk(&rt, &asked, TWO_LINES, NO_FAILURE, NO_FAILURE);
+    assert!(rt; done.result == Ok(()));
+    assert!(rt; done.writer.taken() == SCORED_TWO);
+}
