@@ -185,20 +185,13 @@ fn workers_over_smaller_tables_announce_each_item_before_they_search_it(rt: Host
     }
 }
 
-// Whether between a tenth and a half of these items were searched when they were announced: of the others none was
-// needed, since their move was settled by bounds.
-fn are_few_searched(counts: Counts) -> bool {
-    let items = counts.items();
-    counts.searched.saturating_mul(10) >= items && counts.searched.saturating_mul(2) <= items
-}
-
 #[test]
 fn few_items_are_searched_by_workers_over_a_table(rt: HostRuntime) {
     for words in BOARDS {
         let root = line_to(&rt, words, 14);
         for workers in [1, 2, 4] {
             let counts = announced_by(&rt, &root, workers, 65_536);
-            assert!(rt; are_few_searched(counts), "{workers} workers: {counts:?}");
+            assert!(rt; counts.are_few_searched(), "{workers} workers: {counts:?}");
         }
     }
 }

@@ -27,8 +27,13 @@ impl Counts {
 
     // Whether something was found of at least a tenth of the items between the two calls.
     pub(super) fn are_of_searches(self) -> bool {
-        let items = self.items();
-        self.searched.saturating_mul(10) >= items
+        self.searched.saturating_mul(10) >= self.items()
+    }
+
+    // Whether something was found so of between a tenth and a half of the items: of the others none was needed, since
+    // their move was settled by bounds.
+    pub(super) fn are_few_searched(self) -> bool {
+        self.are_of_searches() && self.searched.saturating_mul(2) <= self.items()
     }
 }
 
@@ -112,11 +117,20 @@ impl<'n> Noticing<'n> {
         }
     }
 
-    // Fails unless it has heard once of each of `items`, before anything was found of it, something was found of a
-    // tenth of them between the two calls, and the others came last, since no search needed them.
-    pub(super) fn check(&self, rt: &impl Abort, items: u32) {
+    // How many items there were. Fails unless it has heard once of each of `items`, before anything was found of it,
+    // and something was found of a tenth of them between the two calls.
+    pub(super) fn check(&self, rt: &impl Abort, items: u32) -> Counts {
         let counts = self.tally.counts(rt, items);
-        assert!(rt; counts.are_of_searches() && counts.left == 0, "{counts:?}");
+        assert!(rt; counts.are_of_searches(), "{counts:?}");
+        counts
+    }
+
+    // As `check`, where nobody else ends the search of an item: those of which nothing was found came last, since no
+    // search needed them.
+    pub(super) fn check_alone(&self, rt: &impl Abort, items: u32) -> Counts {
+        let counts = self.check(rt, items);
+        assert!(rt; counts.left == 0, "{counts:?}");
+        counts
     }
 }
 
