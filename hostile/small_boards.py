@@ -1,60 +1,85 @@
 """Compares the time that several workers take with one worker's, over boards that take microseconds: more workers cost no time."""
 import random
+import tempfile
 import time
 
-from running import board_lines, ran
+import running
+from running import ran
 
 SEED = 20261128
 FEWEST, MOST = 1, 8
-# Boards of each number of empty squares, and how often all of them stand in the input.
-BOARDS, TIMES = 40, 60
+# Boards of each number of empty squares, of random discs: hardly one is an image of another, which several workers would search once.
+BOARDS = 2400
+# Boards in the book.
+IN_BOOK = 4800
 WORKERS = (2, 4, 16)
 ROUNDS = 3
 # A machine under load takes longer at times, by one worker or by several.
 MOST_RATIO = 1.5
 
 
+def random_line(draw, empties):
+    """Returns the line of a board of random discs with this many empty squares."""
+    cells = draw.choices("XO", k=64)
+    for square in draw.sample(range(64), empties):
+        cells[square] = "-"
+    return f"{''.join(cells)} {draw.choice('XO')}"
+
+
 def mixed_lines():
     """Returns lines of boards of all these numbers of empty squares, in no order."""
-    lines = b"".join(board_lines(SEED + empties, BOARDS, empties) for empties in range(FEWEST, MOST + 1)).splitlines(True)
-    random.Random(SEED).shuffle(lines)
-    return b"".join(lines) * TIMES
+    draw = random.Random(SEED)
+    lines = [random_line(draw, empties) for empties in range(FEWEST, MOST + 1) for _ in range(BOARDS)]
+    draw.shuffle(lines)
+    return running.text_of(lines).encode()
 
 
 class Race:
     """Runs of one command over one input by several numbers of workers, and the least seconds of each."""
 
-    def __init__(self, program, command, given):
-        self.program, self.command, self.given = program, command, given
+    def __init__(self, words, behind, given):
+        """The command is these words, its workers, and the words behind them."""
+        self.words, self.behind, self.given = words, behind, given
         self.least, self.wrote = {}, {}
 
     def run(self, workers):
         """Runs the command once by these workers."""
         began = time.monotonic()
-        done = ran([self.program, self.command, "--workers", str(workers)], self.given)
+        done = ran([*self.words, "--workers", str(workers), *self.behind], self.given)
         seconds = time.monotonic() - began
-        self.wrote[workers] = done.wrote if done.status == 0 else f"status {done.status}"
+        self.wrote[workers] = (done.status, done.wrote)
         self.least[workers] = min(seconds, self.least.get(workers, seconds))
 
     def wrong(self, workers):
         """Tells what is wrong with the runs by these workers beside one, if anything."""
+        if self.wrote[1][0] != 0:
+            return f"status {self.wrote[1][0]} by one worker"
         if self.wrote[workers] != self.wrote[1]:
-            return "other answers than by one worker"
+            return "another status or other answers than by one worker"
         ratio = self.least[workers] / self.least[1]
         if ratio > MOST_RATIO:
             return f"{ratio:.2f} of one worker's time: {self.least[workers]:.2f} and {self.least[1]:.2f} seconds"
         return None
 
 
+def races(program, folder, given):
+    """Yields the name of each command over these lines, and its race: the book has the first of them."""
+    some = b"".join(given.splitlines(True)[:IN_BOOK])
+    empty = running.file_of(folder, "empty.book", running.EMPTY_BOOK)
+    book = running.book_of(program, folder, some)
+    yield "solve", Race([program, "solve"], [], given)
+    yield "scores", Race([program, "scores"], [], given)
+    yield "solve --book", Race([program, "solve", "--book", book], [], given)
+    yield "book-add", Race([program, "book-add"], [empty], some)
+
+
 def steps(program):
     """Yields a step for each command and number of workers: its name, and what is wrong, if anything."""
     given = mixed_lines()
-    lines = given.count(b"\n")
-    for command in ("solve", "scores"):
-        race = Race(program, command, given)
-        for _ in range(ROUNDS):
-            for workers in (1, *WORKERS):
-                race.run(workers)
-        for workers in WORKERS:
-            name = f"{command}: {lines} boards of {FEWEST} to {MOST} empty squares take {workers} workers no longer than one"
-            yield name, race.wrong(workers)
+    with tempfile.TemporaryDirectory() as folder:
+        for command, race in races(program, folder, given):
+            for _ in range(ROUNDS):
+                for workers in (1, *WORKERS):
+                    race.run(workers)
+            for workers in WORKERS:
+                yield f"{command}: boards of {FEWEST} to {MOST} empty squares take {workers} workers no longer than one", race.wrong(workers)

@@ -75,7 +75,7 @@ fn valued_children<R: Threads + Sync, G: Gate>(
     requires few { IsSolvable board.now }
     requires crew { IsCrew means.now.workers }
 {
-    let cells = cells_for(cells, board.empties());
+    let cells = cells_for(cells, board.empties(), means.workers);
     match SharedTable::new(means.alloc, cells, scoring) {
         Ok((table, seat)) => {
             let mut access = Some(TableCells::of(&table, seat));

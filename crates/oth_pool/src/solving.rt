@@ -16,7 +16,8 @@ use oth_book::Book;
 use oth_pieces::{Floor, FloorSeat, Frontier, is_crew};
 use oth_rules::{Board, Scoring};
 use oth_search::{
-    Answer, Cells, MOST_EMPTIES, RootMoves, Solved, backed_up_from, before_pass, ended, solve_moves,
+    Answer, Cells, MOST_EMPTIES, NoPeers, RootMoves, Solved, backed_up_from, before_pass, ended,
+    is_few, solve_few, solve_moves,
 };
 use oth_table::{SharedTable, TableCells, is_size};
 use oth_walk::{
@@ -122,7 +123,8 @@ fn answer<R: Threads + Sync, G: Gate>(means: &Means<R, G>, by_book: &Solved, cel
     answer_moves(means, by_book, cells)
 }
 
-// As `answer`, of a board whose mover has a move, over a table unless `cells` is 0 or memory is refused.
+// As `answer`, of a board whose mover has a move, over a table unless `cells` is 0 or memory is refused. A board of few
+// empty squares, of whose items nobody hears, has no table and one worker.
 fn answer_moves<R: Threads + Sync, G: Gate>(
     means: &Means<R, G>,
     by_book: &Solved,
@@ -134,7 +136,12 @@ fn answer_moves<R: Threads + Sync, G: Gate>(
     ensures board { result.board ≡ by_book.now.board }
     ensures scoring { result.scoring ≡ by_book.now.scoring }
 {
-    let cells = cells_for(cells, by_book.board.empties());
+    let empties = by_book.board.empties();
+    if is_few(empties) && !means.gate.hears() {
+        means.gate.begins(&by_book.board);
+        return solve_few(by_book);
+    }
+    let cells = cells_for(cells, empties, means.workers);
     match SharedTable::new(means.alloc, cells, by_book.scoring) {
         Ok((table, seat)) => {
             let mut access = Some(TableCells::of(&table, seat));
@@ -179,9 +186,13 @@ fn answer_alone<'t, R: Threads + Sync, G: Gate>(
 {
     let empties = by_book.board.empties();
     let mut cells = worker_cells(means.alloc, empties, Sharing::Alone, access);
+    let moves = RootMoves::of(by_book, &[]);
+    if !means.gate.hears() {
+        means.gate.begins(&by_book.board);
+        return solve_moves(moves, &mut cells, &mut NoPeers);
+    }
     let announced = Announced::of(&by_book.board, None, means.gate);
     let mut alone = Alone::of(means.gate, &announced);
-    let moves = RootMoves::of(by_book, &[]);
     let answer = solve_moves(moves, &mut cells, &mut alone);
     announced.finish(means.gate);
     answer

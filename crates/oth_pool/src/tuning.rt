@@ -5,10 +5,11 @@
 /// than the rest of the search.
 pub(crate) const CREW_MIN_EMPTIES: u8 = 12;
 
-/// Returns how many of `cells` cells a search of `empties` empty squares can use: a large table takes longer to make
-/// than a small search gains.
-pub(crate) fn cells_for(cells: u32, empties: u8) -> u32 {
+/// Returns how many of `cells` cells a search of `empties` empty squares by `workers` workers can use: a large table
+/// takes longer to make than a small search gains, and up to 9 one worker finds in a table only what it knows.
+pub(crate) fn cells_for(cells: u32, empties: u8, workers: u8) -> u32 {
     match empties {
+        0..=9 if workers == 1 => 0,
         0..=6 => cells.min(1),
         7..=9 => cells.min(1 << 6),
         10..=12 => cells.min(1 << 10),

@@ -9,7 +9,8 @@ use crate::run::Means;
 use crate::solving::answer_over;
 use crate::work::room_for;
 use arrayvec::ArrayVec;
-use oth_search::{Cells, Interval, Solved, ended, value_of};
+use oth_pieces::awake;
+use oth_search::{Cells, Interval, NoPeers, Solved, ended, is_few, solve_few, value_of};
 use oth_table::TableCells;
 use oth_walk::{Alone, Announced, Gate, Sharing, WorkerCells, worker_cells};
 use std::thread::Threads;
@@ -126,11 +127,30 @@ fn value_alone<R, G: Gate, C: Cells>(
     if is_exact(by_book) {
         return *by_book;
     }
+    if !means.gate.hears() {
+        means.gate.begins(&awake(by_book.board).0);
+        if is_few(by_book.board.empties()) {
+            return value_few(by_book);
+        }
+        return value_of(by_book, sibling, cells, &mut NoPeers);
+    }
     let announced = Announced::of(&by_book.board, None, means.gate);
     let mut alone = Alone::of(means.gate, &announced);
     let valued = value_of(by_book, sibling, cells, &mut alone);
     announced.finish(means.gate);
     valued
+}
+
+// Values `by_book`, a board of few empty squares with the book's bounds.
+fn value_few(by_book: &Solved) -> Solved {
+    let board = by_book.board;
+    if board.is_over() {
+        return Solved::of_answer(&ended(board, by_book.scoring));
+    }
+    if board.moves() == 0 {
+        return Solved::of_answer(&solve_few(&by_book.passed())).before_pass(&board);
+    }
+    Solved::of_answer(&solve_few(by_book))
 }
 
 // Values `by_book`, a board with the book's bounds, by all workers.

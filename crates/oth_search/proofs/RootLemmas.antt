@@ -1,4 +1,5 @@
 pub mod MoveLists
 pub mod RootSearch
+pub mod Few
 pub mod Roots
 pub mod Scored

@@ -101,12 +101,15 @@ impl Solved {
         Solved::unknown(*board, scoring).narrowed(alpha, found)
     }
 
-    /// What the cells tell of the board, by its canonical image.
+    /// What the cells tell of the board, by its canonical image. Nothing where they have no table.
     pub fn looked_up<C: Cells>(board: &Board, cells: &mut C, scoring: Scoring) -> Solved
         ensures board { result.board ≡ board.now }
         ensures scoring { result.scoring ≡ scoring }
         ensures fixed { C.fixed cells.new ≡ C.fixed cells.old }
     {
+        if !cells.has_table() {
+            return Solved::unknown(*board, scoring);
+        }
         let found = by_table(&board.canonical().0, cells, scoring);
         Solved {
             board: *board,

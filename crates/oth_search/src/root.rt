@@ -19,9 +19,11 @@
 //! above narrow what is known of these boards. `glance`: the selective search of the guess. `bracket`: between which
 //! scores a guess seems to lie. `step`: how far a null window lies below what is known. `value`: the value of a board
 //! whose best moves nobody asks for; the other moves are only asked whether they are better. `scores`: a board's moves
-//! with their scores, from the values of the boards after them.
+//! with their scores, from the values of the boards after them. `few`: the answer of a board of so few empty squares
+//! that none of this pays.
 mod best_moves;
 mod bracket;
+mod few;
 mod glance;
 mod guess;
 mod moves;
@@ -35,6 +37,7 @@ pub(crate) use best_moves::best_moves;
 pub use best_moves::{
     MOST_EMPTIES, TooManyEmpties, before_pass, ended, solve_alone, solve_moves, solve_with,
 };
+pub use few::{is_few, solve_few};
 pub use glance::seeming_value;
 pub use moves::{RootMove, RootMoves};
 pub use root_peers::{NoPeers, RootPeers};

@@ -7,6 +7,10 @@ ghost use Rattle.std.specs.Prelude.{◌<◌};
 /// Empty squares: up to here each of the last squares has a body of its own, ordered by parity alone.
 pub(crate) const LAST_SQUARES_MAX_EMPTIES: u8 = 4;
 
+/// Empty squares of the root: up to here one worker of whom nobody hears keeps no list of the root's moves. The boards
+/// after them are searched in less time than a list of them is made in.
+pub(crate) const FEW_MAX_EMPTIES: u8 = 6;
+
 /// Empty squares: from here on a position is kept in the local hash table, if the worker has one. Below it a search
 /// takes no longer than a look.
 pub(crate) const LOCAL_TABLE_MIN_EMPTIES: u8 = 5;

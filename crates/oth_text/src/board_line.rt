@@ -6,12 +6,13 @@ ghost use Rattle.oth_text.specs.declared.fault.LineFault.{LineFault as Fault};
 ghost use Rattle.oth_text.specs.BoardLine.{IsBoardLine, IsFirstFault, IsSolvableFault, IsSolvableLine, board_line};
 ghost use Rattle.oth_text.specs.BoardLine.{if_solvable, reading, side_byte, solvable_reading};
 ghost use Rattle.oth_text.specs.OneLine.{IsOneLine};
-ghost use Rattle.oth_text.specs.Discs.{IsCellFault, ShowsDiscs, disc_byte};
+ghost use Rattle.oth_text.specs.Discs.{AreSquaresOf, IsCellFault, ShowsDiscs, disc_byte};
 
 use crate::fault::LineFault;
 use crate::position::{Position, Side};
 use arrayvec::ArrayVec;
 use oth_search::MOST_EMPTIES;
+use std::simd::prelude::*;
 
 /// The number of bytes of a board line.
 pub const BOARD_LINE_LEN: usize = 66;
@@ -75,17 +76,21 @@ fn read_cells(text: &[u8]) -> Result<(u64, u64), LineFault>
     ensures apart { IfOk result (λ sides. bit_and sides.0 sides.1 ≡ 0) }
     ensures fault { IfErr result (λ f. IsCellFault text.now f) }
 {
-    let mut black = 0u64;
-    let mut white = 0u64;
-    for n in 0u8..64 {
-        match text[n as usize] {
-            b'X' => black |= 1 << n,
-            b'O' => white |= 1 << n,
-            b'-' => {}
-            _ => return Err(LineFault::BadCell(n + 1)),
-        }
+    let cells = u8x64::from_slice(text);
+    let black = squares_of(cells, b'X');
+    let white = squares_of(cells, b'O');
+    let bad = !(black | white | squares_of(cells, b'-'));
+    if bad != 0 {
+        return Err(LineFault::BadCell(bad.trailing_zeros() as u8 + 1));
     }
     Ok((black, white))
+}
+
+// The squares whose cells are this byte.
+fn squares_of(cells: u8x64, byte: u8) -> u64
+    ensures { AreSquaresOf cells byte result }
+{
+    cells.simd_eq(u8x64::splat(byte)).to_bitmask()
 }
 
 /// The board line of a position, which is the only one, without byte 10. `read_board` gives the position back.

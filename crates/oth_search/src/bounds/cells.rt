@@ -24,6 +24,12 @@ pub trait Cells {
     fn put(&mut self, entry: &Entry)
         ensures fixed { fixed self.new ≡ fixed self.old };
 
+    /// Whether a look may find something: by default it may. Where not, a search spares the image of the board that it
+    /// would ask for.
+    fn has_table(&self) -> bool {
+        true
+    }
+
     /// Whether boards of `empties` empty squares (9 and more) go to the local table instead of the shared one: by
     /// default no.
     fn keeps_local(&self, _empties: u8) -> bool {
@@ -61,6 +67,10 @@ impl Cells for NoCells {
     }
 
     fn put(&mut self, _entry: &Entry) {}
+
+    fn has_table(&self) -> bool {
+        false
+    }
 }
 
 /// Cells that may be missing: then nothing is found and nothing is kept.
@@ -79,6 +89,13 @@ impl<C: Cells> Cells for Option<C> {
     fn put(&mut self, entry: &Entry) {
         if let Some(cells) = self {
             cells.put(entry);
+        }
+    }
+
+    fn has_table(&self) -> bool {
+        match self {
+            Some(cells) => cells.has_table(),
+            None => false,
         }
     }
 

@@ -131,6 +131,10 @@ impl<C: Cells> Cells for WithLocal<C> {
         self.cells.put(entry);
     }
 
+    fn has_table(&self) -> bool {
+        self.cells.has_table()
+    }
+
     fn keeps_local(&self, empties: u8) -> bool {
         self.memories.keeps_local(empties)
     }
@@ -169,6 +173,10 @@ impl Cells for StackCells {
     }
 
     fn put(&mut self, _entry: &Entry) {}
+
+    fn has_table(&self) -> bool {
+        false
+    }
 
     fn probe_local(&mut self, board: &Board, scoring: Scoring) -> Option<Solved> {
         told_by(&self.places[place(board, PLACES - 1)], board, scoring)

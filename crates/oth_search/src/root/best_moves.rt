@@ -8,6 +8,7 @@ ghost use Rattle.oth_rules.specs.Laws.{IsScore};
 ghost use Rattle.oth_search.specs.Bounds.Interval.{Encloses, Decides};
 ghost use Rattle.oth_search.specs.Bounds.Full.{IsFullMinimax};
 
+use super::few::{is_few, solve_few};
 use super::moves::{RootMove, RootMoves};
 use super::root_peers::{NoPeers, RootPeers};
 use super::settle::settle_moves;
@@ -62,7 +63,7 @@ fn solve_remembering(board: Board, scoring: Scoring) -> Answer
     solve_with(board, &mut StackCells::new(), scoring)
 }
 
-/// The answer of a board, by a search over the cells.
+/// The answer of a board, by a search over the cells; up to 6 empty squares without them.
 pub fn solve_with<C: Cells>(board: Board, cells: &mut C, scoring: Scoring) -> Answer
     ensures board { result.board ≡ board }
     ensures scoring { result.scoring ≡ scoring }
@@ -86,6 +87,9 @@ fn solve_unobserved<C: Cells>(board: Board, cells: &mut C, scoring: Scoring) -> 
     ensures fixed { C.fixed cells.new ≡ C.fixed cells.old }
 {
     let root = Solved::unknown(board, scoring);
+    if is_few(board.empties()) {
+        return solve_few(&root);
+    }
     solve_moves(RootMoves::of(&root, &[]), cells, &mut NoPeers)
 }
 

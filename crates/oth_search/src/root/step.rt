@@ -62,7 +62,9 @@ impl Pace {
     /// As `below`. While the upper bound is 64: `start`, or a step above the lower bound if that is above `start`.
     pub fn onward(self, bounds: Interval, start: i8) -> i8
         requires { IsThreshold start }
-        ensures { IsThreshold result }
+        ensures threshold { IsThreshold result }
+        ensures low { bounds.lower <ℤ bounds.upper → bounds.lower ≤ℤ result }
+        ensures high { bounds.lower <ℤ bounds.upper → result <ℤ bounds.upper }
     {
         if bounds.upper < 64 {
             self.below(bounds)

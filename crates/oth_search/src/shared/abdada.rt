@@ -264,11 +264,11 @@ fn lifted<C: Cells>(board: &Board, square: Square, reply: &Solved, cells: &mut C
     }
 }
 
-/// Stores these bounds in the cells, unless they are all scores.
+/// Stores these bounds in the cells, unless they are all scores, or the cells have no table.
 pub fn put<C: Cells>(solved: &Solved, cells: &mut C)
     ensures fixed { C.fixed cells.new ≡ C.fixed cells.old }
 {
-    if solved.interval != Interval::all() {
+    if solved.interval != Interval::all() && cells.has_table() {
         cells.put(&Entry::of(solved));
     }
 }

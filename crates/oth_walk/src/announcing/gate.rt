@@ -26,6 +26,12 @@ pub trait Gate: Sync {
     /// a line before its answer is found or waited for; `solve` does not.
     fn awaits(&self, _board: &Board) {}
 
+    /// Whether the gate hears of the items and of how far the search is: by default it does. If not, none of `before`,
+    /// `after` and `goes_on` is called, and nothing is made for them.
+    fn hears(&self) -> bool {
+        true
+    }
+
     /// Whether `goes_on` is to be called, which takes a little time.
     fn follows(&self) -> bool {
         false
@@ -44,4 +50,8 @@ impl Gate for Open {
     fn before(&self, _task: u32) {}
 
     fn after(&self, _task: u32) {}
+
+    fn hears(&self) -> bool {
+        false
+    }
 }
