@@ -19,7 +19,7 @@ PAGE = "docs/LIBRARY.md"
 BLOCK = re.compile(r"^`([^`\n]+)`:\n\n```(\w+)\n(.*?)^```$", re.MULTILINE | re.DOTALL)
 LINE = re.compile(r"^Its line is `mine: ([^`\n]+)`\.\n\n`([^`\n]+)`:$", re.MULTILINE)
 NOT_SHOWN = ("lib.rt",)
-LINKED = ("crates/oth_uses/src/analysis.rt",)
+LINKED = ("crates/oth_uses/src/analysis.rt", "crates/oth_uses/src/own_sink.rt")
 BUILD = re.compile(r"cc -O2 -I\. worked\.c libothsolve\.a -o worked")
 
 

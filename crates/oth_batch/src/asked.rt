@@ -16,6 +16,16 @@ pub enum Asked {
     Scores,
 }
 
+/// What boards have in common whose search is one: where answers are asked the discs of their canonical image, since
+/// the answer of one gives that of each image, and else their own discs; the mover's before the opposing ones.
+pub(crate) fn key_of(asked: Asked, board: &Board) -> (u64, u64) {
+    let known = match asked {
+        Asked::Answer => board.canonical().0,
+        Asked::Scores => *board,
+    };
+    (known.own(), known.opp())
+}
+
 /// What was found of a board.
 #[derive(Drop)]
 pub(crate) enum Found {

@@ -24,8 +24,8 @@ pub fn workers_for(asked: Asked, board: &Board, workers: u8) -> u8
     }
 }
 
-// The empty squares of a board whose answer takes as long as what is asked of this one.
-fn empties_to_search(asked: Asked, board: &Board) -> u8 {
+/// The empty squares of a board whose answer takes as long as what is asked of this one.
+pub(crate) fn empties_to_search(asked: Asked, board: &Board) -> u8 {
     match asked {
         Asked::Answer => board.empties(),
         Asked::Scores => board.empties() + EMPTIES_FOR_SCORES,

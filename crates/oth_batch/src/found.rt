@@ -4,7 +4,7 @@ ghost use Rattle.std.specs.Prelude.{◌≡◌, ◌≢◌, All, IfSome, IfNone};
 
 use oth_book::Book;
 use oth_rules::{Board, Scoring};
-use oth_search::{Answer, MOST_EMPTIES};
+use oth_search::{Answer, MOST_EMPTIES, Scores};
 use std::alloc::Global;
 
 /// The answer of the board under the scoring, if it is one of these.
@@ -39,4 +39,14 @@ pub fn answer_by_image(alloc: Global, answer: &Answer, board: &Board) -> Option<
     } else {
         None
     }
+}
+
+/// A copy of the scores.
+pub fn copied(scores: &Scores) -> Option<Scores>
+    ensures { IfSome result (λ s. s.answer ≡ scores.now.answer) }
+{
+    Some(Scores {
+        answer: scores.answer,
+        moves: scores.moves.clone().ok()?,
+    })
 }

@@ -5,7 +5,8 @@
 //! true by its type, and so are `Scores`; which boards have them rests on no theorem. `boards` has those that wait:
 //! at most 1,024, of at most 18 empty squares each. `effort` decides by an estimate of each board's effort: there are
 //! no jobs where no two boards are small enough for a worker each, and a board that is worth more than a worker's
-//! share is left to all workers together.
+//! share is left to all workers together. `recent` keeps what was found of the last boards of a run, for those that
+//! come again.
 #![tactic(auto)]
 
 mod asked;
@@ -15,6 +16,7 @@ mod boards;
 mod effort;
 mod found;
 mod jobs;
+mod recent;
 mod tuning;
 mod verifying;
 
@@ -24,5 +26,6 @@ pub use boards::Boards;
 pub use effort::workers_for;
 pub use found::answer_among;
 pub use jobs::Jobs;
+pub use recent::Recent;
 pub use tuning::{MOST_BOARDS, ONE_WORKER_MAX_EMPTIES};
 pub use verifying::verify_by;

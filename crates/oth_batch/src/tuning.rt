@@ -26,3 +26,10 @@ pub(crate) fn effort_of(empties: u8) -> u64 {
 /// Empty squares: from here on all workers together solve a board that no batch has. Below it the caller's thread does,
 /// since starting others takes longer.
 pub(crate) const ALL_WORKERS_MIN_EMPTIES: u8 = 13;
+
+/// Empty squares of a board whose answer takes as long as what is asked: from here on what was found is kept for a
+/// board that comes again. Below it some looks take as long as the search.
+pub(crate) const RECENT_MIN_EMPTIES: u8 = 9;
+
+/// Boards of a run of which at least is kept what was found, the last ones: more than lines are read at once.
+pub(crate) const RECENT_BOARDS: usize = 4_096;

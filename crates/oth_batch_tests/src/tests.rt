@@ -1,6 +1,7 @@
 //! Boards that wait together are answered as one worker alone answers them.
 
 mod jobs;
+mod recent;
 mod refused;
 mod verifying;
 

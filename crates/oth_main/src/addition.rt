@@ -19,6 +19,7 @@ ghost use Rattle.oth_run.specs.declared.fault.RunFault.TheVariants.{Write};
 
 use crate::message::Message;
 use crate::progress::Progress;
+use oth_batch::{Asked, Recent};
 use oth_book::{AddError, Book, write};
 use oth_pool::Gate;
 use oth_rules::Board;
@@ -72,6 +73,7 @@ fn advance_line<T: Threads + Sync>(
         gate: conditions.progress,
         book: Some(book),
         settings: conditions.asked(book),
+        recent: Recent::new(conditions.alloc, Asked::Answer),
     };
     ahead.advance(&solver, bytes);
 }
@@ -95,6 +97,7 @@ fn answer_by<T: Threads + Sync>(
         gate: conditions.progress,
         book: Some(book),
         settings: conditions.asked(book),
+        recent: Recent::new(conditions.alloc, Asked::Answer),
     };
     ahead.find_answer(&solver, board)
 }

@@ -2,14 +2,17 @@
 //!
 //! A book of the same scoring is asked after the three refusals, before any worker starts. An exact entry is the
 //! answer, without a call of the gate. The search begins with the bounds of another entry: by several workers the
-//! lower one raises the floor, one worker starts from both. Where the mover must pass they change their signs.
+//! lower one raises the floor, one worker starts from both. Where the mover must pass they change their signs, and the
+//! board after the pass is asked for. A board after a move begins with its bounds too, so one whose value the book has
+//! is not searched.
 ghost use Rattle.std.specs.Prelude.{◌≡◌, IfSome};
 ghost use Rattle.oth_rules.specs.Symmetry.{canonical};
 ghost use Rattle.oth_book.specs.Book.{Has, HasBoard};
 
+use arrayvec::ArrayVec;
 use oth_book::Book;
 use oth_rules::{Board, Scoring};
-use oth_search::{Answer, Solved};
+use oth_search::{Answer, RootMoves, Solved};
 
 /// Returns the book's answer of `board`. None where there is no book, it is under another scoring, or it has no exact
 /// bounds of the board.
@@ -42,4 +45,32 @@ pub(crate) fn bounds_in(book: Option<&Book>, board: &Board, scoring: Scoring) ->
         Some(bounds) => bounds,
         None => Solved::unknown(*board, scoring),
     }
+}
+
+/// Returns the moves of `by_book`, a board with the book's bounds, with those of the boards after them. Never inlined,
+/// so that the list of these is not on the stack while the board is searched.
+#[inline(never)]
+pub(crate) fn moves_by_book(by_book: &Solved, book: Option<&Book>) -> RootMoves
+    ensures board { result.board ≡ by_book.now.board }
+    ensures scoring { result.scoring ≡ by_book.now.scoring }
+{
+    if book.is_none() {
+        return RootMoves::of(by_book, &[]);
+    }
+    let known = replies_by_book(&by_book.board, book, by_book.scoring);
+    RootMoves::of(by_book, known.as_slice())
+}
+
+/// Returns the children of `board` in the order in which they are searched, with the book's bounds of each.
+pub(crate) fn replies_by_book(
+    board: &Board,
+    book: Option<&Book>,
+    scoring: Scoring,
+) -> ArrayVec<Solved, 64> {
+    let mut replies = ArrayVec::new();
+    let moves = RootMoves::of(&Solved::unknown(*board, scoring), &[]);
+    for root_move in moves.as_slice() {
+        replies.push(bounds_in(book, &root_move.child.board, scoring));
+    }
+    replies
 }

@@ -6,8 +6,8 @@
 //! windows were asked, which items were skipped, which replies were lost, and the schedule stand outside the proof of
 //! the answer. How the board of a `solve` is searched, with one start of threads:
 //!
-//!     book            an exact entry is the answer; a search begins with the bounds of another
-//!       |
+//!     book            an exact entry is the answer; a search begins with the bounds of another, and of the boards
+//!       |             after the moves; higher: or at a guess, where that is far above the moves that are known
 //!     frontier        the boards two plies below the root; ranks: what promises most is drawn first
 //!       |
 //!     workers         each: draw a number -> search the item and its move, each new item announced -> reply
@@ -27,6 +27,7 @@
 mod at_once;
 mod book_lookup;
 mod draw_order;
+mod higher;
 mod queue;
 pub mod run;
 mod scoring_moves;

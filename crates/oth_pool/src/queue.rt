@@ -2,11 +2,11 @@
 ghost use Rattle.std.specs.Prelude.{◌≡◌, IfSome};
 ghost use Rattle.oth_pool.specs.Solving.{IsSolvable};
 
-use crate::book_lookup::bounds_in;
+use crate::book_lookup::replies_by_book;
 use arrayvec::ArrayVec;
 use oth_book::Book;
 use oth_rules::{Board, Scoring};
-use oth_search::{MOST_EMPTIES, RootMoves, Solved};
+use oth_search::{MOST_EMPTIES, Solved};
 use oth_walk::claim;
 use std::sync::atomic::AtomicU64;
 
@@ -54,14 +54,4 @@ impl Queue {
         }
         Some(solved)
     }
-}
-
-// Returns the children of `board` in the order in which they are searched, with the book's bounds of each.
-fn replies_by_book(board: &Board, book: Option<&Book>, scoring: Scoring) -> ArrayVec<Solved, 64> {
-    let mut replies = ArrayVec::new();
-    let moves = RootMoves::of(&Solved::unknown(*board, scoring), &[]);
-    for root_move in moves.as_slice() {
-        replies.push(bounds_in(book, &root_move.child.board, scoring));
-    }
-    replies
 }

@@ -8,7 +8,8 @@ ghost use Rattle.oth_pieces.specs.Hands.{IsCrew};
 ghost use Rattle.oth_pieces.specs.History.{floor_after};
 ghost use Rattle.oth_pieces.specs.Watch.{IsSeatOf};
 
-use crate::book_lookup::{answer_in, bounds_in};
+use crate::book_lookup::{answer_in, bounds_in, moves_by_book};
+use crate::higher::{ask_higher, may_be_higher, seems_higher};
 use crate::run::{Gathered, Links, Means, bounds_for, hints_for, run};
 use crate::tuning::{CREW_MIN_EMPTIES, cells_for};
 use crate::work::room_for;
@@ -46,7 +47,7 @@ pub enum SolveError {
 /// `cells` cells (0: none). Waits for its workers. Neither their number nor the table's size nor the schedule changes
 /// the answer, nor refused memory or threads. A book of the same scoring is asked first: an exact entry is the answer,
 /// and the gate hears nothing; the bounds of another entry narrow the search, and several workers start with a floor at
-/// the lower one.
+/// the lower one. It is asked of the boards after the moves too, and one of them whose value it has is not searched.
 pub fn solve<R: Threads + Sync, G: Gate>(
     rt: &R,
     alloc: Global,
@@ -72,7 +73,7 @@ pub fn solve<R: Threads + Sync, G: Gate>(
         gate,
         workers: crew(workers, board.empties()),
     };
-    Ok(answer(&means, &by_book, cells))
+    Ok(answer(&means, &by_book, book, cells))
 }
 
 /// Refuses by the first cause for which the board isn't solved, if there is one.
@@ -106,7 +107,12 @@ pub(crate) fn crew(workers: u8, empties: u8) -> u8
 }
 
 // Returns the answer of `by_book`, a board with the book's bounds.
-fn answer<R: Threads + Sync, G: Gate>(means: &Means<R, G>, by_book: &Solved, cells: u32) -> Answer
+fn answer<R: Threads + Sync, G: Gate>(
+    means: &Means<R, G>,
+    by_book: &Solved,
+    book: Option<&Book>,
+    cells: u32,
+) -> Answer
     requires few { IsSolvable by_book.now.board }
     requires crew { IsCrew means.now.workers }
     ensures board { result.board ≡ by_book.now.board }
@@ -117,10 +123,29 @@ fn answer<R: Threads + Sync, G: Gate>(means: &Means<R, G>, by_book: &Solved, cel
         return ended(board, by_book.scoring);
     }
     if board.moves() == 0 {
-        let answer = answer_moves(means, &by_book.passed(), cells);
+        let answer = answer_passed(means, &by_book.passed(), book, cells);
         return before_pass(board, answer);
     }
-    answer_moves(means, by_book, cells)
+    answer_moves(means, by_book, book, cells)
+}
+
+// As `answer_moves`, of the board after a pass: the book's answer, if it has one.
+fn answer_passed<R: Threads + Sync, G: Gate>(
+    means: &Means<R, G>,
+    by_book: &Solved,
+    book: Option<&Book>,
+    cells: u32,
+) -> Answer
+    requires some { can_move by_book.now.board ≡ true }
+    requires few { IsSolvable by_book.now.board }
+    requires crew { IsCrew means.now.workers }
+    ensures board { result.board ≡ by_book.now.board }
+    ensures scoring { result.scoring ≡ by_book.now.scoring }
+{
+    match answer_in(book, &by_book.board, by_book.scoring) {
+        Some(answer) => answer,
+        None => answer_moves(means, by_book, book, cells),
+    }
 }
 
 // As `answer`, of a board whose mover has a move, over a table unless `cells` is 0 or memory is refused. A board of few
@@ -128,6 +153,7 @@ fn answer<R: Threads + Sync, G: Gate>(means: &Means<R, G>, by_book: &Solved, cel
 fn answer_moves<R: Threads + Sync, G: Gate>(
     means: &Means<R, G>,
     by_book: &Solved,
+    book: Option<&Book>,
     cells: u32,
 ) -> Answer
     requires some { can_move by_book.now.board ≡ true }
@@ -145,9 +171,9 @@ fn answer_moves<R: Threads + Sync, G: Gate>(
     match SharedTable::new(means.alloc, cells, by_book.scoring) {
         Ok((table, seat)) => {
             let mut access = Some(TableCells::of(&table, seat));
-            answer_over(means, by_book, &mut access)
+            answer_over(means, by_book, book, &mut access)
         }
-        Err(_) => answer_over(means, by_book, &mut None),
+        Err(_) => answer_over(means, by_book, book, &mut None),
     }
 }
 
@@ -157,6 +183,7 @@ fn answer_moves<R: Threads + Sync, G: Gate>(
 pub(crate) fn answer_over<'t, R: Threads + Sync, G: Gate>(
     means: &Means<R, G>,
     by_book: &Solved,
+    book: Option<&Book>,
     access: &mut Option<TableCells<'t>>,
 ) -> Answer
     requires some { can_move by_book.now.board ≡ true }
@@ -166,11 +193,11 @@ pub(crate) fn answer_over<'t, R: Threads + Sync, G: Gate>(
     ensures scoring { result.scoring ≡ by_book.now.scoring }
 {
     if means.workers > 1 {
-        if let Some(answer) = answer_together(means, by_book, access) {
+        if let Some(answer) = answer_together(means, by_book, book, access) {
             return answer;
         }
     }
-    answer_alone(means, by_book, access)
+    answer_alone(means, by_book, book, access)
 }
 
 // Returns the answer by the caller's search alone.
@@ -178,6 +205,7 @@ pub(crate) fn answer_over<'t, R: Threads + Sync, G: Gate>(
 fn answer_alone<'t, R: Threads + Sync, G: Gate>(
     means: &Means<R, G>,
     by_book: &Solved,
+    book: Option<&Book>,
     access: &mut Option<TableCells<'t>>,
 ) -> Answer
     requires { can_move by_book.now.board ≡ true }
@@ -186,13 +214,15 @@ fn answer_alone<'t, R: Threads + Sync, G: Gate>(
 {
     let empties = by_book.board.empties();
     let mut cells = worker_cells(means.alloc, empties, Sharing::Alone, access);
-    let moves = RootMoves::of(by_book, &[]);
+    let mut moves = moves_by_book(by_book, book);
     if !means.gate.hears() {
         means.gate.begins(&by_book.board);
+        ask_higher(&mut moves, &mut cells, &mut NoPeers);
         return solve_moves(moves, &mut cells, &mut NoPeers);
     }
     let announced = Announced::of(&by_book.board, None, means.gate);
     let mut alone = Alone::of(means.gate, &announced);
+    ask_higher(&mut moves, &mut cells, &mut alone);
     let answer = solve_moves(moves, &mut cells, &mut alone);
     announced.finish(means.gate);
     answer
@@ -204,6 +234,7 @@ fn answer_alone<'t, R: Threads + Sync, G: Gate>(
 fn answer_together<'t, R: Threads + Sync, G: Gate>(
     means: &Means<R, G>,
     by_book: &Solved,
+    book: Option<&Book>,
     access: &mut Option<TableCells<'t>>,
 ) -> Option<Answer>
     requires some { can_move by_book.now.board ≡ true }
@@ -214,10 +245,11 @@ fn answer_together<'t, R: Threads + Sync, G: Gate>(
 {
     let alloc = means.alloc;
     let frontier = frontier_of(alloc, &by_book.board)?;
-    let mut moves = RootMoves::of(by_book, &[]);
+    let mut moves = moves_by_book(by_book, book);
+    let start = start_of_several(alloc, &moves, access);
     let sharing = Sharing::of_several(access);
-    let search = Search::of(&moves, &frontier, sharing);
-    let (floor, mut seat) = raised_floor(alloc, by_book)?;
+    let search = Search::of(&start, &frontier, sharing);
+    let (floor, mut seat) = raised_floor(alloc, &start.root())?;
     let hints = hints_for(means, &search);
     let bounds = bounds_for(means, by_book);
     let announced = Announced::of(&by_book.board, Some(&*frontier), means.gate);
@@ -275,6 +307,27 @@ fn raised_floor(alloc: Global, by_book: &Solved) -> Option<(Floor, FloorSeat)>
     let (floor, mut seat) = Floor::new(alloc, &by_book.board, by_book.scoring).ok()?;
     floor.raise(&mut seat, by_book).ok()?;
     Some((floor, seat))
+}
+
+// Returns the moves from which several workers begin: these, or where the score seems to be higher than they are known
+// to reach, those of which is known that they give no more.
+#[inline(never)]
+fn start_of_several<'t>(
+    alloc: Global,
+    moves: &RootMoves,
+    access: &mut Option<TableCells<'t>>,
+) -> RootMoves
+    ensures { result ≡ moves.now }
+{
+    if !may_be_higher(moves) {
+        return moves.another();
+    }
+    let empties = moves.root().board.empties();
+    let mut cells = worker_cells(alloc, empties, Sharing::of_several(access), access);
+    match seems_higher(moves, &mut cells, &mut NoPeers) {
+        Some(higher) => higher.moves,
+        None => moves.another(),
+    }
 }
 
 // Returns what the workers found of the items, and the caller of those that none took, as far as there is room for it.

@@ -19,3 +19,11 @@ pub(crate) fn cells_for(cells: u32, empties: u8, workers: u8) -> u32 {
         _ => cells,
     }
 }
+
+/// Empty squares: from here on a guess is made of a board of whose moves a book knows some, to see whether the score is
+/// higher than they reach.
+pub(crate) const HIGHER_MIN_EMPTIES: u8 = 14;
+
+/// Discs: where the score seems to be above what the moves are known to reach by no more than this, it is not asked for
+/// first.
+pub(crate) const HIGHER_BY: i8 = 2;

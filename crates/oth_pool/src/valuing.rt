@@ -170,10 +170,10 @@ fn value_together<'t, R: Threads + Sync, G: Gate>(
         return Solved::of_answer(&ended(board, by_book.scoring));
     }
     if board.moves() == 0 {
-        let answer = answer_over(means, &by_book.passed(), access);
+        let answer = answer_over(means, &by_book.passed(), None, access);
         return Solved::of_answer(&answer).before_pass(&board);
     }
-    Solved::of_answer(&answer_over(means, by_book, access))
+    Solved::of_answer(&answer_over(means, by_book, None, access))
 }
 
 // Whether the bounds are one number.

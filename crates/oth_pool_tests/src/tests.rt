@@ -5,6 +5,7 @@ mod book;
 mod crews;
 mod fixtures;
 mod gate;
+mod known;
 mod refused;
 mod rows;
 mod scoring;

@@ -5,7 +5,7 @@ ghost use Rattle.oth_rules.specs.Position.{empty_count};
 
 use crate::lines::split_line;
 use crate::solver::Solver;
-use oth_batch::{Asked, Batch, Boards, Jobs, answer_among};
+use oth_batch::{Asked, Batch, Boards, Jobs, Recent, answer_among};
 use oth_pool::Gate;
 use oth_rules::Board;
 use oth_search::{Answer, MOST_EMPTIES, TooManyEmpties};
@@ -72,7 +72,7 @@ impl Ahead {
         let Ok(mut boards) = Boards::new(solver.alloc) else {
             return;
         };
-        self.lines = fill_with_lines(&mut boards, bytes);
+        self.lines = fill_with_lines(&mut boards, &solver.recent, bytes);
         self.answers = solver.batch().answers(&boards);
     }
 }
@@ -86,10 +86,20 @@ pub(crate) fn asked_by(command: Command) -> Option<Asked> {
     }
 }
 
-/// Makes jobs of the boards of the whole lines in `bytes`, up to a batch. There are none where the command asks for no
-/// search, one worker is asked for or enough, or there is no memory.
+/// Nothing was found yet of what the command asks.
+pub(crate) fn recent_for(alloc: Global, command: Command) -> Recent {
+    match asked_by(command) {
+        Some(asked) => Recent::new(alloc, asked),
+        None => Recent::new(alloc, Asked::Answer),
+    }
+}
+
+/// Makes jobs of the boards of the whole lines in `bytes`, up to a batch, but of those of which something was found
+/// lately. There are none where the command asks for no search, one worker is asked for or enough, or there is no
+/// memory.
 pub(crate) fn jobs_of_lines<'b, T: Threads + Sync, G: Gate>(
     batch: &'b Batch<'b, T, G>,
+    recent: &Recent,
     command: Command,
     bytes: &[u8],
 ) -> Jobs<'b, T, G> {
@@ -102,16 +112,16 @@ pub(crate) fn jobs_of_lines<'b, T: Threads + Sync, G: Gate>(
     let Ok(mut boards) = Boards::new(batch.alloc) else {
         return Jobs::none(&*batch);
     };
-    fill_with_lines(&mut boards, bytes);
+    fill_with_lines(&mut boards, recent, bytes);
     match Jobs::of(&*batch, asked, boards.as_slice()) {
         Some(jobs) => jobs,
         None => Jobs::none(&*batch),
     }
 }
 
-// Lets the boards of the whole lines in these bytes wait, up to a batch, and gives the number of these lines, each of
-// which has at least one byte.
-fn fill_with_lines(boards: &mut Boards, bytes: &[u8]) -> usize {
+// Lets the boards of the whole lines in these bytes wait, up to a batch, but those of which something was found lately,
+// and gives the number of these lines, each of which has at least one byte.
+fn fill_with_lines(boards: &mut Boards, recent: &Recent, bytes: &[u8]) -> usize {
     let mut rest = bytes;
     for lines in 0..bytes.len() {
         if boards.is_full() {
@@ -121,7 +131,9 @@ fn fill_with_lines(boards: &mut Boards, bytes: &[u8]) -> usize {
             return lines;
         };
         if let Ok(position) = read_solvable(line) {
-            boards.push(position.board);
+            if !recent.has(&position.board) {
+                boards.push(position.board);
+            }
         }
         rest = others;
     }

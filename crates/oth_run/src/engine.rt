@@ -179,7 +179,8 @@ impl Engine {
         ensures fails { OnErr result (W.failed writer.new ≡ true) }
     {
         let batch = solver.batch();
-        let jobs = jobs_of_lines(&batch, solver.settings.get().command, bytes);
+        let command = solver.settings.get().command;
+        let jobs = jobs_of_lines(&batch, &solver.recent, command, bytes);
         self.take_beside(solver, &jobs, writer, bytes)?;
         self.waiting.write_to(writer)?;
         Ok(())

@@ -5,6 +5,7 @@ ghost use Rattle.std.specs.Io.KnownBytes.{Appends, Consumes, IsAtEnd};
 ghost use Rattle.oth_run.specs.Reply.{reply};
 ghost use Rattle.oth_run.specs.Run.{FailsBy, Judges, OnRefusal, RefusesBy, Writes, ending};
 
+use crate::ahead::recent_for;
 use crate::checking::Lawful;
 use crate::engine::Engine;
 use crate::fault::RunFault;
@@ -83,6 +84,7 @@ pub fn run_judged<T: Wait + Threads + Sync, R: Source, W: Sink, G: Gate>(
         gate,
         book,
         settings: lawful,
+        recent: recent_for(alloc, settings.command),
     };
     let mut engine = Engine::new(settings.command);
     engine.run_ended(&solver, reader, writer)?;

@@ -7,7 +7,7 @@ ghost use Rattle.oth_text.specs.Ranking.{scores_line_of};
 
 use crate::checking::Lawful;
 use arrayvec::ArrayVec;
-use oth_batch::{Asked, Batch, Jobs, workers_for};
+use oth_batch::{Asked, Batch, Jobs, Recent, workers_for};
 use oth_book::Book;
 use oth_pool::{Gate, scores, solve};
 use oth_rules::{Board, Square};
@@ -31,6 +31,8 @@ pub struct Solver<'s, T, G> {
     pub book: Option<&'s Book>,
     /// The command, the scoring, and the lawful numbers of workers and cells.
     pub settings: Lawful,
+    /// What was found of the last boards.
+    pub recent: Recent,
 }
 
 impl<'s, T: Threads + Sync, G: Gate> Solver<'s, T, G> {
@@ -44,8 +46,28 @@ impl<'s, T: Threads + Sync, G: Gate> Solver<'s, T, G> {
         self.answer_by(board, self.book)
     }
 
-    // As `answer_of`, by this book.
+    // As `answer_of`, by this book. What was found lately is not searched again.
     fn answer_by(&self, board: &Board, book: Option<&Book>) -> Result<Answer, TooManyEmpties>
+        ensures refused { IsErr result ↔ (30 < empty_count board.now) }
+        ensures counted { IfErr result (λ e. e.empties ≡ empty_count board.now) }
+        ensures board { IfOk result (λ a. a.board ≡ board.now) }
+        ensures scoring { IfOk result (λ a. a.scoring ≡ self.now.settings.scoring) }
+    {
+        let empties = board.empties();
+        if empties > MOST_EMPTIES {
+            return Err(TooManyEmpties { empties });
+        }
+        let scoring = self.settings.get().scoring;
+        if let Some(answer) = self.recent.answer_of(board, scoring) {
+            return Ok(answer);
+        }
+        let answer = self.found(board, book)?;
+        self.recent.keep_answer(&answer);
+        Ok(answer)
+    }
+
+    // As `answer_by`, whatever was found lately.
+    fn found(&self, board: &Board, book: Option<&Book>) -> Result<Answer, TooManyEmpties>
         ensures refused { IsErr result ↔ (30 < empty_count board.now) }
         ensures counted { IfErr result (λ e. e.empties ≡ empty_count board.now) }
         ensures board { IfOk result (λ a. a.board ≡ board.now) }
@@ -176,7 +198,10 @@ impl<'s, T: Wait + Threads + Sync, G: Gate> Solver<'s, T, G> {
         self.gate.awaits(board);
         let scoring = self.settings.get().scoring;
         match jobs.answer_of(self.rt, board) {
-            Some(answer) if answer.scoring == scoring => Ok(answer),
+            Some(answer) if answer.scoring == scoring => {
+                self.recent.keep_answer(&answer);
+                Ok(answer)
+            }
             _ => self.answer_of(board),
         }
     }
@@ -198,9 +223,19 @@ impl<'s, T: Wait + Threads + Sync, G: Gate> Solver<'s, T, G> {
         }
         self.gate.awaits(board);
         let scoring = self.settings.get().scoring;
+        if let Some(scores) = self.recent.scores_of(board, scoring) {
+            return Ok(scores_line(&scores));
+        }
         match jobs.scores_of(self.rt, board) {
-            Some(scores) if scores.answer.scoring == scoring => Ok(scores_line(scores)),
-            _ => Ok(scores_line(&self.scores_of(board)?)),
+            Some(scores) if scores.answer.scoring == scoring => {
+                self.recent.keep_scores(scores);
+                Ok(scores_line(scores))
+            }
+            _ => {
+                let scores = self.scores_of(board)?;
+                self.recent.keep_scores(&scores);
+                Ok(scores_line(&scores))
+            }
         }
     }
 }

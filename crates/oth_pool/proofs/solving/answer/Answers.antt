@@ -13,14 +13,14 @@ passed-requires-clause-some g c =
     (can_move-from_none c.args.by_book.now.board _ c.moves.ensures c.if-moves-eq0.true)
     (is_over-false c.args.by_book.now.board (sym c.is_over.ensures ∙ c.if-is_over.false))
 
-pub answer_moves-answer-requires-clause-some : goal.answer_moves-answer-requires-clause-some
-answer_moves-answer-requires-clause-some g c = λ κs within.
+pub answer_passed-answer-requires-clause-some : goal.answer_passed-answer-requires-clause-some
+answer_passed-answer-requires-clause-some g c = λ κs within.
     can_move-after_pass c.args.by_book.now.board _ c.passed.ensures.board
     (can_move-from_none c.args.by_book.now.board _ c.moves.ensures c.if-moves-eq0.true)
     (is_over-false c.args.by_book.now.board (sym c.is_over.ensures ∙ c.if-is_over.false))
 
-pub answer_moves-answer-requires-clause-few : goal.answer_moves-answer-requires-clause-few
-answer_moves-answer-requires-clause-few g c = omega (arith, c.requires.few, ap empty_count c.passed.ensures.board, empty_count-pass c.args.by_book.now.board)
+pub answer_passed-answer-requires-clause-few : goal.answer_passed-answer-requires-clause-few
+answer_passed-answer-requires-clause-few g c = omega (arith, c.requires.few, ap empty_count c.passed.ensures.board, empty_count-pass c.args.by_book.now.board)
 
 pub before_pass-requires-clause-none : goal.before_pass-requires-clause-none
 before_pass-requires-clause-none g c = can_move-from_none c.args.by_book.now.board _ c.moves.ensures c.if-moves-eq0.true

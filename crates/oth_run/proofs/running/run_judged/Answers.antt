@@ -30,8 +30,8 @@ returns-in-Ok-clause-bytes g c =
     rw (sym c.in_ok-lawful.ensures.same)
     (ended.0, _, ended.1, written_report (reply c.in_ok-lawful.lawful) _ _ ended.0 (c.in-Ok.ensures.ok _ _ _ _ so_far.lines.held so_far.gathered), refl, judged)
 
-pub returns-in-Err-clause-bytes : goal.returns-in-Err-clause-bytes
-returns-in-Err-clause-bytes g c =
+pub returns-clause-bytes : goal.returns-clause-bytes
+returns-clause-bytes g c =
     let ended = c.in_ok-run_ended.ensures.bytes in
     let so_far = up_to_waiting _ _ _ _ _ _ c.in_ok-run_ended.ensures.empty ended.2 in
     let part = written_beginning (reply c.in_ok-lawful.lawful) _ _ ended.0 (c.in-Err.ensures.err _ _ _ _ so_far.lines.held so_far.gathered) in

@@ -1,5 +1,5 @@
 use Rattle.std.proofs.Common.{rules}
-use Rattle.oth_run.proofs.solver.Solver.answer_by.Goals as goal
+use Rattle.oth_run.proofs.solver.Solver.found.Goals as goal
 
 pub returns-in-Err-clause-refused : goal.returns-in-Err-clause-refused
 returns-in-Err-clause-refused g c = search rules

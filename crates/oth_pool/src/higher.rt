@@ -1,0 +1,145 @@
+//! Where the search of a board begins whose score seems to be higher than its moves are known to reach.
+//!
+//! A book may have the board after a move that was played, and that move may be far from the best. A search that begins
+//! at what it gives finds many better moves one after the other. So a guess is made as if nothing were known, and where
+//! it is higher, the moves are asked at it first; of what is known has then only that some moves give no more.
+ghost use Rattle.std.specs.Prelude.{◌≡◌, IfSome};
+ghost use Rattle.oth_search.specs.Bounds.Interval.{IsThreshold};
+
+use crate::tuning::{HIGHER_BY, HIGHER_MIN_EMPTIES};
+use arrayvec::ArrayVec;
+use oth_search::{Cells, RootMoves, RootPeers, Solved, first_threshold};
+
+/// The moves of a root of which is known only that some give no more than this, and the threshold of the guess.
+#[derive(Drop)]
+pub(crate) struct Higher {
+    pub moves: RootMoves,
+    first: i8,
+    ghost threshold: { IsThreshold first },
+}
+
+/// Asks the boards after the moves at a guess, where the score seems to be higher than the moves are known to reach,
+/// and takes in what that finds. Never inlined, so that its list is not on the stack of other searches.
+#[inline(never)]
+pub(crate) fn ask_higher<C: Cells, P: RootPeers<C>>(
+    moves: &mut RootMoves,
+    cells: &mut C,
+    peers: &mut P,
+)
+    ensures root { moves.new ≡ moves.old }
+    ensures fixed { C.fixed cells.new ≡ C.fixed cells.old }
+{
+    if !may_be_higher(moves) {
+        return;
+    }
+    let Some(mut higher) = seems_higher(moves, cells, peers) else {
+        return;
+    };
+    ask_down_to(&mut higher, -moves.best(), cells, peers);
+    moves.take_in(higher.moves.as_slice());
+}
+
+/// Whether a guess may pay: the moves are known to reach some score, and enough squares are empty that the guess is a
+/// small part of the search.
+pub(crate) fn may_be_higher(moves: &RootMoves) -> bool {
+    moves.root().board.empties() >= HIGHER_MIN_EMPTIES && moves.best() > -64
+}
+
+/// Where the score seems to be higher than the moves are known to reach, these moves with what is known of the most
+/// that each gives.
+pub(crate) fn seems_higher<C: Cells, P: RootPeers<C>>(
+    moves: &RootMoves,
+    cells: &mut C,
+    peers: &mut P,
+) -> Option<Higher>
+    ensures root { IfSome result (λ h. h.moves ≡ moves.now) }
+    ensures fixed { C.fixed cells.new ≡ C.fixed cells.old }
+{
+    let mut moves_at_most = with_most(moves);
+    let first = first_threshold(&mut moves_at_most, cells, peers);
+    if first.saturating_add(HIGHER_BY) >= -moves.best() {
+        return None;
+    }
+    Some(Higher {
+        moves: moves_at_most,
+        first,
+    })
+}
+
+// These moves with what is known of the most that each gives: of the boards after them the lower bounds alone.
+fn with_most(moves: &RootMoves) -> RootMoves
+    ensures { result ≡ moves.now }
+{
+    let root = moves.root();
+    let mut known = ArrayVec::<Solved, 64>::new();
+    for root_move in moves.as_slice() {
+        let child = root_move.child;
+        if let Some(wider) = child.widen(child.interval.lower, 64) {
+            let _ = known.try_push(wider);
+        }
+    }
+    let unknown = Solved::unknown(root.board, root.scoring);
+    RootMoves::of(&unknown, known.as_slice())
+}
+
+// Asks the boards after the moves at the guess, and where none has so little at thresholds ever further above it, while
+// these are below `known`.
+fn ask_down_to<C: Cells, P: RootPeers<C>>(
+    higher: &mut Higher,
+    known: i8,
+    cells: &mut C,
+    peers: &mut P,
+)
+    ensures root { higher.new.moves ≡ higher.old.moves }
+    ensures fixed { C.fixed cells.new ≡ C.fixed cells.old }
+{
+    for above in [0, 2, 6, 14, 30, 62] {
+        let most = threshold_above(higher.first, above);
+        if most >= known || ask_each(&mut higher.moves, most, cells, peers) {
+            return;
+        }
+    }
+}
+
+// The threshold this far above the first one, at most 63.
+fn threshold_above(first: i8, above: i8) -> i8
+    ensures { IsThreshold result }
+{
+    let at = first.saturating_add(above);
+    if at < -64 {
+        -64
+    } else if at > 63 {
+        63
+    } else {
+        at
+    }
+}
+
+// Asks each board after a move whether it has at most `most`, until one has. Returns whether one has.
+fn ask_each<C: Cells, P: RootPeers<C>>(
+    moves: &mut RootMoves,
+    most: i8,
+    cells: &mut C,
+    peers: &mut P,
+) -> bool
+    requires { IsThreshold most }
+    ensures root { moves.new ≡ moves.old }
+    ensures fixed { C.fixed cells.new ≡ C.fixed cells.old }
+{
+    for place in 0..moves.len() {
+        let Some(known) = moves.get(place) else {
+            continue;
+        };
+        if known.child.interval.lower > most {
+            continue;
+        }
+        peers.before(&known);
+        let found = peers.decide(&known, most, cells);
+        moves.narrow(place, &found);
+        peers.after(&known, &*moves);
+        if found.interval.upper <= most {
+            return true;
+        }
+    }
+    false
+}
