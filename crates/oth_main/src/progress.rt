@@ -169,6 +169,10 @@ impl Gate for Progress {
         }
     }
 
+    fn hears(&self) -> bool {
+        self.is_shown
+    }
+
     fn follows(&self) -> bool {
         self.is_shown
     }

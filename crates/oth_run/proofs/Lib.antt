@@ -2,3 +2,4 @@ pub mod CutLemmas
 pub mod GatherLemmas
 pub mod ReplyLemmas
 pub mod GameLemmas
+pub mod EndLemmas

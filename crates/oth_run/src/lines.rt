@@ -2,6 +2,8 @@
 
 ghost use Rattle.std.specs.Prelude.{◌≡◌, ◌≢◌, ◌<◌, [], ◌∷◌, ◌++◌, All, length, slice_index, take, IfSome, IfNone};
 
+use memchr::memchr;
+
 /// The first line, without the byte 10 that ends it, and what follows it.
 pub fn split_line(bytes: &[u8]) -> Option<(&[u8], &[u8])>
     ensures joined { IfSome result (λ r. bytes.now ≡ (r.0.now ++ 10 ∷ []) ++ r.1.now) }
@@ -19,10 +21,5 @@ fn line_end(bytes: &[u8]) -> Option<usize>
     ensures before { IfSome result (λ n. All (λ b. b ≢ 10) (take n bytes.now)) }
     ensures none { IfNone result (All (λ b. b ≢ 10) bytes.now) }
 {
-    for i in 0..bytes.len() {
-        if bytes[i] == b'\n' {
-            return Some(i);
-        }
-    }
-    None
+    memchr(b'\n', bytes)
 }
