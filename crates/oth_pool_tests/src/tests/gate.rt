@@ -103,12 +103,13 @@ fn the_gate_hears_each_item_once_from_one_worker(rt: HostRuntime) {
     assert!(rt; gate.heard_once(12));
 }
 
-// How many searches began and ended, the sum of the items' numbers, and of how many boards there were how many items.
+// How many searches began and ended, the sums of the items' weights, and of how many boards there were how many items.
 #[derive(Drop)]
 pub(super) struct Counting {
     begun: AtomicU64,
     ended: AtomicU64,
-    numbers: AtomicU64,
+    weights_begun: AtomicU64,
+    weights_ended: AtomicU64,
     boards: AtomicU64,
     promised: AtomicU64,
 }
@@ -118,29 +119,44 @@ impl Counting {
         Counting {
             begun: AtomicU64::new(0),
             ended: AtomicU64::new(0),
-            numbers: AtomicU64::new(0),
+            weights_begun: AtomicU64::new(0),
+            weights_ended: AtomicU64::new(0),
             boards: AtomicU64::new(0),
             promised: AtomicU64::new(0),
         }
     }
 
-    // Whether it heard of this number of boards, and of each of their items, by number and sum, once.
-    pub(super) fn heard_all(&self, boards: u64, items: u64, numbers: u64) -> bool {
+    // Whether it heard of this number of boards, and of each of their items, by number and weights, once.
+    pub(super) fn heard_all(&self, boards: u64, items: u64, weights: u64) -> bool {
         self.boards.load(Ordering::SeqCst) == boards
             && self.promised.load(Ordering::SeqCst) == items
             && self.begun.load(Ordering::SeqCst) == items
             && self.ended.load(Ordering::SeqCst) == items
-            && self.numbers.load(Ordering::SeqCst) == numbers
+            && self.weights_begun.load(Ordering::SeqCst) == weights
+            && self.weights_ended.load(Ordering::SeqCst) == weights
     }
 }
 
-// The number of items of the board, and the sum of their numbers.
+// A number of the item's own, so that sums tell which items there were, though boards that are searched side by side
+// have items of the same numbers.
+fn weight(task: u32) -> u64 {
+    let mixed = u64::from(task)
+        .wrapping_add(1)
+        .wrapping_mul(0x9e37_79b9_7f4a_7c15);
+    mixed ^ (mixed >> 29)
+}
+
+// The number of items of the board, and the sum of their weights.
 pub(super) fn items_of(board: &Board) -> (u64, u64) {
     if board.empties() > 30 {
         return (0, 0);
     }
-    let items = u64::from(Frontier::of(board, 2).len());
-    (items, items.saturating_mul(items.saturating_sub(1)) / 2)
+    let items = Frontier::of(board, 2).len();
+    let mut weights = 0u64;
+    for task in 0..items {
+        weights = weights.wrapping_add(weight(task));
+    }
+    (u64::from(items), weights)
 }
 
 impl Gate for Counting {
@@ -151,11 +167,12 @@ impl Gate for Counting {
 
     fn before(&self, task: u32) {
         self.begun.fetch_add(1, Ordering::SeqCst);
-        self.numbers.fetch_add(u64::from(task), Ordering::SeqCst);
+        self.weights_begun.fetch_add(weight(task), Ordering::SeqCst);
     }
 
-    fn after(&self, _task: u32) {
+    fn after(&self, task: u32) {
         self.ended.fetch_add(1, Ordering::SeqCst);
+        self.weights_ended.fetch_add(weight(task), Ordering::SeqCst);
     }
 }
 
@@ -266,9 +283,9 @@ fn each_crew_announces_each_item_once(rt: HostRuntime) {
 fn one_worker_announces_as_many_items_as_the_frontier_has(rt: HostRuntime) {
     for words in [A, B, C, CORNERS, BOARDS[0]] {
         let gate = Counting::new();
-        let (items, numbers) = items_of(&board_of(&rt, words));
+        let (items, weights) = items_of(&board_of(&rt, words));
         assert!(rt; alone(&rt, rt.alloc(), words, &gate).is_some());
-        assert!(rt; gate.heard_all(1, items, numbers));
+        assert!(rt; gate.heard_all(1, items, weights));
     }
 }
 

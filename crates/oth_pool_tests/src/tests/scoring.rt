@@ -1,6 +1,6 @@
 //! The scores of all moves by every crew and table.
 
-use super::crews::BOARDS;
+use super::crews::{BOARDS, TABLES, WITH_PASSES};
 use super::fixtures::board_of;
 use super::gate::{Counting, items_of};
 use super::{A, B, C, CORNERS, answered};
@@ -170,6 +170,29 @@ fn crews_score_a_board_apart_and_together(rt: HostRuntime) {
     check_scores(&rt, &root, 16, 4_096, Scoring::Winner);
 }
 
+// The numbers of boards that are searched for the scores of the root's moves and of their items, and the sum of the
+// items' weights: of the boards after its moves, or where its mover must pass of the board itself.
+fn searched_below(root: &Board) -> (u64, u64, u64) {
+    if !root.can_move() {
+        let (items, weights) = items_of(root);
+        return (1, items, weights);
+    }
+    let (mut boards, mut all, mut sum) = (0u64, 0u64, 0u64);
+    for number in 0..64 {
+        let Some(child) = root.play(Square::numbered(number)) else {
+            continue;
+        };
+        if child.is_over() {
+            continue;
+        }
+        let (items, weights) = items_of(&child);
+        boards = boards.wrapping_add(1);
+        all = all.wrapping_add(items);
+        sum = sum.wrapping_add(weights);
+    }
+    (boards, all, sum)
+}
+
 // Fails unless the gate of `scores` hears of each board after a move that has items, and of each of its items once.
 pub(super) fn check_heard<R: Threads + Sync + AllocGlobal + Abort>(
     rt: &R,
@@ -191,23 +214,20 @@ pub(super) fn check_heard<R: Threads + Sync + AllocGlobal + Abort>(
         Scoring::Winner,
     );
     assert!(rt; found.is_ok());
-    let (mut boards, mut all, mut sum) = (0u64, 0u64, 0u64);
-    for number in 0..64 {
-        let Some(child) = root.play(Square::numbered(number)) else {
-            continue;
-        };
-        if child.is_over() {
-            continue;
-        }
-        let (items, numbers) = items_of(&child);
-        boards = boards.saturating_add(1);
-        all = all.saturating_add(items);
-        sum = sum.saturating_add(numbers);
-    }
+    let (boards, items, weights) = searched_below(root);
     assert!(rt;
-        gate.heard_all(boards, all, sum),
+        gate.heard_all(boards, items, weights),
         "{workers} workers, {cells} cells"
     );
+}
+
+// It does so by each crew and over each table.
+fn check_heard_by_crews<R: Threads + Sync + AllocGlobal + Abort>(rt: &R, root: &Board) {
+    for workers in [1, 2, 4, 16] {
+        for cells in TABLES {
+            check_heard(rt, root, workers, cells, None);
+        }
+    }
 }
 
 #[test]
@@ -216,11 +236,12 @@ fn the_gate_hears_each_item_below_each_move_once(rt: HostRuntime) {
         let Some(root) = least_moves_from(board_of(&rt, BOARDS[0]), empties) else {
             panic!(rt; "no line")
         };
-        for workers in [1, 2, 16] {
-            check_heard(&rt, &root, workers, 0, None);
-            check_heard(&rt, &root, workers, 4_096, None);
-        }
+        check_heard_by_crews(&rt, &root);
     }
+    for words in WITH_PASSES {
+        check_heard_by_crews(&rt, &board_of(&rt, words));
+    }
+    check_heard_by_crews(&rt, &board_of(&rt, WITH_PASSES[0]).pass());
 }
 
 // Two threads take the boards after the moves from one queue, a thousand times.
