@@ -180,7 +180,7 @@ fn hints_alone_settle_no_move(rt: HostRuntime) {
                 &[],
             ).as_slice()
             {
-                seat.settle(root_move.square);
+                seat.note_settled(root_move.square);
             }
             let bounds = bounds_of(&rt, &root);
             check_settled_beside(&rt, *words, sharing, &hints, &bounds);
@@ -225,7 +225,7 @@ fn a_move_that_may_be_as_good_as_the_floor_is_not_settled(rt: HostRuntime) {
     };
     worker.update(b1, &as_good);
     assert!(rt; !worker.is_settled(b1));
-    HintSeat::of(&hints).settle(b1);
+    HintSeat::of(&hints).note_settled(b1);
     assert!(rt; !worker.is_settled(b1));
     worker.update(b1, &found);
     assert!(rt; worker.is_settled(b1));
@@ -283,10 +283,10 @@ fn moves_are_settled_one_by_one(rt: HostRuntime) {
     assert!(rt; theirs.settled() == 0);
     for number in 0..64 {
         let square = Square::numbered(number);
-        assert!(rt; !theirs.is_settled(square));
-        mine.settle(square);
-        mine.settle(square);
-        assert!(rt; theirs.is_settled(square));
+        assert!(rt; !theirs.seems_settled(square));
+        mine.note_settled(square);
+        mine.note_settled(square);
+        assert!(rt; theirs.seems_settled(square));
         assert!(rt; theirs.settled() == u64::MAX >> (63 - u32::from(number)));
     }
 }
@@ -296,7 +296,7 @@ fn settle_each(hints: &Option<Hints>, is_falling: bool) {
     let mut seat = HintSeat::of(hints);
     for number in 0..64 {
         let number = if is_falling { 63 - number } else { number };
-        seat.settle(Square::numbered(number));
+        seat.note_settled(Square::numbered(number));
     }
 }
 
@@ -320,10 +320,10 @@ fn without_hints_nothing_is_told(rt: HostRuntime) -> Result<(), Fail> {
     let board = board_of(&rt, BOARDS[0]);
     let square = Square::numbered(3);
     seat.begin(&board);
-    seat.settle(square);
+    seat.note_settled(square);
     seat.keep_order(&board, MoveOrder::of(&[square]));
     assert!(rt; !seat.is_searched(&board));
-    assert!(rt; !seat.is_settled(square) && seat.settled() == 0);
+    assert!(rt; !seat.seems_settled(square) && seat.settled() == 0);
     assert!(rt; seat.order_of(&board).is_none());
     Ok(())
 }
