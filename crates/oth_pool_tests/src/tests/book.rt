@@ -19,10 +19,10 @@ use std::thread::Threads;
 const IMAGE: [u64; 2] = [0x10, 0xffff_ffff_ffff_ff2e];
 
 // A with the other side to move, which must pass.
-const PASSING: [u64; 2] = [0xffff_ffff_ffff_ff74, 8];
+pub(super) const PASSING: [u64; 2] = [0xffff_ffff_ffff_ff74, 8];
 
 // The book of the board's answer.
-fn exact_book(alloc: Global, words: [u64; 2], scoring: Scoring) -> Option<Book> {
+pub(super) fn exact_book(alloc: Global, words: [u64; 2], scoring: Scoring) -> Option<Book> {
     let answer = solve_alone(&board(words)?, scoring).ok()?;
     let mut book = Book::new(alloc, scoring);
     if book.add(&answer) == Ok(Added::New) {

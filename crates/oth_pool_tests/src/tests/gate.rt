@@ -241,6 +241,9 @@ fn check_heard_by<R: Threads + Sync + AllocGlobal + Abort>(
 
 // Whether a side must pass in the first two plies, so that the root's mover isn't to move two plies below.
 fn passes_below(root: &Board) -> bool {
+    if root.empties() > 30 {
+        return false;
+    }
     let frontier = Frontier::of(root, 2);
     for number in 0..frontier.len() {
         if frontier.entry(number).is_some_and(|item| !item.same_mover) {

@@ -1,20 +1,19 @@
 //! Moves of which a book has the board after them: that board is not searched, and the answer is the same.
 
+use super::book::{PASSING, exact_book};
 use super::crews::{BOARDS, WITH_PASSES};
 use super::fixtures::{answer_of, board_of};
 use super::gate::Hearing;
 use super::{A, B};
-use oth_book::{Added, Book};
+use oth_book::Book;
 use oth_pool::{Frontier, Gate, Open, solve};
-use oth_rules::samples::{board, least_moves_from};
+use oth_rules::samples::least_moves_from;
 use oth_rules::{Board, Scoring, Square};
-use oth_search::{Answer, Solved};
+use oth_search::{Answer, Solved, solve_alone};
+use std::alloc::Global;
 use std::process::Abort;
 use std::sync::atomic::{AtomicU64, Ordering};
 use std::thread::Threads;
-
-// A with the other side to move, which must pass.
-const PASSING: [u64; 2] = [0xffff_ffff_ffff_ff74, 8];
 
 // The book of the answers of the boards after the root's moves, but of the first `left_out` ones.
 fn book_of_replies<R: AllocGlobal + Abort>(
@@ -23,7 +22,15 @@ fn book_of_replies<R: AllocGlobal + Abort>(
     left_out: u8,
     scoring: Scoring,
 ) -> Book {
-    let mut book = Book::new(rt.alloc(), scoring);
+    let Some(book) = book_below(rt.alloc(), root, left_out, scoring) else {
+        panic!(rt; "no book")
+    };
+    book
+}
+
+// As `book_of_replies`; none where there is no memory.
+fn book_below(alloc: Global, root: &Board, left_out: u8, scoring: Scoring) -> Option<Book> {
+    let mut book = Book::new(alloc, scoring);
     let mut left = left_out;
     for number in 0..64 {
         let Some(child) = root.play(Square::numbered(number)) else {
@@ -33,12 +40,31 @@ fn book_of_replies<R: AllocGlobal + Abort>(
             left = left.saturating_sub(1);
             continue;
         }
-        if let Some(child) = board([child.own(), child.opp()]) {
-            let answer = answer_of(rt, &child, scoring);
-            assert!(rt; book.add(&answer).is_ok());
-        }
+        let answer = solve_alone(&child, scoring).ok()?;
+        book.add(&answer).ok()?;
     }
-    book
+    Some(book)
+}
+
+// The board is answered alike by these workers and cells with this book.
+fn check_with<R: Threads + Sync + AllocGlobal + Abort>(
+    rt: &R,
+    alone: &Answer,
+    book: &Book,
+    workers: u8,
+    cells: u32,
+) {
+    let found = solve(
+        rt,
+        rt.alloc(),
+        &alone.board,
+        workers,
+        cells,
+        &Open,
+        Some(book),
+        alone.scoring,
+    );
+    assert!(rt; found == Ok(*alone), "{workers} workers, {cells} cells");
 }
 
 // The root is answered alike with books of all boards after its moves, and of all but some.
@@ -47,20 +73,7 @@ fn check_root<R: Threads + Sync + AllocGlobal + Abort>(rt: &R, root: &Board, sco
     for left_out in [0, 1, 3] {
         let book = book_of_replies(rt, root, left_out, scoring);
         for (workers, cells) in [(1, 64), (2, 0), (4, 4_096), (16, 1)] {
-            let found = solve(
-                rt,
-                rt.alloc(),
-                root,
-                workers,
-                cells,
-                &Open,
-                Some(&book),
-                scoring,
-            );
-            assert!(rt;
-                found == Ok(alone),
-                "{left_out} left out, {workers} workers"
-            );
+            check_with(rt, &alone, &book, workers, cells);
         }
     }
 }
@@ -158,10 +171,10 @@ fn the_gate_hears_each_item_once_where_the_book_has_the_boards_after_moves(rt: H
 #[test]
 fn a_pass_to_a_board_of_the_book_is_not_searched(rt: HostRuntime) {
     for scoring in [Scoring::Winner, Scoring::Discs] {
-        let passed = answer_of(&rt, &board_of(&rt, A), scoring);
         let passing = answer_of(&rt, &board_of(&rt, PASSING), scoring);
-        let mut book = Book::new(rt.alloc(), scoring);
-        assert!(rt; book.add(&passed) == Ok(Added::New));
+        let Some(book) = exact_book(rt.alloc(), A, scoring) else {
+            panic!(rt; "no book")
+        };
         for workers in [1, 2] {
             let gate = Hearing::new();
             let board = &passing.board;
