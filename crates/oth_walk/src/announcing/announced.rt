@@ -65,15 +65,11 @@ impl Below {
 
 impl Announced {
     /// The items of this frontier of the board, or without one those two plies below it, of none of which the gate has
-    /// heard; no items where it hears of none. It hears that the search of the board begins.
+    /// heard. It hears that the search of the board begins.
     pub fn of<G: Gate>(board: &Board, frontier: Option<&Frontier>, gate: &G) -> Announced {
         let (root, _) = awake(*board);
         gate.begins(&root);
-        let below = if gate.hears() {
-            items_below(&root, frontier)
-        } else {
-            ArrayVec::new()
-        };
+        let below = items_below(&root, frontier);
         let items = match below.as_slice().last() {
             Some(last) => last.end(),
             None => 0,

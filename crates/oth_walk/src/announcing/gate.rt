@@ -26,8 +26,8 @@ pub trait Gate: Sync {
     /// a line before its answer is found or waited for; `solve` does not.
     fn awaits(&self, _board: &Board) {}
 
-    /// Whether the gate hears of the items and of how far the search is: by default it does. If not, none of `before`,
-    /// `after` and `goes_on` is called, and nothing is made for them.
+    /// Whether the gate hears of the items and of how far the search is: by default it does. If not, one worker calls
+    /// none of `before`, `after` and `goes_on`, and makes nothing for them.
     fn hears(&self) -> bool {
         true
     }
