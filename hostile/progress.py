@@ -39,8 +39,6 @@ WIDE, NARROW = 120, 40
 FAULTY = b"X\n"
 # What stands behind the count; a machine under load may take longer than a second for such a board too.
 COUNTED = r"(?:, \d+ s|: \d+ empty squares.*)"
-# How often the games of the examples stand in an analysis.
-GAMES_TIMES = 12
 
 
 class Said:
@@ -179,11 +177,11 @@ def counting(program, folder):
     book = file_of(folder, "made.book", ran([program, "book-add", "--workers", "4", empty], mixed, PATIENCE).wrote)
     two = ",".join(map(str, sorted(os.sched_getaffinity(0))[:2]))
     with open(f"{TOP}/examples/games.txt", "rb") as games:
-        games = games.read() * GAMES_TIMES
+        games = games.read()
     told = f"line {MANY // 2 + 1}: error 1"
     for words, given, shown, last, left in (
         ([program, "solve"], board_lines(SEED, MANY, BY_ONE), line, MANY, []),
-        ([program, "analyse", "--last", "16"], games, line, games.count(b"\n"), []),
+        ([program, "analyse", "--last", "20"], games, line, games.count(b"\n"), []),
         ([program, "book-add", "--workers", "2", empty], mixed, line, MANY + 1, [told]),
         (["taskset", "-c", two, program, "book-verify", book], b"", entry, MANY, []),
     ):

@@ -123,18 +123,10 @@ def steps(crates):
                 yield f"{test}: holds whichever request is refused", wrong
             if crate == "oth_pool_tests":
                 yield "64 cells take more requests than none, by more than the table alone takes", table(counts)
-            if crate == "oth_run_tests":
-                yield "a run over 64 cells takes more requests than one without", run_cells(counts)
-
-
-def run_cells(counts):
-    """Tells what is wrong with the numbers of requests of a run, if anything."""
-    over, without = counts["a_run_over_64_cells"], counts["a_run_without_cells"]
-    return None if over > without else f"{over} requests over 64 cells, {without} without"
 
 
 def table(counts):
     """Tells what is wrong with the numbers of requests, if anything."""
-    more = counts["a_over_64_cells"] - counts["a_without_cells"]
+    more = counts["workers_together_over_64_cells"] - counts["workers_together_without_cells"]
     alone = counts["a_table_of_64_cells"]
     return None if more > alone else f"{more} requests more, the table alone {alone}"

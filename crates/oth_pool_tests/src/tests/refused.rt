@@ -45,7 +45,6 @@ fn check_a<R: Threads + Sync + AllocGlobal + Abort>(rt: &R, cells: u32) {
     assert!(rt; found.is_some_and(|(score, best, _)| score == -50 && best == 0x80));
 }
 
-// `hostile/refusals.py` compares how many requests this test and the next two make.
 #[test]
 fn a_without_cells(rt: HostRuntime) {
     check_a(&rt, 0);
@@ -87,6 +86,7 @@ fn check_together<R: Threads + Sync + AllocGlobal + Abort>(rt: &R, cells: u32) {
     assert!(rt; found == Ok(alone));
 }
 
+// `hostile/refusals.py` compares how many requests this test, the next one and `a_table_of_64_cells` make.
 #[test]
 fn workers_together_without_cells(rt: HostRuntime) {
     check_together(&rt, 0);

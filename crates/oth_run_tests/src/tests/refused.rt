@@ -24,7 +24,6 @@ fn a_run_writes_the_same_report(rt: HostRuntime) {
     check_run(&rt, 1);
 }
 
-// `hostile/refusals.py` compares how many requests this test and the next one make.
 #[test]
 fn a_run_without_cells(rt: HostRuntime) {
     check_run(&rt, 0);
