@@ -5,18 +5,36 @@
 
 PROGRAM is a built `othsolve`, BOARDS a file of board lines, thousands of each number of empty squares, so that the start of a process
 counts for little, and each board once, since a reference may remember it. REFERENCE is a command that reads board lines and writes report
-lines. Each is run RUNS times (5 if not given), all in turn, of which the least seconds count. The exit status is 1 where answers differ.
+lines. Each command is run RUNS times (5 if not given), all in turn, of which the least seconds count. Three tables are printed: `solve` by
+the number of empty squares; all boards mixed, by `solve`, `scores`, `solve --book` and `book-add` (for the two of a book its first lines);
+and one line at a time, each answered before the next is written, of which the median counts. The exit status is 1 where answers differ.
 """
 import argparse
 import functools
+import pathlib
+import random
 import shlex
+import statistics
+import subprocess
 import sys
+import tempfile
+import time
 
 import timing
 
 WORKERS = (1, 2, 4, 16)
 REFERENCE = "reference"
 MICROSECONDS = 1e6
+SEED = 20261129
+# Lines whose boards a book has.
+IN_BOOK = 20_000
+# Lines of each number of empty squares that are given one at a time.
+ONE_BY_ONE = 400
+EMPTY_BOOK = b"OBOOK2 W\nEND 000000\n"
+
+
+class Differs(Exception):
+    """Two runs over one input have written different answers."""
 
 
 def boards_by_empties(name):
@@ -28,19 +46,91 @@ def boards_by_empties(name):
     return dict(sorted(lines.items()))
 
 
+def workers_of(number):
+    """Names a number of workers."""
+    return f"{number} worker{'s' * (number > 1)}"
+
+
+def by_workers(program, command, *behind):
+    """Returns the words of a command for each number of workers, by its name."""
+    return {workers_of(number): [program, command, "--workers", str(number), *behind] for number in WORKERS}
+
+
 def solved(command, given):
     """Tells what the command writes for these lines, and the wall-clock seconds that it took."""
     run = timing.timed(command, input=given)
     return run.wrote, (run.clock,)
 
 
-def measured(commands, given, runs):
-    """Returns the least seconds of each command, or None where their answers differ."""
-    series = timing.Series({name: functools.partial(solved, command, given) for name, command in commands.items()})
+def answered_in_turn(command, lines):
+    """Tells what the command writes for these lines, each given when the one before is answered, and the median of the seconds."""
+    wrote, seconds = [], []
+    with subprocess.Popen(command, stdin=subprocess.PIPE, stdout=subprocess.PIPE, bufsize=0) as process:
+        for line in lines:
+            began = time.monotonic()
+            process.stdin.write(line)
+            wrote.append(process.stdout.readline())
+            seconds.append(time.monotonic() - began)
+        process.stdin.close()
+    return b"".join(wrote), (statistics.median(seconds),)
+
+
+def measured(run, commands, given, runs):
+    """Returns the least seconds of each command, run over what is given."""
+    series = timing.Series({name: functools.partial(run, command, given) for name, command in commands.items()})
     for _ in range(runs):
         if len(set(series.round().values())) > 1:
-            return None
+            raise Differs
     return {name: least for name, (least,) in series.least.items()}
+
+
+def print_head(name, columns):
+    """Prints the head of a table whose rows have such a name."""
+    print(f"| {name} |", " | ".join(columns), "|")
+    print("|---|" + "---|" * len(columns))
+
+
+def print_row(name, least, boards):
+    """Prints a row of microseconds a board."""
+    print(f"| {name} |", " | ".join(f"{seconds / boards * MICROSECONDS:.1f}" for seconds in least.values()), "|", flush=True)
+
+
+def by_empties(given, boards):
+    """Prints the table of `solve` by the number of empty squares."""
+    commands = by_workers(given.program, "solve")
+    if given.reference:
+        commands[REFERENCE] = given.reference
+    print_head("empty squares, `solve`", commands)
+    for empties, lines in boards.items():
+        print_row(empties, measured(solved, commands, b"".join(lines), given.runs), len(lines))
+
+
+def mixed(given, boards):
+    """Prints the table of all boards mixed."""
+    lines = [line for some in boards.values() for line in some]
+    random.Random(SEED).shuffle(lines)
+    first = b"".join(lines[:IN_BOOK])
+    with tempfile.TemporaryDirectory() as folder:
+        empty, book = pathlib.Path(folder, "empty.book"), pathlib.Path(folder, "some.book")
+        empty.write_bytes(EMPTY_BOOK)
+        book.write_bytes(timing.timed([given.program, "book-add", str(empty)], input=first).wrote)
+        rows = {
+            "`solve`": (by_workers(given.program, "solve"), lines),
+            "`scores`": (by_workers(given.program, "scores"), lines),
+            "`solve --book`, one line": (by_workers(given.program, "solve", "--book", str(book)), lines[:1]),
+            "`book-add`": (by_workers(given.program, "book-add", str(empty)), lines[:IN_BOOK]),
+        }
+        print_head("mixed", by_workers(given.program, "solve"))
+        for name, (commands, asked) in rows.items():
+            print_row(name, measured(solved, commands, b"".join(asked), given.runs), max(len(asked), 1) if len(asked) > 1 else IN_BOOK)
+
+
+def one_by_one(given, boards):
+    """Prints the table of lines that are given one at a time."""
+    commands = by_workers(given.program, "solve")
+    print_head("empty squares, one line at a time", commands)
+    for empties, lines in boards.items():
+        print_row(empties, measured(answered_in_turn, commands, lines[:ONE_BY_ONE], given.runs), 1)
 
 
 def words():
@@ -55,18 +145,14 @@ def words():
 
 def main():
     given = words()
-    commands = {f"{workers} worker{'s' * (workers > 1)}": [given.program, "solve", "--workers", str(workers)] for workers in WORKERS}
-    if given.reference:
-        commands[REFERENCE] = given.reference
-    print("| empty squares |", " | ".join(commands), "|")
-    print("|---|" + "---|" * len(commands))
-    for empties, lines in boards_by_empties(given.boards).items():
-        least = measured(commands, b"".join(lines), given.runs)
-        if least is None:
-            print(f"answers to boards of {empties} empty squares differ", file=sys.stderr)
-            return 1
-        each = [seconds / len(lines) * MICROSECONDS for seconds in least.values()]
-        print(f"| {empties} |", " | ".join(f"{microseconds:.1f}" for microseconds in each), "|", flush=True)
+    boards = boards_by_empties(given.boards)
+    try:
+        for table in (by_empties, mixed, one_by_one):
+            table(given, boards)
+            print()
+    except Differs:
+        print("answers differ", file=sys.stderr)
+        return 1
     return 0
 
 

@@ -3,6 +3,7 @@
 ghost use Rattle.std.specs.Prelude.{◌≡◌, IfSome};
 
 use crate::found::answer_by_image;
+use oth_book::Book;
 use oth_rules::{Board, Scoring};
 use oth_search::{Answer, Scores};
 use std::alloc::Global;
@@ -14,6 +15,8 @@ pub enum Asked {
     Answer,
     /// The score of each of its moves.
     Scores,
+    /// The answers of the boards of a game's last turns, of which it is the first board.
+    Game,
 }
 
 /// What boards have in common whose search is one: where answers are asked the discs of their canonical image, since
@@ -21,7 +24,7 @@ pub enum Asked {
 pub(crate) fn key_of(asked: Asked, board: &Board) -> (u64, u64) {
     let known = match asked {
         Asked::Answer => board.canonical().0,
-        Asked::Scores => *board,
+        Asked::Scores | Asked::Game => *board,
     };
     (known.own(), known.opp())
 }
@@ -31,6 +34,7 @@ pub(crate) fn key_of(asked: Asked, board: &Board) -> (u64, u64) {
 pub(crate) enum Found {
     Answer(Answer),
     Scores(Scores),
+    Known(Book),
 }
 
 impl Found {
@@ -64,6 +68,14 @@ impl Found {
             Some(scores)
         } else {
             None
+        }
+    }
+
+    /// The answers of the boards of a game's last turns, if those were asked.
+    pub(crate) fn known(&self) -> Option<&Book> {
+        match self {
+            Found::Known(book) => Some(book),
+            Found::Answer(_) | Found::Scores(_) => None,
         }
     }
 }

@@ -1,14 +1,17 @@
 //! What the boards of a batch are solved with, and all answers of a batch.
 
 ghost use Rattle.std.specs.Prelude.{◌≡◌, All, Contains, IfSome};
+ghost use Rattle.std.specs.Thread.{IsSync};
 
 use crate::asked::{Asked, Found};
 use crate::boards::Boards;
+use crate::games::known_by;
 use crate::jobs::Jobs;
 use oth_book::Book;
 use oth_pool::{Gate, scores, solve};
 use oth_rules::{Board, Scoring};
 use oth_search::{Answer, Scores};
+use oth_text::Turn;
 use std::alloc::Global;
 use std::thread::Threads;
 
@@ -65,8 +68,9 @@ impl<'b, R: Threads + Sync, G: Gate> Batch<'b, R, G> {
         answers
     }
 
-    // The answer of the board by one worker, if it has at most 30 empty squares and the cells are a lawful number.
-    fn answer_by_one(&self, board: &Board) -> Option<Answer>
+    // The answer of the board by one worker and this book, if it has at most 30 empty squares and the cells are a
+    // lawful number.
+    fn answer_by_one(&self, board: &Board, book: Option<&Book>) -> Option<Answer>
         ensures board { IfSome result (λ a. a.board ≡ board.now) }
         ensures scoring { IfSome result (λ a. a.scoring ≡ self.now.scoring) }
     {
@@ -77,7 +81,7 @@ impl<'b, R: Threads + Sync, G: Gate> Batch<'b, R, G> {
             1,
             self.cells,
             self.gate,
-            self.book,
+            book,
             self.scoring,
         );
         solved.ok()
@@ -93,11 +97,24 @@ impl<'b, R: Threads + Sync, G: Gate> Batch<'b, R, G> {
         scores(rt, alloc, board, 1, cells, self.gate, book, scoring).ok()
     }
 
-    // What is asked of the board, by one worker.
-    pub(crate) fn find(&self, asked: Asked, board: &Board) -> Option<Found> {
+    // The answers of the boards of these turns, by one worker.
+    fn known_of(&self, turns: &[Turn]) -> Book {
+        let nothing = Book::new(self.alloc, self.scoring);
+        known_by(
+            nothing,
+            turns,
+            |board: &Board, known: &Book| -> Option<Answer>
+                requires { IsSync R.row × IsSync G.row }
+            { self.answer_by_one(board, Some(known)) },
+        )
+    }
+
+    // What is asked of the board, by one worker; of a game, whose turns these are, of all of its boards.
+    pub(crate) fn find(&self, asked: Asked, board: &Board, turns: &[Turn]) -> Option<Found> {
         match asked {
-            Asked::Answer => Some(Found::Answer(self.answer_by_one(board)?)),
+            Asked::Answer => Some(Found::Answer(self.answer_by_one(board, self.book)?)),
             Asked::Scores => Some(Found::Scores(self.scores_of(board)?)),
+            Asked::Game => Some(Found::Known(self.known_of(turns))),
         }
     }
 }

@@ -3,7 +3,10 @@
 ghost use Rattle.std.specs.Prelude.{◌≤◌};
 
 use crate::asked::Asked;
-use crate::tuning::{ALL_WORKERS_MIN_EMPTIES, EFFORT_OF_A_THREAD, EMPTIES_FOR_SCORES, effort_of};
+use crate::tuning::{
+    ALL_WORKERS_MIN_EMPTIES, EFFORT_OF_A_THREAD, EMPTIES_FOR_SCORES, GAME_MAX_EMPTIES,
+    ONE_WORKER_MAX_EMPTIES, effort_of,
+};
 use oth_rules::Board;
 
 /// How long it takes to find what is asked of a board, in units of some 40 nanoseconds.
@@ -27,8 +30,16 @@ pub fn workers_for(asked: Asked, board: &Board, workers: u8) -> u8
 /// The empty squares of a board whose answer takes as long as what is asked of this one.
 pub(crate) fn empties_to_search(asked: Asked, board: &Board) -> u8 {
     match asked {
-        Asked::Answer => board.empties(),
+        Asked::Answer | Asked::Game => board.empties(),
         Asked::Scores => board.empties() + EMPTIES_FOR_SCORES,
+    }
+}
+
+/// The most empty squares of a board of which one worker finds what is asked.
+pub(crate) fn max_empties(asked: Asked) -> u8 {
+    match asked {
+        Asked::Answer | Asked::Scores => ONE_WORKER_MAX_EMPTIES,
+        Asked::Game => GAME_MAX_EMPTIES,
     }
 }
 

@@ -1,4 +1,5 @@
-//! Boards that wait together, solved or scored side by side, each by one worker; and the claims of a book, tested so.
+//! Boards that wait together, solved or scored side by side, each by one worker; the ends of games, each analysed so;
+//! and the claims of a book, tested so.
 //! How boards are shared out (`effort`, `tuning`) affects speed only: no answer depends on it.
 //!
 //! A collection of small boards keeps several workers busy only where each has a board of its own. Each `Answer` is
@@ -15,6 +16,7 @@ mod beside;
 mod boards;
 mod effort;
 mod found;
+mod games;
 mod jobs;
 mod recent;
 mod tuning;
@@ -25,6 +27,7 @@ pub use batch::Batch;
 pub use boards::Boards;
 pub use effort::workers_for;
 pub use found::answer_among;
+pub use games::known_by;
 pub use jobs::Jobs;
 pub use recent::Recent;
 pub use tuning::{MOST_BOARDS, ONE_WORKER_MAX_EMPTIES};

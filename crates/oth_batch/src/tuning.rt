@@ -8,6 +8,10 @@ pub const MOST_BOARDS: usize = 1_024;
 /// the answers behind it do not wait long.
 pub const ONE_WORKER_MAX_EMPTIES: u8 = 18;
 
+/// Empty squares of the first board of a game's last turns: up to here one worker analyses them while others analyse
+/// other games. The turns that are told where no number is given begin here.
+pub(crate) const GAME_MAX_EMPTIES: u8 = 20;
+
 /// Units of some 40 nanoseconds: the work that pays for a further thread, which takes some 0.3 milliseconds to start.
 pub(crate) const EFFORT_OF_A_THREAD: u64 = 1 << 13;
 

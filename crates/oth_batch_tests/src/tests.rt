@@ -1,5 +1,6 @@
 //! Boards that wait together are answered as one worker alone answers them.
 
+mod games;
 mod jobs;
 mod recent;
 mod refused;

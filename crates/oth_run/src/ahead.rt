@@ -5,11 +5,11 @@ ghost use Rattle.oth_rules.specs.Position.{empty_count};
 
 use crate::lines::split_line;
 use crate::solver::Solver;
-use oth_batch::{Asked, Batch, Boards, Jobs, Recent, answer_among};
+use oth_batch::{Asked, Batch, Boards, Jobs, MOST_BOARDS, Recent, answer_among};
 use oth_pool::Gate;
 use oth_rules::Board;
 use oth_search::{Answer, MOST_EMPTIES, TooManyEmpties};
-use oth_text::read_solvable;
+use oth_text::{AnalysisReader, Turn, read_solvable};
 use oth_words::Command;
 use std::alloc::Global;
 use std::thread::Threads;
@@ -94,29 +94,71 @@ pub(crate) fn recent_for(alloc: Global, command: Command) -> Recent {
     }
 }
 
-/// Makes jobs of the boards of the whole lines in `bytes`, up to a batch, but of those of which something was found
-/// lately. There are none where the command asks for no search, one worker is asked for or enough, or there is no
-/// memory.
+/// Makes jobs of the boards, or of the games, of the whole lines in `bytes`, up to a batch, but of those of which
+/// something was found lately. There are none where the command asks for no search, one worker is asked for or enough,
+/// or there is no memory.
 pub(crate) fn jobs_of_lines<'b, T: Threads + Sync, G: Gate>(
     batch: &'b Batch<'b, T, G>,
     recent: &Recent,
     command: Command,
     bytes: &[u8],
 ) -> Jobs<'b, T, G> {
-    let Some(asked) = asked_by(command) else {
-        return Jobs::none(&*batch);
+    let jobs = match command {
+        _ if batch.workers < 2 => None,
+        Command::Analyse(last) => {
+            Jobs::of_games(&*batch, games_of_lines(batch.alloc, recent, last, bytes))
+        }
+        _ => jobs_of_boards(batch, recent, command, bytes),
     };
-    if batch.workers < 2 {
-        return Jobs::none(&*batch);
-    }
-    let Ok(mut boards) = Boards::new(batch.alloc) else {
-        return Jobs::none(&*batch);
-    };
-    fill_with_lines(&mut boards, recent, bytes);
-    match Jobs::of(&*batch, asked, boards.as_slice()) {
+    match jobs {
         Some(jobs) => jobs,
         None => Jobs::none(&*batch),
     }
+}
+
+// Jobs of the boards of the whole lines in these bytes, as `jobs_of_lines`.
+fn jobs_of_boards<'b, T: Threads + Sync, G: Gate>(
+    batch: &'b Batch<'b, T, G>,
+    recent: &Recent,
+    command: Command,
+    bytes: &[u8],
+) -> Option<Jobs<'b, T, G>> {
+    let asked = asked_by(command)?;
+    let mut boards = Boards::new(batch.alloc).ok()?;
+    fill_with_lines(&mut boards, recent, bytes);
+    Jobs::of(&*batch, asked, boards.as_slice())
+}
+
+// The turns to be told of the games of the whole lines in these bytes, up to a batch, but of those whose first board's
+// answer was found lately, and of those for which there is no memory.
+fn games_of_lines(alloc: Global, recent: &Recent, last: u8, bytes: &[u8]) -> Vec<Vec<Turn>> {
+    let mut games = Vec::new(alloc);
+    let mut rest = bytes;
+    for _ in 0..bytes.len() {
+        let Some((line, others)) = split_line(rest) else {
+            break;
+        };
+        if let Some(turns) = turns_of_line(alloc, recent, last, line) {
+            if games.len() >= MOST_BOARDS || games.push(turns).is_err() {
+                break;
+            }
+        }
+        rest = others;
+    }
+    games
+}
+
+// The turns to be told of the game, if there are some, and memory for them, and the first board's answer wasn't found
+// lately. Never inlined, so that they are not on the stack while boards are searched.
+#[inline(never)]
+fn turns_of_line(alloc: Global, recent: &Recent, last: u8, line: &[u8]) -> Option<Vec<Turn>> {
+    let mut reader = AnalysisReader::new();
+    reader.push(line);
+    let turns = reader.turns(last);
+    if recent.has(&turns.first()?.before.board) {
+        return None;
+    }
+    turns.as_slice().to_vec(alloc).ok()
 }
 
 // Lets the boards of the whole lines in these bytes wait, up to a batch, but those of which something was found lately,

@@ -11,9 +11,19 @@ ghost use Rattle.oth_run.specs.Report.{next_number};
 
 use crate::solver::Solver;
 use crate::waiting::Waiting;
+use oth_batch::Jobs;
+use oth_book::Book;
 use oth_pool::Gate;
 use oth_text::{AnalysisReader, Failed, Losses, Sink, Turn, game_line, lost_line, turn_line};
+use std::sync::Wait;
 use std::thread::Threads;
+
+// Turns of a game, and what is known of their boards.
+#[derive(Clone, Copy)]
+struct Known<'t> {
+    turns: &'t [Turn],
+    book: &'t Book,
+}
 
 /// The line of a game that has begun, to be analysed from `last` empty squares on.
 #[derive(Drop)]
@@ -72,12 +82,13 @@ impl BegunGame {
         self.reader.fault().is_some()
     }
 
-    /// Adds the analysis of the game to what waits, without its last byte 10. Never inlined, so that its turns are not
-    /// on the stack while lines of other commands are answered.
+    /// Adds the analysis of the game to what waits, without its last byte 10. That of a game that is one of the jobs is
+    /// awaited. Never inlined, so that its turns are not on the stack while lines of other commands are answered.
     #[inline(never)]
-    pub fn tell<T: Threads + Sync, W: Sink, G: Gate>(
+    pub fn tell<T: Wait + Threads + Sync, W: Sink, G: Gate>(
         &self,
         solver: &Solver<'_, T, G>,
+        jobs: &Jobs<'_, T, G>,
         waiting: &mut Waiting,
         writer: &mut W,
     ) -> Result<(), Failed>
@@ -91,7 +102,10 @@ impl BegunGame {
         ensures fails { OnErr result (W.failed writer.new ≡ true) }
     {
         let turns = self.reader.turns(self.last);
-        let lost = self.tell_turns(turns.as_slice(), solver, waiting, writer)?;
+        let turns = turns.as_slice();
+        let book = solver.known_of(jobs, turns);
+        let known = Known { turns, book: &book };
+        let lost = self.tell_turns(known, solver, waiting, writer)?;
         self.tell_fault(waiting, writer)?;
         waiting.push_text(writer, lost_line(self.number, &lost).as_slice())
     }
@@ -99,28 +113,28 @@ impl BegunGame {
     // Adds the lines of the turns, and gives what both sides lost by them.
     fn tell_turns<T: Threads + Sync, W: Sink, G: Gate>(
         &self,
-        turns: &[Turn],
+        known: Known<'_>,
         solver: &Solver<'_, T, G>,
         waiting: &mut Waiting,
         writer: &mut W,
     ) -> Result<Losses, Failed>
-        requires few { All HasFewEmpties turns.now }
-        requires count { length turns.now ≤ 64 }
+        requires few { All HasFewEmpties known.turns.now }
+        requires count { length known.turns.now ≤ 64 }
         ensures ok { OnOk result (Gathers (W.contents writer.old) (W.contents writer.new)
             waiting.old.bytes.items waiting.new.bytes.items
-            (flat_map (turn_part self.now.number solver.now.settings.scoring) turns.now)) }
-        ensures lost { IfOk result (λ lost. (lost.black ≡ lost_by Black solver.now.settings.scoring turns.now)
-            × (lost.white ≡ lost_by White solver.now.settings.scoring turns.now)) }
+            (flat_map (turn_part self.now.number solver.now.settings.scoring) known.entry.turns.now)) }
+        ensures lost { IfOk result (λ lost. (lost.black ≡ lost_by Black solver.now.settings.scoring known.entry.turns.now)
+            × (lost.white ≡ lost_by White solver.now.settings.scoring known.entry.turns.now)) }
         ensures err { OnErr result (StopsInText (W.contents writer.old) (W.contents writer.new)
             waiting.old.bytes.items
-            (flat_map (turn_part self.now.number solver.now.settings.scoring) turns.now)) }
+            (flat_map (turn_part self.now.number solver.now.settings.scoring) known.entry.turns.now)) }
         ensures works { OnOk result (W.failed writer.new ≡ W.failed writer.old) }
         ensures fails { OnErr result (W.failed writer.new ≡ true) }
     {
-        let known = solver.known_of(turns);
+        let Known { turns, book } = known;
         let mut lost = Losses { black: 0, white: 0 };
         for turn in turns {
-            let judged = solver.judged(turn, &known);
+            let judged = solver.judged(turn, book);
             lost.add(&judged);
             waiting.push_line(writer, turn_line(self.number, &judged).as_slice())?;
         }

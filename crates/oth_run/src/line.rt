@@ -150,7 +150,7 @@ impl Line {
         ensures fails { OnErr result (W.failed writer.new ≡ true) }
     {
         if let Line::Analyse(game) = self {
-            return game.tell(solver, waiting, writer);
+            return game.tell(solver, jobs, waiting, writer);
         }
         waiting.push_text(writer, self.reply(solver, jobs).as_slice())
     }

@@ -1,17 +1,18 @@
 //! What boards are solved with.
 
 ghost use Rattle.std.specs.Prelude.{◌≡◌, ◌≤◌, ◌<◌, ◌↔◌, IsErr, IfOk, IfErr};
+ghost use Rattle.std.specs.Thread.{IsSync};
 ghost use Rattle.oth_rules.specs.Position.{empty_count};
 ghost use Rattle.oth_text.specs.Analysis.{HasFewEmpties};
 ghost use Rattle.oth_text.specs.Ranking.{scores_line_of};
 
 use crate::checking::Lawful;
 use arrayvec::ArrayVec;
-use oth_batch::{Asked, Batch, Jobs, Recent, workers_for};
+use oth_batch::{Asked, Batch, Jobs, Recent, known_by, workers_for};
 use oth_book::Book;
 use oth_pool::{Gate, scores, solve};
-use oth_rules::{Board, Square};
-use oth_search::{Answer, MOST_EMPTIES, Scores, Solved, TooManyEmpties};
+use oth_rules::Board;
+use oth_search::{Answer, MOST_EMPTIES, Scores, TooManyEmpties};
 use oth_text::{JudgedTurn, SCORES_LINE_LEN, Turn, scores_line};
 use oth_words::Settings;
 use std::alloc::Global;
@@ -85,32 +86,6 @@ impl<'s, T: Threads + Sync, G: Gate> Solver<'s, T, G> {
         }
     }
 
-    /// The answers of the boards before and after these turns, as a book, found from the last turn to the first: what
-    /// the board after a move is worth is at least the value of the one before it, which its search begins with. A
-    /// board for which there is no memory is left out.
-    pub fn known_of(&self, turns: &[Turn]) -> Book {
-        let mut known = Book::new(self.alloc, self.settings.get().scoring);
-        for at in 0..turns.len() {
-            self.learn(&turns[turns.len() - 1 - at], &mut known);
-        }
-        known
-    }
-
-    // Solves the boards after and before the turn by what is known, and adds them to that.
-    fn learn(&self, turn: &Turn, known: &mut Book) {
-        self.gate.awaits(&turn.after);
-        if let Ok(after) = self.answer_by(&turn.after, Some(&*known)) {
-            let _ = known.add(&after);
-            if let Some(square) = turn.played {
-                learn_least(known, &turn.before.board, square, &after);
-            }
-        }
-        self.gate.awaits(&turn.before.board);
-        if let Ok(before) = self.answer_by(&turn.before.board, Some(&*known)) {
-            let _ = known.add(&before);
-        }
-    }
-
     // The answer of a board that a search takes.
     fn answer_of_few(&self, board: &Board, known: &Book) -> Answer
         requires { empty_count board.now ≤ 30 }
@@ -179,6 +154,28 @@ impl<'s, T: Threads + Sync, G: Gate> Solver<'s, T, G> {
 }
 
 impl<'s, T: Wait + Threads + Sync, G: Gate> Solver<'s, T, G> {
+    /// The answers of the boards before and after these turns, as a book, found from the last turn to the first. If the
+    /// turns are those of a job, waits for the worker that has it, or takes the job; else solves the boards here. A
+    /// board for which there is no memory is left out.
+    pub fn known_of(&self, jobs: &Jobs<'_, T, G>, turns: &[Turn]) -> Book {
+        if let Some(turn) = turns.first() {
+            self.gate.awaits(&turn.before.board);
+        }
+        let found = jobs.known_of(self.rt, turns);
+        let nothing = Book::new(self.alloc, self.settings.get().scoring);
+        known_by(
+            nothing,
+            turns,
+            |board: &Board, known: &Book| -> Option<Answer>
+                requires { IsSync T.row × IsSync G.row }
+            {
+                self.gate.awaits(board);
+                let book = found.unwrap_or(known);
+                self.answer_by(board, Some(book)).ok()
+            },
+        )
+    }
+
     /// Returns the board's answer. If the board is a job, waits for the worker that has it, or takes the job; else
     /// solves the board here.
     pub fn awaited_answer_of(
@@ -237,13 +234,5 @@ impl<'s, T: Wait + Threads + Sync, G: Gate> Solver<'s, T, G> {
                 Ok(scores_line(&scores))
             }
         }
-    }
-}
-
-// Adds to what is known that the board is worth at least what the move to this square is, after which this is the
-// answer.
-fn learn_least(known: &mut Book, board: &Board, square: Square, after: &Answer) {
-    if let Ok(least) = Solved::lift(board, square, &Solved::of_answer(after)) {
-        let _ = known.add_bounds(&least);
     }
 }

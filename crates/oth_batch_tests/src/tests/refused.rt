@@ -1,5 +1,6 @@
 //! Whichever request for memory or threads is refused, what is answered is answered rightly.
 
+use super::games::{games, right_answers};
 use super::verifying::SIX;
 use super::{are_right, batch, images};
 use oth_batch::{Asked, Jobs, verify_by};
@@ -68,4 +69,23 @@ fn a_book_is_verified_or_memory_is_wanting(rt: HostRuntime) {
         },
         Err(fault) => assert!(rt; fault == BookFault::Memory),
     }
+}
+
+#[test]
+fn games_that_others_analyse_too(rt: HostRuntime) -> Result<(), Fail> {
+    let (Some(told), Some(given)) = (games(rt.alloc(), 10), games(rt.alloc(), 10)) else {
+        return Ok(());
+    };
+    let batch = batch(&rt, 2, 64, Scoring::Winner);
+    let Some(jobs) = Jobs::of_games(&batch, given) else {
+        return Ok(());
+    };
+    let mut work = || {
+        told.as_slice().iter().all(|turns| match jobs.known_of(&rt, turns.as_slice()) {
+            Some(known) => right_answers(known, turns.as_slice(), Scoring::Winner).is_some(),
+            None => turns.is_empty(),
+        })
+    };
+    assert!(rt; jobs.beside(&mut work));
+    Ok(())
 }

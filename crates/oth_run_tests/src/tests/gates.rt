@@ -267,6 +267,14 @@ struct Meeting {
 }
 
 impl Meeting {
+    fn new() -> Meeting {
+        Meeting {
+            first: AtomicU64::new(0),
+            others: AtomicU64::new(0),
+            given_up: AtomicU64::new(0),
+        }
+    }
+
     // Whether this is the board of the first search.
     fn is_first(&self, root: &Board) -> bool {
         let discs = root.own();
@@ -306,12 +314,43 @@ impl Gate for Meeting {
 fn two_boards_of_a_batch_are_searched_at_once(rt: HostRuntime) -> Result<(), Fail> {
     let boards = boards(rt.alloc())?;
     let input = lines(rt.alloc(), boards.as_slice())?;
-    let gate = Meeting {
-        first: AtomicU64::new(0),
-        others: AtomicU64::new(0),
-        given_up: AtomicU64::new(0),
-    };
+    let gate = Meeting::new();
     assert!(rt; run_with(&rt, input.as_slice(), &by_two(), &gate, None));
+    assert!(rt; gate.others.load(Ordering::SeqCst) == 1);
+    assert!(rt; gate.given_up.load(Ordering::SeqCst) == 0);
+    Ok(())
+}
+
+// A line for each board with its first legal move behind it.
+fn games(alloc: Global, boards: &[Board]) -> Result<Vec<u8>, Fail> {
+    let mut input = Vec::new(alloc);
+    for board in boards {
+        let position = Position {
+            board: *board,
+            mover: Side::Black,
+        };
+        let mut number = 0u8;
+        for other in 0..64 {
+            if board.play(Square::numbered(63 - other)).is_some() {
+                number = 63 - other;
+            }
+        }
+        input.extend_from_slice(write_board(&position).as_slice())?;
+        input.extend_from_slice(&[b' ', b'a' + number % 8, b'1' + number / 8, b'\n'])?;
+    }
+    Ok(input)
+}
+
+#[test]
+fn two_games_are_analysed_at_once(rt: HostRuntime) -> Result<(), Fail> {
+    let boards = boards(rt.alloc())?;
+    let input = games(rt.alloc(), boards.as_slice())?;
+    let gate = Meeting::new();
+    let asked = Settings {
+        command: Command::Analyse(10),
+        ..by_two()
+    };
+    assert!(rt; run_with(&rt, input.as_slice(), &asked, &gate, None));
     assert!(rt; gate.others.load(Ordering::SeqCst) == 1);
     assert!(rt; gate.given_up.load(Ordering::SeqCst) == 0);
     Ok(())

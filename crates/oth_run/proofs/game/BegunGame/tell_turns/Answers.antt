@@ -28,7 +28,7 @@ pub returns-in_err-push_line-clause-err : goal.returns-in_err-push_line-clause-e
 returns-in_err-push_line-clause-err g c = on_err_always c.from_residual.result (λ before done gathered.
     let judged = c.judged-judged.ensures in
     let line = c.as_slice.ensures.value ∙ c.turn_line.ensures.text ∙ ap₂ (turn_line c.args.self.now.number) judged.scoring judged.turn in
-    stopped-next before _ c.args.self.now.number c.args.solver.now.settings.scoring c.args.turns.now c.loop-turn.turn-index c.turn-item.result c.loop-turn-test.true c.turn-item.is done _ line
+    stopped-next before _ c.args.self.now.number c.args.solver.now.settings.scoring c.args.known.turns.now c.loop-turn.turn-index c.turn-item.result c.loop-turn-test.true c.turn-item.is done _ line
     (c.in_err-push_line.ensures.err before _ (c.loop-turn.invariant.told before done gathered)))
 
 pub loop-turn-preserved : goal.loop-turn-preserved
@@ -41,10 +41,10 @@ loop-turn-preserved g c =
     let white = c.add.ensures.white ∙ ap₂ (λ g t. c.loop-turn.lost.white + if_by White t.before.mover (loss g t)) judged.scoring judged.turn in
     record {
       told = λ before done gathered.
-          gathered-next before _ c.args.self.now.number scoring c.args.turns.now c.loop-turn.turn-index c.turn-item.result c.loop-turn-test.true c.turn-item.is done _ line _
+          gathered-next before _ c.args.self.now.number scoring c.args.known.turns.now c.loop-turn.turn-index c.turn-item.result c.loop-turn-test.true c.turn-item.is done _ line _
           (c.in_ok-push_line.ensures.ok before _ (so_far.told before done gathered));
-      black = lost-next Black scoring c.args.turns.now c.loop-turn.turn-index c.turn-item.result _ _ c.loop-turn-test.true c.turn-item.is so_far.black black;
-      white = lost-next White scoring c.args.turns.now c.loop-turn.turn-index c.turn-item.result _ _ c.loop-turn-test.true c.turn-item.is so_far.white white;
+      black = lost-next Black scoring c.args.known.turns.now c.loop-turn.turn-index c.turn-item.result _ _ c.loop-turn-test.true c.turn-item.is so_far.black black;
+      white = lost-next White scoring c.args.known.turns.now c.loop-turn.turn-index c.turn-item.result _ _ c.loop-turn-test.true c.turn-item.is so_far.white white;
       few = omega (arith, c.add.ensures.most.0, so_far.few);
       fewer = omega (arith, c.add.ensures.most.1, so_far.fewer);
       works = c.in_ok-push_line.ensures.works ∙ so_far.works;
@@ -52,12 +52,12 @@ loop-turn-preserved g c =
 
 pub returns-clause-ok : goal.returns-clause-ok
 returns-clause-ok g c = λ before done gathered.
-    let all = take_all c.loop-turn.turn-index c.args.turns.now c.loop-turn-test.false in
+    let all = take_all c.loop-turn.turn-index c.args.known.turns.now c.loop-turn-test.false in
     subst (IsGathered before _ _) (ap (λ ts. done ++ flat_map (turn_part c.args.self.now.number c.args.solver.now.settings.scoring) ts) all) (c.loop-turn.invariant.told before done gathered)
 
 pub returns-clause-lost : goal.returns-clause-lost
 returns-clause-lost g c =
-    let all = take_all c.loop-turn.turn-index c.args.turns.now c.loop-turn-test.false in (
+    let all = take_all c.loop-turn.turn-index c.args.known.turns.now c.loop-turn-test.false in (
       c.loop-turn.invariant.black ∙ ap (lost_by Black c.args.solver.now.settings.scoring) all,
       c.loop-turn.invariant.white ∙ ap (lost_by White c.args.solver.now.settings.scoring) all,
     )
