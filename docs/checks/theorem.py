@@ -70,7 +70,7 @@ def theorem_faults():
 
 
 def standard_faults():
-    """Tests that docs/THEOREM.md says of each word of the kit that a listed contract, model or definition names what it is: outside the rows."""
+    """Tests that docs/THEOREM.md, outside the rows, names each word of the kit that a listed contract, model or definition names."""
     document = ROOT / "docs/THEOREM.md"
     said = [line for line in lines_of(document) if not ROW.match(line)]
     explained = set(WORD.findall(" ".join(re.findall(r"`([^`]+)`", "\n".join(said)))))
