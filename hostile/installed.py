@@ -180,7 +180,7 @@ for line in sys.stdin:
     except (TypeError, ValueError) as error:
         print(f"{type(error).__name__}: {error}")
 """
-# Makes more tables than there is memory for, each dropped, closed, or closed while a seat is taken; closes one while a thread solves over it.
+# Makes more tables than there is memory for, each dropped, closed, or closed while a seat is taken; closes one while a thread solves.
 TABLES = """
 import resource
 import threading
