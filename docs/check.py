@@ -12,7 +12,8 @@ It tests, in each document and, where it says so, in the code:
 - that each heading `.. N definitions` has N rows with a definition of `specs/` below it, and each other `N definitions` is one of these
   numbers;
 - of docs/THEOREM.md: that below each such heading the calls, types and definitions name nothing in a contract, a model or a definition
-  that isn't listed there or above, a definition nothing that stands below it, and that each definition is one that is named;
+  that isn't listed there or above, a definition nothing that stands below it, that each definition is one that is named, and that the page
+  says of each word of the kit that these name what it is;
 - that each board line has 64 cells;
 - that in each row `| `CONSTANT` | `PATH` | `VALUE` |` of a table the file gives the constant that value, and that in each row
   `| `EXPRESSION` | `PATH` |` the file has this text, that each constant of a `tuning.rt` has a row in docs/TUNING.md, and that no two
@@ -59,6 +60,7 @@ OF_THE_TREE = (
     named.edit_faults,
     tables.decision_faults,
     theorem.theorem_faults,
+    theorem.standard_faults,
     layout.layout_faults,
     tables.constant_faults,
     words.headline_faults,

@@ -5,8 +5,9 @@
  *     c_calls solve SCORING CELLS THREADS       this many threads solve all lines at once, with 1 MB of stack each; prints what all of them found
  *     c_calls share SCORING CELLS THREADS       the same over one table, each thread from a seat of its own
  *     c_calls within SCORING CELLS THREADS      the same, each line by calls that may look up 1, 2, 4, .. boards until one is done; 1 where bounds of an ended call
- *                                               do not enclose the score or that of a move, the move to play is none or another is known to give more, a null window
- *                                               tells otherwise, none was ended, or none of these knew more than all scores
+ *                                               do not enclose the score or that of a move, the board's are wider than those of its moves, the move to play is none or
+ *                                               another is known to give more, a null window tells otherwise, none was ended, or none of oth_solve_within or none of
+ *                                               oth_solve_until knew more than all scores
  *     c_calls scores | share-scores SCORING CELLS THREADS      as solve and share: the moves of each line with their scores, the greatest first; 1 where they
  *                                               do not fit the answer
  * Linked with -Wl,--wrap=malloc it refuses, in each call, the request for memory whose number the environment's REFUSED gives. */
@@ -38,7 +39,9 @@ static uint32_t cells;
 static _Thread_local oth_seat *seat;
 /* Whether each answer is asked for by calls that may be ended. */
 static int by_parts;
-static _Atomic long ended_calls, untrue_bounds, closer_bounds;
+static _Atomic long ended_calls, untrue_bounds;
+/* How many ended calls of oth_solve_until, and of oth_solve_within, knew more than all scores. */
+static _Atomic long closer_bounds[2];
 
 static void print_squares(FILE *file, uint64_t squares) {
     for (int square = 0; square < 64; square++) {
@@ -77,22 +80,26 @@ struct ended {
     oth_known known[64];
 };
 
-/* Whether a call that was ended, which knew this, told the truth of the scores, and a move that is known to give as much as any. */
+/* Whether a call that was ended, which knew this, told the truth of the scores, and a move that is known to give as much as any, and of
+ * the board as much as of its moves. */
 static int is_true(const oth_known *known, const oth_move_scores *scores) {
     int holds = encloses(known->bounds.lower, known->bounds.upper, scores->answer.score) && known->moves == scores->moves;
     if (known->moves == 0) {
         return holds && known->first == OTH_NO_SQUARE;
     }
     holds = holds && known->first < 64 && (known->moves >> known->first & 1);
+    int greatest = -64;
     for (int square = 0; square < 64; square++) {
         int lower = known->lower[square], upper = known->upper[square];
         if (known->moves >> square & 1) {
             holds = holds && encloses(lower, upper, scores->scores[square]) && lower <= known->lower[known->first];
+            holds = holds && lower <= known->bounds.lower;
+            greatest = upper > greatest ? upper : greatest;
         } else {
             holds = holds && lower == OTH_NO_SCORE && upper == OTH_NO_SCORE;
         }
     }
-    return holds;
+    return holds && known->bounds.upper <= greatest;
 }
 
 /* Whether null windows at a threshold, and around the score, tell what they should. */
@@ -108,24 +115,33 @@ static int are_decided(oth_board board, int score) {
     return holds;
 }
 
-/* The answer by calls that may look up ever more boards, the first half of them by oth_solve_within. */
+/* The answer, or bounds, by a call of oth_solve_until, which keeps what it knew where it was ended. */
+static uint32_t solved_until(oth_board board, uint64_t most, oth_answer *answer, oth_bounds *bounds, struct ended *ended) {
+    oth_known *known = &ended->known[ended->count];
+    uint32_t code = oth_solve_until(seat, board, most, answer, known);
+    if (code == OTH_STOPPED) {
+        *bounds = known->bounds;
+        ended->count += 1;
+    }
+    return code;
+}
+
+/* The answer by calls that may look up ever more boards, the first and every second of them by oth_solve_within. */
 static uint32_t solved_by_parts(oth_board board, oth_answer *answer) {
     oth_bounds known = {-64, 64}, bounds;
     oth_move_scores scores;
     struct ended ended = {0};
     uint64_t most = 1;
+    int is_within = 1;
     uint32_t code = oth_solve_within(seat, board, most, answer, &bounds);
     while (code == OTH_STOPPED) {
+        closer_bounds[is_within] += empties(board) > 11 && bounds.upper - bounds.lower < 128;
         known.lower = bounds.lower > known.lower ? bounds.lower : known.lower;
         known.upper = bounds.upper < known.upper ? bounds.upper : known.upper;
         ended_calls += 1;
         most *= 2;
-        code = oth_solve_until(seat, board, most, answer, &ended.known[ended.count]);
-        if (code == OTH_STOPPED) {
-            bounds = ended.known[ended.count].bounds;
-            closer_bounds += empties(board) > 11 && bounds.upper - bounds.lower < 128;
-            ended.count += 1;
-        }
+        is_within = !is_within;
+        code = is_within ? oth_solve_within(seat, board, most, answer, &bounds) : solved_until(board, most, answer, &bounds, &ended);
     }
     if (code != OTH_DONE) {
         return code;
@@ -578,7 +594,8 @@ int main(int count, char **words) {
         scoring = strcmp(words[2], "discs") == 0;
         cells = (uint32_t)strtoul(words[3], NULL, 10);
         int same = solve(atoi(words[4]), shares);
-        return !same || unfit_scores != 0 || (by_parts && (untrue_bounds != 0 || ended_calls == 0 || (line_count > 500 && closer_bounds == 0)));
+        int none_is_closer = line_count > 500 && (closer_bounds[0] == 0 || closer_bounds[1] == 0);
+        return !same || unfit_scores != 0 || (by_parts && (untrue_bounds != 0 || ended_calls == 0 || none_is_closer));
     }
     is_play = strcmp(command, "play") == 0;
     each_line(stdout, is_play ? play_line : strcmp(command, "moves") == 0 ? moves_line : transcript_line);

@@ -180,7 +180,7 @@ for line in sys.stdin:
     except (TypeError, ValueError) as error:
         print(f"{type(error).__name__}: {error}")
 """
-# Makes more tables than there is memory for, each dropped or closed before the next one; closes one while a thread solves over it.
+# Makes more tables than there is memory for, each dropped, closed, or closed while a seat is taken; closes one while a thread solves.
 TABLES = """
 import resource
 import threading
@@ -192,6 +192,11 @@ for _ in range(200):
 for _ in range(200):
     with Table(262_144):
         pass
+for _ in range(200):
+    table = Table(262_144)
+    seat = table._seats.take()
+    table.close()
+    table._seats.leave(seat)
 board = Board.of_transcript(input())
 table, answers = Table(64), []
 solving = threading.Thread(target=lambda: answers.append(table.solve(board)))

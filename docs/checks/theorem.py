@@ -5,6 +5,8 @@ from checks.shared import HEADING, ROOT, ROW, declared, declared_at, documents, 
 
 COUNT = re.compile(r"\b(\d+) (?:further )?definitions\b")
 WORD = re.compile(r"[^\W\d][\w'-]*")
+# The words that a file takes from the standard library and from the crates of the kit.
+OF_THE_KIT = re.compile(r"use Rattle\.(?!oth_)[\w.]+\.\{([^}]*)\}")
 
 
 def sections(document):
@@ -67,6 +69,27 @@ def theorem_faults():
                 yield unless((path, name) in reached, f"{place}: nothing that is listed names {name} of {path}")
 
 
+def standard_faults():
+    """Tests that docs/THEOREM.md, outside the rows, names each word of the kit that a listed contract, model or definition names."""
+    document = ROOT / "docs/THEOREM.md"
+    said = [line for line in lines_of(document) if not ROW.match(line)]
+    explained = set(WORD.findall(" ".join(re.findall(r"`([^`]+)`", "\n".join(said)))))
+    for at, _, rows in sections(document):
+        for name, path, line in rows:
+            for word in sorted(words_of_the_kit(name.split("::")[-1], path, line)):
+                yield unless(word in explained, f"{shown(document)}:{at}: {name} names {word} of the kit, of which the page says nothing")
+
+
+def words_of_the_kit(name, path, at):
+    """Returns the words of the kit that are named where this line declares the name."""
+    taken = {}
+    for names in OF_THE_KIT.findall("\n".join(lines_of(ROOT / path))):
+        for each in names.split(","):
+            original, _, local = each.strip().partition(" as ")
+            taken[(local or original).strip()] = original
+    return {taken[word] for word in words_in(statement(name, path, at)) if word in taken}
+
+
 def targets_of(path, name, line):
     """Tells what the listed name's contract, model or definition names, but for itself and for parts of what has a row anyway."""
     return [target for target in sorted(named_by(name, path, line), key=str) if target[1] not in (None, name) and not is_part(target)]
@@ -79,22 +102,26 @@ def is_part(target):
 
 
 def named_by(name, path, at):
-    """Returns the words of this repository that are named where this line declares the name; none where it declares another one."""
+    """Returns the words of this repository that are named where this line declares the name, each as its file and its name there."""
+    file = ROOT / path
+    text = statement(name, path, at)
+    known = {**imports("\n".join(lines_of(file))), **own_words(file)} if text else {}
+    return {known[word] for word in words_in(text) if word in known}
+
+
+def statement(name, path, at):
+    """Returns the contract, the model or the definition of a name as lines; none where this line doesn't declare it."""
     file = ROOT / path
     if declared_at(file, at) != name:
-        return set()
+        return []
     if file.suffix == ".antt":
-        return words_named(file, definition(file, at))
-    if re.search(r"\bfn\b", lines_of(file)[at - 1]):
-        return words_named(file, contract(file, at))
-    return words_named(file, model(file, name))
+        return definition(file, at)
+    return contract(file, at) if re.search(r"\bfn\b", lines_of(file)[at - 1]) else model(file, name)
 
 
-def words_named(path, text):
-    """Returns the words of this repository that these lines of the file name, each as its file and its name there."""
-    known = {**imports("\n".join(lines_of(path))), **own_words(path)}
-    kept = "\n".join(line for line in text if not line.strip().startswith(("--", "//")))
-    return {known[word] for word in WORD.findall(kept) if word in known}
+def words_in(text):
+    """Returns the words of these lines, but for comments."""
+    return set(WORD.findall("\n".join(line for line in text if not line.strip().startswith(("--", "//")))))
 
 
 def imports(text):

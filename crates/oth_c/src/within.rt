@@ -56,7 +56,9 @@ impl OthKnown {
     fn of(stopped: &Stopped) -> OthKnown
         requires board { stopped.now.moves.board ≡ stopped.now.known.board }
         requires scoring { stopped.now.moves.scoring ≡ stopped.now.known.scoring }
-        ensures { AreKnown stopped.now.known.board stopped.now.known.scoring result }
+        ensures lower { result.bounds.lower ≡ stopped.now.known.interval.lower }
+        ensures upper { result.bounds.upper ≡ stopped.now.known.interval.upper }
+        ensures known { AreKnown stopped.now.known.board stopped.now.known.scoring result }
     {
         let moves = &stopped.moves;
         let (lower, upper) = by_square(moves);

@@ -123,7 +123,8 @@ impl BegunGame {
         ensures ok { OnOk result (Gathers (W.contents writer.old) (W.contents writer.new)
             waiting.old.bytes.items waiting.new.bytes.items
             (flat_map (turn_part self.now.number solver.now.settings.scoring) known.entry.turns.now)) }
-        ensures lost { IfOk result (λ lost. (lost.black ≡ lost_by Black solver.now.settings.scoring known.entry.turns.now)
+        ensures lost { IfOk result (λ lost.
+            (lost.black ≡ lost_by Black solver.now.settings.scoring known.entry.turns.now)
             × (lost.white ≡ lost_by White solver.now.settings.scoring known.entry.turns.now)) }
         ensures err { OnErr result (StopsInText (W.contents writer.old) (W.contents writer.new)
             waiting.old.bytes.items
