@@ -6,8 +6,8 @@
 PROGRAM is a built `othsolve`, BOARDS a file of board lines, thousands of each number of empty squares, so that the start of a process
 counts for little, and each board once, since a reference may remember it. REFERENCE is a command that reads board lines and writes report
 lines. Each command is run RUNS times (5 if not given), all in turn, of which the least seconds count. Three tables are printed: `solve` by
-the number of empty squares; all boards mixed, by `solve`, `scores`, `solve --book` and `book-add` (for the two of a book its first lines);
-and one line at a time, each answered before the next is written, of which the median counts. The exit status is 1 where answers differ.
+the number of empty squares; boards of all these numbers mixed, by `solve`, `scores`, `book-add` and `solve --book`; and one line at a
+time, each answered before the next is written, of which the median counts. The exit status is 1 where answers differ.
 """
 import argparse
 import functools
@@ -26,8 +26,8 @@ WORKERS = (1, 2, 4, 16)
 REFERENCE = "reference"
 MICROSECONDS = 1e6
 SEED = 20261129
-# Lines whose boards a book has.
-IN_BOOK = 20_000
+# Lines of all numbers of empty squares that are mixed, and whose boards a book has.
+MIXED = 20_000
 # Lines of each number of empty squares that are given one at a time.
 ONE_BY_ONE = 400
 EMPTY_BOOK = b"OBOOK2 W\nEND 000000\n"
@@ -106,23 +106,23 @@ def by_empties(given, boards):
 
 
 def mixed(given, boards):
-    """Prints the table of all boards mixed."""
+    """Prints the table of boards of all numbers of empty squares, mixed."""
     lines = [line for some in boards.values() for line in some]
     random.Random(SEED).shuffle(lines)
-    first = b"".join(lines[:IN_BOOK])
+    some = b"".join(lines[:MIXED])
     with tempfile.TemporaryDirectory() as folder:
         empty, book = pathlib.Path(folder, "empty.book"), pathlib.Path(folder, "some.book")
         empty.write_bytes(EMPTY_BOOK)
-        book.write_bytes(timing.timed([given.program, "book-add", str(empty)], input=first).wrote)
+        book.write_bytes(timing.timed([given.program, "book-add", str(empty)], input=some).wrote)
         rows = {
-            "`solve`": (by_workers(given.program, "solve"), lines),
-            "`scores`": (by_workers(given.program, "scores"), lines),
-            "`solve --book`, one line": (by_workers(given.program, "solve", "--book", str(book)), lines[:1]),
-            "`book-add`": (by_workers(given.program, "book-add", str(empty)), lines[:IN_BOOK]),
+            "`solve`": (by_workers(given.program, "solve"), some),
+            "`scores`": (by_workers(given.program, "scores"), some),
+            "`book-add`": (by_workers(given.program, "book-add", str(empty)), some),
+            "`solve --book` of one line, which verifies them": (by_workers(given.program, "solve", "--book", str(book)), lines[0]),
         }
         print_head("mixed", by_workers(given.program, "solve"))
         for name, (commands, asked) in rows.items():
-            print_row(name, measured(solved, commands, b"".join(asked), given.runs), max(len(asked), 1) if len(asked) > 1 else IN_BOOK)
+            print_row(name, measured(solved, commands, asked, given.runs), some.count(b"\n"))
 
 
 def one_by_one(given, boards):
