@@ -9,7 +9,7 @@ use crate::tuning::{
 };
 use oth_rules::Board;
 
-/// How long it takes to find what is asked of a board, in units of some 40 nanoseconds.
+/// How long it takes to find what is asked of a board, in units of some 40 nanoseconds; 0 where a job doesn't pay.
 pub fn effort(asked: Asked, board: &Board) -> u64 {
     effort_of(empties_to_search(asked, board))
 }
@@ -71,18 +71,24 @@ impl Split {
         }
     }
 
-    /// Whether one worker solves this board. One that takes longer than a worker's share of the batch is left to all of
-    /// them.
+    /// Whether one worker solves this board as a job. One that takes longer than a worker's share of the batch is left
+    /// to all of them, and one of few empty squares to whoever asks for it.
     pub fn is_for_one(&self, board: &Board) -> bool {
-        effort(self.asked, board) <= self.most
+        is_for_one(self.asked, board, self.most)
     }
 }
 
-// The number of boards whose effort is at most `most`.
+// Whether a job pays for the board, and its effort is at most `most`.
+fn is_for_one(asked: Asked, board: &Board, most: u64) -> bool {
+    let effort = effort(asked, board);
+    effort > 0 && effort <= most
+}
+
+// The number of boards for which a job pays, and whose effort is at most `most`.
 fn count_to(asked: Asked, boards: &[Board], most: u64) -> usize {
     let mut count = 0usize;
     for board in boards {
-        if effort(asked, board) <= most {
+        if is_for_one(asked, board, most) {
             count = count.saturating_add(1);
         }
     }
