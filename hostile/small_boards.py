@@ -14,8 +14,9 @@ BOARDS = 2400
 IN_BOOK = 4800
 WORKERS = (2, 4, 16)
 ROUNDS = 3
-# A machine under load takes longer at times, by one worker or by several.
+# A machine under load takes longer at times, by one worker or by several: room for noise, and further rounds where it isn't enough.
 MOST_RATIO = 1.5
+MOST_ROUNDS = 12
 
 
 def random_line(draw, empties):
@@ -47,14 +48,23 @@ class Race:
         began = time.monotonic()
         done = ran([*self.words, "--workers", str(workers), *self.behind], self.given)
         seconds = time.monotonic() - began
-        self.wrote[workers] = (done.status, done.wrote)
+        self.wrote.setdefault(workers, set()).add((done.status, done.wrote))
         self.least[workers] = min(seconds, self.least.get(workers, seconds))
+
+    def go(self):
+        """Runs the command by each number of workers, round by round, until no ratio is too high or the rounds are over."""
+        for number in range(MOST_ROUNDS):
+            if number >= ROUNDS and not any(map(self.wrong, WORKERS)):
+                break
+            for workers in (1, *WORKERS):
+                self.run(workers)
 
     def wrong(self, workers):
         """Tells what is wrong with the runs by these workers beside one, if anything."""
-        if self.wrote[1][0] != 0:
-            return f"status {self.wrote[1][0]} by one worker"
-        if self.wrote[workers] != self.wrote[1]:
+        failed = [status for status, _ in self.wrote[1] if status != 0]
+        if failed:
+            return f"status {failed[0]} by one worker"
+        if len(self.wrote[workers] | self.wrote[1]) > 1:
             return "another status or other answers than by one worker"
         ratio = self.least[workers] / self.least[1]
         if ratio > MOST_RATIO:
@@ -78,8 +88,6 @@ def steps(program):
     given = mixed_lines()
     with tempfile.TemporaryDirectory() as folder:
         for command, race in races(program, folder, given):
-            for _ in range(ROUNDS):
-                for workers in (1, *WORKERS):
-                    race.run(workers)
+            race.go()
             for workers in WORKERS:
                 yield f"{command}: boards of {FEWEST} to {MOST} empty squares take {workers} workers no longer than one", race.wrong(workers)
