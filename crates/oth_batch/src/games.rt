@@ -1,7 +1,5 @@
 //! The ends of games: their positions are solved from the last to the first.
 
-ghost use Rattle.std.specs.Prelude.{◌≡◌, IfSome};
-
 use oth_book::Book;
 use oth_rules::{Board, Square};
 use oth_search::{Answer, MOST_EMPTIES, Solved};

@@ -20,7 +20,7 @@ use std::thread::Threads;
 
 // Turns of a game, and what is known of their boards.
 #[derive(Clone, Copy)]
-struct Known<'t> {
+struct KnownTurns<'t> {
     turns: &'t [Turn],
     book: &'t Book,
 }
@@ -104,7 +104,7 @@ impl BegunGame {
         let turns = self.reader.turns(self.last);
         let turns = turns.as_slice();
         let book = solver.known_of(jobs, turns);
-        let known = Known { turns, book: &book };
+        let known = KnownTurns { turns, book: &book };
         let lost = self.tell_turns(known, solver, waiting, writer)?;
         self.tell_fault(waiting, writer)?;
         waiting.push_text(writer, lost_line(self.number, &lost).as_slice())
@@ -113,7 +113,7 @@ impl BegunGame {
     // Adds the lines of the turns, and gives what both sides lost by them.
     fn tell_turns<T: Threads + Sync, W: Sink, G: Gate>(
         &self,
-        known: Known<'_>,
+        known: KnownTurns<'_>,
         solver: &Solver<'_, T, G>,
         waiting: &mut Waiting,
         writer: &mut W,
@@ -132,7 +132,7 @@ impl BegunGame {
         ensures works { OnOk result (W.failed writer.new ≡ W.failed writer.old) }
         ensures fails { OnErr result (W.failed writer.new ≡ true) }
     {
-        let Known { turns, book } = known;
+        let KnownTurns { turns, book } = known;
         let mut lost = Losses { black: 0, white: 0 };
         for turn in turns {
             let judged = solver.judged(turn, book);

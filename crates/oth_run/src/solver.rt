@@ -154,9 +154,9 @@ impl<'s, T: Threads + Sync, G: Gate> Solver<'s, T, G> {
 }
 
 impl<'s, T: Wait + Threads + Sync, G: Gate> Solver<'s, T, G> {
-    /// The answers of the boards before and after these turns, as a book, found from the last turn to the first. If the
-    /// turns are those of a job, waits for the worker that has it, or takes the job; else solves the boards here. A
-    /// board for which there is no memory is left out.
+    /// The answers of the boards before and after these turns, as a book, found from the last turn to the first. If a
+    /// job begins with their first board, waits for the worker that has it, or takes the job. A board of which that
+    /// tells no answer is solved here. One for which there is no memory is left out.
     pub fn known_of(&self, jobs: &Jobs<'_, T, G>, turns: &[Turn]) -> Book {
         if let Some(turn) = turns.first() {
             self.gate.awaits(&turn.before.board);
@@ -170,7 +170,10 @@ impl<'s, T: Wait + Threads + Sync, G: Gate> Solver<'s, T, G> {
                 requires { IsSync T.row × IsSync G.row }
             {
                 self.gate.awaits(board);
-                let book = found.unwrap_or(known);
+                let book = match found {
+                    Some(found) if found.find(board).is_some() => found,
+                    _ => known,
+                };
                 self.answer_by(board, Some(book)).ok()
             },
         )
