@@ -51,7 +51,7 @@ impl Solved {
     }
 
     /// As `decided_at`, and tells `hearer` of each search of a board after a move.
-    pub fn decided_with<C: Cells, H: Hearer>(
+    pub fn decided_with<C: Cells, H: Hearer<C>>(
         &self,
         alpha: i8,
         cells: &mut C,

@@ -84,7 +84,7 @@ impl Solved {
     }
 
     /// As `by_null_window`, and tells `hearer` of each search of a board after a move.
-    pub fn by_heard_window<C: Cells, H: Hearer>(
+    pub fn by_heard_window<C: Cells, H: Hearer<C>>(
         board: &Board,
         alpha: i8,
         cells: &mut C,

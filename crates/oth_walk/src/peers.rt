@@ -109,12 +109,11 @@ impl<'w, G> Peers<'w, G> {
         self.shares() && self.root_bound.board().empties() >= SHARED_GUESS_MIN_EMPTIES
     }
 
-    /// The search of the board after this move of the root begins. Returns its number, where it is an item that the
-    /// caller has to announce.
-    pub fn begin_below(&mut self, root_move: &RootMove) -> Option<u32> {
+    /// The worker is about to search the board after this move of the root, or one below it.
+    pub fn begin_below(&mut self, root_move: &RootMove) {
         self.child = root_move.child.board;
         self.floor_before = self.root_bound.floor();
-        self.announcer.begin_below(root_move.square)
+        self.announcer.enter(root_move.square);
     }
 
     /// Tells the others the bounds of the board after this move of the root, and raises the floor by the bound of the
@@ -278,12 +277,16 @@ impl<'w, G: Gate, C: Cells> RootPeers<C> for Peers<'w, G> {
         if child.interval.decides(alpha, alpha + 1) {
             return child;
         }
-        if let Some(number) = self.begin_below(known) {
+        let window = NullWindow::at(alpha + 1);
+        self.begin_below(known);
+        if let Some((number, known)) = self.announcer.begin_move(&child, cells) {
+            self.gate.known_before(number, &known);
             self.gate.before(number);
             self.announcer.tell(number);
         }
-        let found = child.narrowed_by_abdada(NullWindow::at(alpha + 1), cells, self);
-        if let Some(number) = self.announcer.end_below() {
+        let found = child.narrowed_by_abdada(window, cells, self);
+        if let Some(number) = self.announcer.end_move() {
+            self.gate.known_after(number, &found.awake());
             self.gate.after(number);
         }
         let number = self.announcer.number_of_move();

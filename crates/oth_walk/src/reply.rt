@@ -45,7 +45,12 @@ fn begin<G: Gate, C: Cells>(
     let peers = &mut worker.peers;
     peers.begin_below(root_move);
     peers.hints.begin(&item.board);
-    if let Some(number) = peers.announcer.begin_item(number) {
+    let known = peers.known_of_item(number, item);
+    if let Some((number, known)) = peers
+        .announcer
+        .begin_item(number, &known, &mut worker.cells)
+    {
+        peers.gate.known_before(number, &known);
         peers.gate.before(number);
         peers.announcer.tell(number);
     }
@@ -55,6 +60,7 @@ fn begin<G: Gate, C: Cells>(
 fn end<G: Gate, C: Cells>(number: u32, found: &Solved, worker: &mut Worker<C, G>) {
     let peers = &mut worker.peers;
     if let Some(number) = peers.announcer.end_item() {
+        peers.gate.known_after(number, &found.awake());
         peers.gate.after(number);
     }
     peers.hints.end(&found.board);

@@ -2,15 +2,17 @@
 
 mod at_once;
 mod following;
+mod knowing;
 
 use super::crews::{BOARDS, TABLES, WITH_PASSES};
 use super::fixtures::{answer_of, board_of};
 use super::{A, B, C, CORNERS};
+use knowing::Knowing;
 use oth_pieces::Frontier;
 use oth_pool::solve;
 use oth_rules::samples::least_moves_from;
 use oth_rules::{Board, Scoring};
-use oth_search::Answer;
+use oth_search::{Answer, Solved};
 use oth_walk::{Gate, ItemSet};
 use std::alloc::Global;
 use std::process::Abort;
@@ -112,6 +114,7 @@ pub(super) struct Counting {
     weights_ended: AtomicU64,
     boards: AtomicU64,
     promised: AtomicU64,
+    known: Knowing,
 }
 
 impl Counting {
@@ -123,7 +126,13 @@ impl Counting {
             weights_ended: AtomicU64::new(0),
             boards: AtomicU64::new(0),
             promised: AtomicU64::new(0),
+            known: Knowing::new(),
         }
+    }
+
+    // Whether some items were searched, and something was known before of at most `doubles` of these.
+    pub(super) fn is_fresh(&self, workers: u8, doubles: u64) -> bool {
+        self.known.is_fresh(workers, doubles)
     }
 
     // Whether it heard of this number of boards, and of each of their items, by number and weights, once.
@@ -174,15 +183,25 @@ impl Gate for Counting {
         self.ended.fetch_add(1, Ordering::SeqCst);
         self.weights_ended.fetch_add(weight(task), Ordering::SeqCst);
     }
+
+    fn known_before(&self, _task: u32, known: &Solved) {
+        self.known.begin(known);
+    }
+
+    fn known_after(&self, _task: u32, found: &Solved) {
+        self.known.end(found);
+    }
 }
 
-// Hears of each item, and counts the calls that came a second time or without the one before.
+// Hears of each item, and counts the calls that came a second time or without the one before. Of an item that is
+// searched it hears what is known, right before each call.
 #[derive(Drop)]
 struct Once {
     begun: ItemSet,
     ended: ItemSet,
     items: AtomicU64,
     wrong: AtomicU64,
+    known: Knowing,
 }
 
 impl Once {
@@ -192,6 +211,7 @@ impl Once {
             ended: ItemSet::new(),
             items: AtomicU64::new(0),
             wrong: AtomicU64::new(0),
+            known: Knowing::new(),
         }
     }
 
@@ -199,24 +219,38 @@ impl Once {
     fn heard(&self, items: u64) -> bool {
         self.wrong.load(Ordering::SeqCst) == 0 && self.items.load(Ordering::SeqCst) == items
     }
+
+    // Counts this call, if it is one too many.
+    fn count_wrong(&self, is_wrong: bool) {
+        if is_wrong {
+            self.wrong.fetch_add(1, Ordering::SeqCst);
+        }
+    }
 }
 
 impl Gate for Once {
     fn before(&self, task: u32) {
-        if !self.begun.add(task) {
-            self.wrong.fetch_add(1, Ordering::SeqCst);
-        }
+        self.count_wrong(!self.begun.add(task));
     }
 
     fn after(&self, task: u32) {
-        if !self.begun.has(task) || !self.ended.add(task) {
-            self.wrong.fetch_add(1, Ordering::SeqCst);
-        }
+        self.count_wrong(!self.begun.has(task) || !self.ended.add(task));
         self.items.fetch_add(1, Ordering::SeqCst);
+    }
+
+    fn known_before(&self, task: u32, known: &Solved) {
+        self.count_wrong(self.begun.has(task));
+        self.known.begin(known);
+    }
+
+    fn known_after(&self, task: u32, found: &Solved) {
+        self.count_wrong(!self.begun.has(task) || self.ended.has(task));
+        self.known.end(found);
     }
 }
 
-// The gate of `solve` by this number of workers and of cells hears once of each of the items of the answer's board.
+// The gate of `solve` by this number of workers and of cells hears once of each of the items of the answer's board, and
+// of those that are searched before anything is known of them.
 fn check_heard_by<R: Threads + Sync + AllocGlobal + Abort>(
     rt: &R,
     alone: &Answer,
@@ -236,7 +270,10 @@ fn check_heard_by<R: Threads + Sync + AllocGlobal + Abort>(
         Scoring::Winner,
     );
     assert!(rt; found == Ok(*alone), "{workers} workers, {cells} cells");
-    assert!(rt; gate.heard(items_of(&alone.board).0));
+    assert!(rt;
+        gate.heard(items_of(&alone.board).0) && gate.known.is_fresh(workers, 0),
+        "{workers} workers, {cells} cells"
+    );
 }
 
 // Whether a side must pass in the first two plies, so that the root's mover isn't to move two plies below.

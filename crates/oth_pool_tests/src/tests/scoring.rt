@@ -5,10 +5,12 @@ use super::fixtures::board_of;
 use super::gate::{Counting, items_of};
 use super::{A, B, C, CORNERS, answered};
 use oth_book::Book;
+use oth_pieces::Frontier;
 use oth_pool::{Gate, Open, SolveError, scores};
 use oth_rules::samples::{after_least_moves, board, least_moves_from};
 use oth_rules::{Board, Scoring, Square};
 use oth_search::{Solved, solve_alone};
+use std::alloc::Global;
 use std::process::Abort;
 use std::sync::atomic::{AtomicU64, Ordering};
 use std::thread;
@@ -193,7 +195,37 @@ fn searched_below(root: &Board) -> (u64, u64, u64) {
     (boards, all, sum)
 }
 
-// Fails unless the gate of `scores` hears of each board after a move that has items, and of each of its items once.
+// How many items below the root's moves are images of others, so that a table may know them from the search of those.
+fn doubles_below(alloc: Global, root: &Board) -> u64 {
+    if !root.can_move() {
+        return 0;
+    }
+    let mut seen = Vec::new(alloc);
+    let mut doubles = 0u64;
+    for number in 0..64 {
+        let Some(child) = root.play(Square::numbered(number)) else {
+            continue;
+        };
+        if child.empties() > 30 {
+            continue;
+        }
+        let frontier = Frontier::of(&child, 2);
+        for task in 0..frontier.len() {
+            let Some(item) = frontier.item(task) else {
+                continue;
+            };
+            let image = item.canonical().0;
+            if seen.as_slice().contains(&image) || seen.push(image).is_err() {
+                doubles = doubles.saturating_add(1);
+            }
+        }
+    }
+    doubles
+}
+
+// Fails unless the gate of `scores` hears of each board after a move that has items, and of each of its items once, of
+// those that are searched before anything is known of them. Without a table that is so of all of them, and over one of
+// those that are no image of another item.
 pub(super) fn check_heard<R: Threads + Sync + AllocGlobal + Abort>(
     rt: &R,
     root: &Board,
@@ -214,9 +246,14 @@ pub(super) fn check_heard<R: Threads + Sync + AllocGlobal + Abort>(
         Scoring::Winner,
     );
     assert!(rt; found.is_ok());
+    let doubles = if cells == 0 {
+        0
+    } else {
+        doubles_below(alloc, root)
+    };
     let (boards, items, weights) = searched_below(root);
     assert!(rt;
-        gate.heard_all(boards, items, weights),
+        gate.heard_all(boards, items, weights) && gate.is_fresh(workers, doubles),
         "{workers} workers, {cells} cells"
     );
 }

@@ -6,7 +6,7 @@ use oth_pool::{Frontier, Gate};
 use oth_rules::samples::{after_least_moves, board, least_moves_from};
 use oth_rules::{Board, Scoring, Square, Sym};
 use oth_run::run;
-use oth_search::{MOST_EMPTIES, Solved, solve_alone};
+use oth_search::{Interval, MOST_EMPTIES, Solved, solve_alone};
 use oth_text::fakes::{BrokenSource, ByteSink};
 use oth_text::{Position, Side, write_board};
 use oth_words::{Command, Settings};
@@ -135,9 +135,13 @@ fn weight(task: u32) -> u64 {
     mixed ^ (mixed >> 29)
 }
 
-// Counts the searches of boards, and the items that are announced and whose search has ended.
+// Counts the searches of boards, the items that are announced and whose search has ended, and the items that are
+// searched: all, those of which something was known before, and those of which nothing was found.
 #[derive(Drop)]
 struct Counting {
+    searched: AtomicU64,
+    early: AtomicU64,
+    left: AtomicU64,
     boards: AtomicU64,
     begun: AtomicU64,
     ended: AtomicU64,
@@ -148,12 +152,23 @@ struct Counting {
 impl Counting {
     fn new() -> Counting {
         Counting {
+            searched: AtomicU64::new(0),
+            early: AtomicU64::new(0),
+            left: AtomicU64::new(0),
             boards: AtomicU64::new(0),
             begun: AtomicU64::new(0),
             ended: AtomicU64::new(0),
             weights_begun: AtomicU64::new(0),
             weights_ended: AtomicU64::new(0),
         }
+    }
+
+    // Whether some of the items were searched, nothing was known of any of these before, and something was found of
+    // each.
+    fn is_fresh(&self) -> bool {
+        self.searched.load(Ordering::SeqCst) > 0
+            && self.early.load(Ordering::SeqCst) == 0
+            && self.left.load(Ordering::SeqCst) == 0
     }
 
     // Whether each of these items was announced once, and its search ended once, and no others.
@@ -179,6 +194,19 @@ impl Gate for Counting {
     fn after(&self, task: u32) {
         let _ = self.ended.fetch_add(1, Ordering::SeqCst);
         let _ = self.weights_ended.fetch_add(weight(task), Ordering::SeqCst);
+    }
+
+    fn known_before(&self, _task: u32, known: &Solved) {
+        let _ = self.searched.fetch_add(1, Ordering::SeqCst);
+        if known.interval != Interval::all() {
+            let _ = self.early.fetch_add(1, Ordering::SeqCst);
+        }
+    }
+
+    fn known_after(&self, _task: u32, found: &Solved) {
+        if found.interval == Interval::all() {
+            let _ = self.left.fetch_add(1, Ordering::SeqCst);
+        }
     }
 }
 
@@ -400,7 +428,10 @@ fn check_crews<R: Wait + Threads + Sync + AllocGlobal + Abort>(
             };
             let gate = Counting::new();
             assert!(rt; run_with(rt, input, &asked, &gate, None));
-            assert!(rt; gate.has_heard(once), "{workers} workers, {cells} cells");
+            assert!(rt;
+                gate.has_heard(once) && gate.is_fresh(),
+                "{workers} workers, {cells} cells"
+            );
         }
     }
 }

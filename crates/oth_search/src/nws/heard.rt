@@ -10,24 +10,25 @@ ghost use Rattle.oth_search.specs.Ordering.Children.{IsChild};
 use super::deep::{bounded_by_child, most_at, nws_node};
 use super::node::Node;
 use super::shallow::nws;
-use crate::bounds::{Cells, greater, odd_quadrants, preferred, without};
+use crate::bounds::{Cells, Solved, greater, odd_quadrants, preferred, without};
 use crate::ordering::{Child, next_child, ranked};
 use crate::tuning::{ETC_MIN_EMPTIES, EVALUATION_MIN_EMPTIES, RANK_MIN_EMPTIES};
 use arrayvec::ArrayVec;
 use oth_rules::{Board, Scoring};
 
 /// Hears of the searches of the boards after one board's moves. No answer depends on it.
-pub trait Hearer {
-    /// The search of this board is about to begin.
-    fn begin(&mut self, board: &Board);
+pub trait Hearer<C: Cells> {
+    /// The search of this board is about to begin, of which nothing is known but what the cells have.
+    fn begin(&mut self, unknown: &Solved, cells: &mut C)
+        ensures fixed { C.fixed cells.new ≡ C.fixed cells.old };
 
-    /// That search has ended.
-    fn end(&mut self, board: &Board);
+    /// That search has ended, and found these bounds of the board.
+    fn end(&mut self, found: &Solved);
 }
 
 /// As `nws_node`, but tells `hearer` of each search of a board after a move, or after a forced pass and a move, and
 /// asks the cells of these boards alone.
-pub fn nws_heard<C: Cells, H: Hearer>(
+pub fn nws_heard<C: Cells, H: Hearer<C>>(
     node: Node,
     alpha: i8,
     cells: &mut C,
@@ -49,7 +50,7 @@ pub fn nws_heard<C: Cells, H: Hearer>(
 }
 
 // As `nws_heard`, of a board whose mover has a move: the best-ranked one first, unless a cutoff comes before.
-fn nws_heard_moves<C: Cells, H: Hearer>(
+fn nws_heard_moves<C: Cells, H: Hearer<C>>(
     node: Node,
     alpha: i8,
     cells: &mut C,
@@ -62,7 +63,7 @@ fn nws_heard_moves<C: Cells, H: Hearer>(
     ensures fixed { C.fixed cells.new ≡ C.fixed cells.old }
 {
     if node.board.empties() < RANK_MIN_EMPTIES {
-        return nws_heard_few(node, alpha, scoring, hearer);
+        return nws_heard_few(node, alpha, cells, scoring, hearer);
     }
     let mut list: ArrayVec<Child, 32> = ranked(&node, EVALUATION_MIN_EMPTIES, 64);
     if let Some(found) = cutoff(&node.board, list.as_slice(), alpha, cells, scoring) {
@@ -73,9 +74,7 @@ fn nws_heard_moves<C: Cells, H: Hearer>(
     while left != 0 {
         let child = next_child(&node.board, list.as_mut_slice(), left);
         left = without(left, child.square());
-        hearer.begin(&child.board);
-        let score = -nws_node(child.node(), -alpha - 1, cells, scoring);
-        hearer.end(&child.board);
+        let score = -nws_of_reply(child.node(), -alpha - 1, cells, scoring, hearer);
         if score > alpha {
             return score;
         }
@@ -86,12 +85,38 @@ fn nws_heard_moves<C: Cells, H: Hearer>(
     best
 }
 
+// As `nws_node`, of a board after a move: `hearer` hears of its search.
+fn nws_of_reply<C: Cells, H: Hearer<C>>(
+    node: Node,
+    alpha: i8,
+    cells: &mut C,
+    scoring: Scoring,
+    hearer: &mut H,
+) -> i8
+    requires { IsThreshold alpha }
+    ensures value { BoundsAt (value (score_of scoring) node.board) alpha result }
+    ensures fixed { C.fixed cells.new ≡ C.fixed cells.old }
+{
+    let asked = Solved::unknown(node.board, scoring);
+    hearer.begin(&asked, cells);
+    let found = nws_node(node, alpha, cells, scoring);
+    hearer.end(&asked.narrowed(alpha, found));
+    found
+}
+
 // As `nws_heard_moves`, of a board of few empty squares, where a list of ranked children costs more than it saves: odd
 // quadrants first.
-fn nws_heard_few<H: Hearer>(node: Node, alpha: i8, scoring: Scoring, hearer: &mut H) -> i8
+fn nws_heard_few<C: Cells, H: Hearer<C>>(
+    node: Node,
+    alpha: i8,
+    cells: &mut C,
+    scoring: Scoring,
+    hearer: &mut H,
+) -> i8
     requires threshold { IsThreshold alpha }
     requires some { can_move node.board ≡ true }
-    ensures { BoundsAt (value (score_of scoring) node.board) alpha result }
+    ensures value { BoundsAt (value (score_of scoring) node.board) alpha result }
+    ensures fixed { C.fixed cells.new ≡ C.fixed cells.old }
 {
     let odd = odd_quadrants(node.board.empty_squares());
     let mut best = -64;
@@ -100,9 +125,11 @@ fn nws_heard_few<H: Hearer>(node: Node, alpha: i8, scoring: Scoring, hearer: &mu
         let square = preferred(left, odd);
         left = without(left, square);
         let child = node.board.play_legal(square);
-        hearer.begin(&child);
-        let score = -nws(child, -alpha - 1, scoring);
-        hearer.end(&child);
+        let asked = Solved::unknown(child, scoring);
+        hearer.begin(&asked, cells);
+        let found = nws(child, -alpha - 1, scoring);
+        hearer.end(&asked.narrowed(-alpha - 1, found));
+        let score = -found;
         if score > alpha {
             return score;
         }

@@ -228,7 +228,7 @@ fn visit<C: Cells, H: TreePeers<C>>(
     if node.may_defer(&child, peers.fewest()) && peers.is_deferred(&child) {
         return None;
     }
-    peers.begin(&child);
+    peers.begin(&child, cells);
     let asked = Solved::unknown(child, scoring);
     let solved = abdada(&asked, node.window.turned(), plies, cells, peers);
     peers.end(&solved);

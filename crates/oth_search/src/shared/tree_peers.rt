@@ -25,7 +25,9 @@ pub trait TreePeers<C: Cells> {
     }
 
     /// A search of the board begins.
-    fn begin(&mut self, _board: &Board) {}
+    fn begin(&mut self, _board: &Board, _cells: &mut C)
+        ensures fixed { C.fixed _cells.new ≡ C.fixed _cells.old }
+    {}
 
     /// That search has ended, and found these bounds of the board.
     fn end(&mut self, _found: &Solved) {}

@@ -5,7 +5,6 @@ ghost use Rattle.std.specs.Prelude.{◌≡◌};
 use super::announced::Announced;
 use super::announcer::Announcer;
 use super::gate::Gate;
-use oth_rules::Board;
 use oth_search::{Cells, Hearer, RootMove, RootMoves, RootPeers, Solved};
 
 /// The only worker of a search, which tells a gate of the items that it searches, and how far it is.
@@ -50,28 +49,33 @@ impl<'g, G: Gate, C: Cells> RootPeers<C> for Alone<'g, G> {
         if child.interval.decides(alpha, alpha + 1) {
             return child;
         }
-        if let Some(number) = self.announcer.begin_below(square) {
+        self.announcer.enter(square);
+        if let Some((number, known)) = self.announcer.begin_move(&child, cells) {
+            self.gate.known_before(number, &known);
             self.gate.before(number);
             self.announcer.tell(number);
         }
-        let decided = child.decided_with(alpha, cells, self);
-        if let Some(number) = self.announcer.end_below() {
+        let found = child.decided_with(alpha, cells, self);
+        if let Some(number) = self.announcer.end_move() {
+            self.gate.known_after(number, &found.awake());
             self.gate.after(number);
         }
-        decided
+        found
     }
 }
 
-impl<'g, G: Gate> Hearer for Alone<'g, G> {
-    fn begin(&mut self, board: &Board) {
-        if let Some(number) = self.announcer.begin(board) {
+impl<'g, G: Gate, C: Cells> Hearer<C> for Alone<'g, G> {
+    fn begin(&mut self, unknown: &Solved, cells: &mut C) {
+        if let Some((number, known)) = self.announcer.begin(unknown, cells) {
+            self.gate.known_before(number, &known);
             self.gate.before(number);
             self.announcer.tell(number);
         }
     }
 
-    fn end(&mut self, board: &Board) {
-        if let Some(number) = self.announcer.end(board) {
+    fn end(&mut self, found: &Solved) {
+        if let Some(number) = self.announcer.end(&found.board) {
+            self.gate.known_after(number, &found.awake());
             self.gate.after(number);
         }
     }

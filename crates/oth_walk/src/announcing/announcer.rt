@@ -1,7 +1,9 @@
 //! One thread's announcing of the items that it is about to search.
+ghost use Rattle.std.specs.Prelude.{◌≡◌};
 
 use super::announced::Announced;
 use oth_rules::{Board, Square};
+use oth_search::{Cells, Solved};
 
 /// What a thread that searches a board announces: it tells where it begins to search a board and where that ends, and
 /// hears which item it has to tell the gate of.
@@ -49,31 +51,51 @@ impl<'a> Announcer<'a> {
         self.announced.number_of(square, board)
     }
 
-    /// The search of the board after the root's move to this square begins. Returns its number, where it is an item
-    /// that the caller has to announce.
-    pub(crate) fn begin_below(&mut self, square: Square) -> Option<u32> {
+    /// The thread is about to search below the root's move to this square.
+    pub(crate) fn enter(&mut self, square: Square) {
         self.square = square;
-        match self.announced.number_of_move(square) {
-            Some(number) => self.begin_item(number),
+    }
+
+    /// The search of the board after that move begins, of which this is known. Returns its number and all that is known
+    /// of it, where it is an item that the caller has to announce.
+    pub(crate) fn begin_move<C: Cells>(
+        &mut self,
+        known: &Solved,
+        cells: &mut C,
+    ) -> Option<(u32, Solved)>
+        ensures fixed { C.fixed cells.new ≡ C.fixed cells.old }
+    {
+        match self.number_of_move() {
+            Some(number) => self.begin_item(number, known, cells),
             None => None,
         }
     }
 
-    /// As `begin_below`, of a board below the move.
-    pub(crate) fn begin(&mut self, board: &Board) -> Option<u32> {
-        match self.announced.number_of(self.square, board) {
-            Some(number) => self.begin_item(number),
+    /// As `begin_move`, of a board below the move.
+    pub(crate) fn begin<C: Cells>(&mut self, known: &Solved, cells: &mut C) -> Option<(u32, Solved)>
+        ensures fixed { C.fixed cells.new ≡ C.fixed cells.old }
+    {
+        match self.number_of(&known.board) {
+            Some(number) => self.begin_item(number, known, cells),
             None => None,
         }
     }
 
-    /// The search of the item begins. Returns its number, where the caller has to announce it.
-    pub(crate) fn begin_item(&mut self, number: u32) -> Option<u32> {
+    /// As `begin_move`, of the item of this number.
+    pub(crate) fn begin_item<C: Cells>(
+        &mut self,
+        number: u32,
+        known: &Solved,
+        cells: &mut C,
+    ) -> Option<(u32, Solved)>
+        ensures fixed { C.fixed cells.new ≡ C.fixed cells.old }
+    {
         if !self.announced.take(number) {
             return None;
         }
         self.open = Some(number);
-        Some(number)
+        let told = Solved::looked_up(&known.board, cells, known.scoring);
+        Some((number, known.joined(&told).awake()))
     }
 
     /// The gate has heard that the search of the item begins.
@@ -83,14 +105,14 @@ impl<'a> Announcer<'a> {
 
     /// The search of the board after the root's move has ended. Returns its number, where it is an item that the caller
     /// announced.
-    pub(crate) fn end_below(&mut self) -> Option<u32> {
+    pub(crate) fn end_move(&mut self) -> Option<u32> {
         match self.announced.number_of_move(self.square) {
             Some(_) => self.open.take(),
             None => None,
         }
     }
 
-    /// As `end_below`, of a board below the move.
+    /// As `end_move`, of a board below the move.
     pub(crate) fn end(&mut self, board: &Board) -> Option<u32> {
         match self.announced.number_of(self.square, board) {
             Some(_) => self.open.take(),

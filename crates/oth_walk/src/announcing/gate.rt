@@ -32,6 +32,14 @@ pub trait Gate: Sync {
         true
     }
 
+    /// The table, and what the calling thread has found itself, give these bounds of the item's board, after a forced
+    /// pass where there is one. The `before` of the item follows, and its first search.
+    fn known_before(&self, _task: u32, _known: &Solved) {}
+
+    /// That search has found these bounds of the item's board: all scores where it was given up. The `after` of the
+    /// item follows.
+    fn known_after(&self, _task: u32, _found: &Solved) {}
+
     /// Whether `goes_on` is to be called, which takes a little time.
     fn follows(&self) -> bool {
         false

@@ -33,9 +33,11 @@ impl<'w, G: Gate, C: Cells> TreePeers<C> for Peers<'w, G> {
         self.shares() && self.hints.is_searched(board)
     }
 
-    fn begin(&mut self, board: &Board) {
+    fn begin(&mut self, board: &Board, cells: &mut C) {
         self.hints.begin(board);
-        if let Some(number) = self.announcer.begin(board) {
+        let unknown = Solved::unknown(*board, self.root_bound.scoring());
+        if let Some((number, known)) = self.announcer.begin(&unknown, cells) {
+            self.gate.known_before(number, &known);
             self.gate.before(number);
             self.announcer.tell(number);
         }
@@ -43,6 +45,7 @@ impl<'w, G: Gate, C: Cells> TreePeers<C> for Peers<'w, G> {
 
     fn end(&mut self, found: &Solved) {
         if let Some(number) = self.announcer.end(&found.board) {
+            self.gate.known_after(number, &found.awake());
             self.gate.after(number);
         }
         self.hints.end(&found.board);

@@ -20,30 +20,30 @@ loop-left-init g c = record {
 pub next_child-child-requires-clause-legal : goal.next_child-child-requires-clause-legal
 next_child-child-requires-clause-legal g c = c.loop-left.invariant.loop.replies.untried
 
-pub nws_node-score-requires : goal.nws_node-score-requires
-nws_node-score-requires g c =
+pub nws_of_reply-score-requires : goal.nws_of_reply-score-requires
+nws_of_reply-score-requires g c =
     record { low = omega (arith, ints, c.requires.threshold.high); high = omega (arith, ints, c.requires.threshold.low) }
 
 pub returns-then-score-alpha-clause-value : goal.returns-then-score-alpha-clause-value
 returns-then-score-alpha-clause-value g c =
     let made = c.next_child-child.ensures.child in
     BoundsAt-cut c.args.scoring c.args.node.board (key_square c.next_child-child.result.key) c.args.alpha _ made.legal
-    (BoundsAt-reply c.args.scoring c.args.node.board c.node.result.board (key_square c.next_child-child.result.key) c.args.alpha _ _ c.nws_node-score.result (c.node.ensures ∙ made.board)
-    (read-reply c.args.alpha c.requires.threshold) (read-negated c.nws_node-score.result c.nws_node-score.ensures.value.score) c.nws_node-score.ensures.value)
+    (BoundsAt-reply c.args.scoring c.args.node.board c.node.result.board (key_square c.next_child-child.result.key) c.args.alpha _ _ c.nws_of_reply-score.result (c.node.ensures ∙ made.board)
+    (read-reply c.args.alpha c.requires.threshold) (read-negated c.nws_of_reply-score.result c.nws_of_reply-score.ensures.value.score) c.nws_of_reply-score.ensures.value)
     (omega (arith, ints, c.if-score-alpha.true))
 
 pub loop-left-preserved : goal.loop-left-preserved
 loop-left-preserved g c =
     let child = c.next_child-child.result in
     let made = c.next_child-child.ensures.child in
-    let r : ℤ = neg_ℤ c.nws_node-score.result in
+    let r : ℤ = neg_ℤ c.nws_of_reply-score.result in
     record {
       loop = ReplyLoop-keeps c.args.scoring c.args.node.board _ _ (key_square child.key) _ _ r c.loop-left.invariant.loop
           (Takes-same _ _ _ _ c.square.ensures c.next_child-child.ensures.member c.without-left.ensures.rest)
-          (BoundsAt-reply c.args.scoring c.args.node.board c.node.result.board (key_square child.key) _ _ r c.nws_node-score.result (c.node.ensures ∙ made.board)
-          (read-reply_read c.args.alpha c.requires.threshold) refl c.nws_node-score.ensures.value)
+          (BoundsAt-reply c.args.scoring c.args.node.board c.node.result.board (key_square child.key) _ _ r c.nws_of_reply-score.result (c.node.ensures ∙ made.board)
+          (read-reply_read c.args.alpha c.requires.threshold) refl c.nws_of_reply-score.ensures.value)
           (omega (arith, ints, c.if-score-best.false));
-      fixed = c.nws_node-score.ensures.fixed ∙ c.loop-left.invariant.fixed;
+      fixed = c.nws_of_reply-score.ensures.fixed ∙ c.loop-left.invariant.fixed;
       each = All-refill (IsChild c.args.node.board) _ _ _ c.loop-left.invariant.each c.next_child-child.ensures.children;
     }
 
@@ -54,11 +54,11 @@ loop-left-preserved-then-score-best g c =
     record {
       loop = ReplyLoop-takes c.args.scoring c.args.node.board _ _ (key_square child.key) _ _ _ c.loop-left.invariant.loop
           (Takes-same _ _ _ _ c.square.ensures c.next_child-child.ensures.member c.without-left.ensures.rest)
-          (BoundsAt-reply c.args.scoring c.args.node.board c.node.result.board (key_square child.key) _ _ _ c.nws_node-score.result (c.node.ensures ∙ made.board)
-          (read-reply_read c.args.alpha c.requires.threshold) (read-negated c.nws_node-score.result c.nws_node-score.ensures.value.score) c.nws_node-score.ensures.value)
+          (BoundsAt-reply c.args.scoring c.args.node.board c.node.result.board (key_square child.key) _ _ _ c.nws_of_reply-score.result (c.node.ensures ∙ made.board)
+          (read-reply_read c.args.alpha c.requires.threshold) (read-negated c.nws_of_reply-score.result c.nws_of_reply-score.ensures.value.score) c.nws_of_reply-score.ensures.value)
           (omega (arith, ints, c.if-score-alpha.false))
           (omega (arith, ints, c.if-score-best.true));
-      fixed = c.nws_node-score.ensures.fixed ∙ c.loop-left.invariant.fixed;
+      fixed = c.nws_of_reply-score.ensures.fixed ∙ c.loop-left.invariant.fixed;
       each = All-refill (IsChild c.args.node.board) _ _ _ c.loop-left.invariant.each c.next_child-child.ensures.children;
     }
 
