@@ -1,4 +1,4 @@
-//! What a gate that asks is told of the items that are searched.
+//! What a gate is told of the items that are searched.
 
 use oth_search::{Interval, Solved};
 use std::sync::atomic::{AtomicU64, Ordering};
