@@ -23,7 +23,7 @@ pub(crate) const EFFORT_IN_PASSING: u64 = 1 << 15;
 pub(crate) const EMPTIES_FOR_SCORES: u8 = 2;
 
 /// Empty squares: from here on a board's search takes longer than to make a job of it and to find that job again.
-pub(crate) const JOB_MIN_EMPTIES: u8 = 6;
+pub(crate) const JOB_MIN_EMPTIES: u8 = 5;
 
 /// How long a board of `empties` empty squares takes, in units of some 40 nanoseconds: 5.7 times as long with two more,
 /// and nothing where a job doesn't pay.
@@ -39,7 +39,8 @@ pub(crate) fn effort_of(empties: u8) -> u64 {
 pub(crate) const ALL_WORKERS_MIN_EMPTIES: u8 = 13;
 
 /// Empty squares of a board whose answer takes as long as what is asked: from here on what was found is kept for a
-/// board that comes again. Below it some looks take as long as the search.
+/// board that comes again, and where answers are asked is found for its images too. Below it some looks, and images to
+/// look for, take as long as the search.
 pub(crate) const RECENT_MIN_EMPTIES: u8 = 9;
 
 /// Boards of a run of which at least is kept what was found, the last ones: more than lines are read at once.

@@ -1,8 +1,8 @@
 -- Bytes that are gathered, and beginnings of a text.
-use Rattle.std.proofs.Common.{ℕ, List, ◌++◌, Option, Result, Ok, Err, OnErr, OnOk, sym, ap, ◌∙◌, append_assoc}
+use Rattle.std.proofs.Common.{ℕ, List, ◌++◌, Option, Result, Ok, Err, OnErr, OnOk, ◌≡◌, refl, subst, sym, ap, ◌∙◌, append_assoc}
 use Rattle.std.proofs.KnownBytes.{Appends-trans}
 use Rattle.oth_text.specs.Device.{AppendsBeginning, IsBeginning}
-use Rattle.oth_run.specs.Gathered.{IsGathered}
+use Rattle.oth_run.specs.Gathered.{Gathers, IsGathered, StopsInText, StopsInWaiting}
 
 pub on_err_always : {T E P : Type 0} (r : Result T E) → P → OnErr r P
 on_err_always (Ok x) p = tt
@@ -25,3 +25,12 @@ gathered_part before now after waiting done gathered part = (
 pub beginning_within : (before now : Option (List ℕ)) (text all : List ℕ) → AppendsBeginning before now text → IsBeginning text all → AppendsBeginning before now all
 beginning_within before now text all part within =
     (part.0, part.1, (part.2.0 ++ within.0, within.1 ∙ ap (λ l. l ++ within.0) part.2.1 ∙ append_assoc part.0 part.2.0 within.0))
+
+-- the text by another name
+pub gathers_as : (before now : Option (List ℕ)) (waiting rest text told : List ℕ) → text ≡ told → Gathers before now waiting rest text
+    → Gathers before now waiting rest told
+gathers_as before now waiting rest text told is = subst (λ t. Gathers before now waiting rest t) is
+
+-- what waits begins what waits and a text
+pub stops_in : (before now : Option (List ℕ)) (waiting told : List ℕ) → StopsInWaiting before now waiting → StopsInText before now waiting told
+stops_in before now waiting told stops = λ first done gathered. beginning_within first now done (done ++ told) (stops first done gathered) (told, refl)

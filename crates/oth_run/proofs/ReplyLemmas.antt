@@ -12,26 +12,18 @@ use Rattle.oth_text.specs.Analysis.{analysis_of}
 use Rattle.oth_words.specs.declared.settings.Command.{Command}
 use Rattle.oth_words.specs.declared.settings.Command.TheVariants.{Analyse}
 use Rattle.oth_words.specs.declared.settings.Settings.{Settings}
-use Rattle.oth_run.specs.declared.game.BegunGame.{BegunGame}
-use Rattle.oth_run.specs.declared.line.Line.{Line}
-use Rattle.oth_run.specs.declared.line.Line.TheVariants as line
-use Rattle.oth_run.specs.Line.{IsShort}
 use Rattle.oth_run.specs.Reply.{board_reply, reply, reply_to}
+
+-- by the command that asks for it
+pub replied : (settings : Settings) (command : Command) (number : ℕ) (line : List ℕ) → settings.command ≡ command
+    → reply_to command settings.scoring number line ≡ reply settings number line
+replied settings command number line is = sym (ap (λ (c : Command). reply_to c settings.scoring number line) is)
 
 -- of a game, by what is kept of its line
 pub analysed : (settings : Settings) (last n number : ℕ) (line : List ℕ) → settings.command ≡ Analyse last → n ≡ number
     → analysis_of n settings.scoring last line ≡ reply settings number line
 analysed settings last n number line command is =
-    ap (λ m. analysis_of m settings.scoring last line) is ∙ sym (ap (λ (c : Command). reply_to c settings.scoring number line) command)
-
--- any line but that of a game
-pub short_of : (l : Line) → ((game : BegunGame) → l ≡ line.Analyse game → ⊥) → IsShort l
-short_of (line.Solve kept) other = tt
-short_of (line.Scores kept) other = tt
-short_of (line.Moves kept) other = tt
-short_of (line.Transcript kept) other = tt
-short_of (line.Play kept) other = tt
-short_of (line.Analyse game) other = other game refl
+    ap (λ m. analysis_of m settings.scoring last line) is ∙ replied settings (Analyse last) number line command
 
 module _ (told : Discs → List ℕ) (line : List ℕ) where
   at_reading : (r : Result Position LineFault) → reading line ≡ r → board_reply told (solvable_reading line) ≡ board_reply told (if_solvable r)

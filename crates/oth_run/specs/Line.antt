@@ -1,7 +1,6 @@
 -- The line that has begun.
 --     Holds command line number text      what is kept of a line stands for the text, of which the command's reply is asked
---     IsShort line      its reply is a line too: it is no game that is analysed
-use Rattle.std.specs.Prelude.{◌≡◌, ⊤, ℕ, List}
+use Rattle.std.specs.Prelude.{◌≡◌, ℕ, List}
 use Rattle.oth_words.specs.declared.settings.Command.{Command}
 use Rattle.oth_words.specs.declared.settings.Command.TheVariants.{Solve, Scores, Moves, Transcript, Play, Analyse}
 use Rattle.oth_text.specs.Analysis.{KeepsAnalysed}
@@ -18,11 +17,3 @@ Holds command (line.Moves kept) number text = (command ≡ Moves) × KeepsLine k
 Holds command (line.Transcript kept) number text = (command ≡ Transcript) × StandsFor kept text
 Holds command (line.Play kept) number text = (command ≡ Play) × KeepsGame kept text
 Holds command (line.Analyse game) number text = (command ≡ Analyse game.last) × (game.number ≡ number) × KeepsAnalysed game.reader text
-
-abbrev pub IsShort : Line → Type 0
-IsShort (line.Solve kept) = ⊤
-IsShort (line.Scores kept) = ⊤
-IsShort (line.Moves kept) = ⊤
-IsShort (line.Transcript kept) = ⊤
-IsShort (line.Play kept) = ⊤
-IsShort (line.Analyse game) = ⊥

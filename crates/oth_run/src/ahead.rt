@@ -5,7 +5,8 @@ ghost use Rattle.oth_rules.specs.Position.{empty_count};
 
 use crate::lines::split_line;
 use crate::solver::Solver;
-use oth_batch::{Asked, Batch, Boards, Jobs, MOST_BOARDS, Recent, answer_among};
+use crate::tuning::MOST_JOBS;
+use oth_batch::{Asked, Batch, Boards, Jobs, ONE_WORKER_MAX_EMPTIES, Recent, answer_among};
 use oth_pool::Gate;
 use oth_rules::Board;
 use oth_search::{Answer, MOST_EMPTIES, TooManyEmpties};
@@ -94,7 +95,7 @@ pub(crate) fn recent_for(alloc: Global, command: Command) -> Recent {
     }
 }
 
-/// Makes jobs of the boards, or of the games, of the whole lines in `bytes`, up to a batch, but of those of which
+/// Makes jobs of the boards, or of the games, of the whole lines in `bytes`, up to `MOST_JOBS`, but of those of which
 /// something was found lately. There are none where the command asks for no search, one worker is asked for or enough,
 /// or there is no memory.
 pub(crate) fn jobs_of_lines<'b, T: Threads + Sync, G: Gate>(
@@ -105,9 +106,7 @@ pub(crate) fn jobs_of_lines<'b, T: Threads + Sync, G: Gate>(
 ) -> Jobs<'b, T, G> {
     let jobs = match command {
         _ if batch.workers < 2 => None,
-        Command::Analyse(last) => {
-            Jobs::of_games(&*batch, games_of_lines(batch.alloc, recent, last, bytes))
-        }
+        Command::Analyse(last) => jobs_of_games(batch, recent, last, bytes),
         _ => jobs_of_boards(batch, recent, command, bytes),
     };
     match jobs {
@@ -124,28 +123,53 @@ fn jobs_of_boards<'b, T: Threads + Sync, G: Gate>(
     bytes: &[u8],
 ) -> Option<Jobs<'b, T, G>> {
     let asked = asked_by(command)?;
-    let mut boards = Boards::new(batch.alloc).ok()?;
-    fill_with_lines(&mut boards, recent, bytes);
+    let boards = of_lines(batch.alloc, bytes, |line: &[u8]| -> Option<Board> {
+        board_of_line(recent, line)
+    });
     Jobs::of(&*batch, asked, boards.as_slice())
 }
 
-// The turns to be told of the games of the whole lines in these bytes, up to a batch, but of those whose first board's
-// answer was found lately, and of those for which there is no memory.
-fn games_of_lines(alloc: Global, recent: &Recent, last: u8, bytes: &[u8]) -> Vec<Vec<Turn>> {
-    let mut games = Vec::new(alloc);
+// Jobs of the last turns of the games of the whole lines in these bytes, as `jobs_of_lines`.
+fn jobs_of_games<'b, T: Threads + Sync, G: Gate>(
+    batch: &'b Batch<'b, T, G>,
+    recent: &Recent,
+    last: u8,
+    bytes: &[u8],
+) -> Option<Jobs<'b, T, G>> {
+    let alloc = batch.alloc;
+    let games = of_lines(alloc, bytes, |line: &[u8]| -> Option<Vec<Turn>> {
+        turns_of_line(alloc, recent, last, line)
+    });
+    Jobs::of_games(&*batch, games)
+}
+
+// What is read of the whole lines in these bytes, up to `MOST_JOBS` of it, as far as there is memory.
+fn of_lines<X: Drop, F: Fn(&[u8]) -> Option<X>>(alloc: Global, bytes: &[u8], read: F) -> Vec<X>
+    requires { F.IsAlwaysCallable read }
+{
+    let mut list = Vec::new(alloc);
     let mut rest = bytes;
     for _ in 0..bytes.len() {
         let Some((line, others)) = split_line(rest) else {
             break;
         };
-        if let Some(turns) = turns_of_line(alloc, recent, last, line) {
-            if games.len() >= MOST_BOARDS || games.push(turns).is_err() {
+        if let Some(found) = read(line) {
+            if list.len() >= MOST_JOBS || list.push(found).is_err() {
                 break;
             }
         }
         rest = others;
     }
-    games
+    list
+}
+
+// The board of the line, if one worker is enough for it and nothing was found of it lately.
+fn board_of_line(recent: &Recent, line: &[u8]) -> Option<Board> {
+    let board = read_solvable(line).ok()?.board;
+    if board.empties() > ONE_WORKER_MAX_EMPTIES || recent.has(&board) {
+        return None;
+    }
+    Some(board)
 }
 
 // The turns to be told of the game, if there are some, and memory for them, and the first board's answer wasn't found

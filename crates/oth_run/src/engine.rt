@@ -99,7 +99,7 @@ impl Engine {
         ensures fails { OnErr result (W.failed writer.new ≡ true) }
     {
         self.line.push(part);
-        let takes_time = self.line.takes_time(jobs.are_shared());
+        let takes_time = self.line.takes_time();
         self.waiting.write_if(takes_time, writer)?;
         self.end_line(solver, jobs, writer)?;
         self.waiting.write_if(takes_time, writer)?;
@@ -162,8 +162,8 @@ impl Engine {
         jobs.beside(&mut work)
     }
 
-    // Takes further bytes of the input, and writes the reports of the lines that end in them, each as soon as it and
-    // those before it are known. Other workers solve boards of these lines too, where that pays.
+    // Takes further bytes of the input, and writes the reports of the lines that end in them, those of boards that take
+    // long as soon as they are known. Other workers solve boards of these lines too, where that pays.
     fn take_chunk<T: Wait + Threads + Sync, W: Sink, G: Gate>(
         &mut self,
         solver: &Solver<'_, T, G>,

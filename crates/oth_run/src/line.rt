@@ -7,7 +7,7 @@ ghost use Rattle.oth_text.specs.Transcript.{StandsFor, is_nil, transcript_readin
 ghost use Rattle.oth_words.specs.declared.settings.Command.{Command as CommandGiven};
 ghost use Rattle.oth_run.specs.Faulty.{is_faulty};
 ghost use Rattle.oth_run.specs.Gathered.{Gathers, StopsInText};
-ghost use Rattle.oth_run.specs.Line.{Holds, IsShort};
+ghost use Rattle.oth_run.specs.Line.{Holds};
 ghost use Rattle.oth_run.specs.Report.{next_number};
 ghost use Rattle.oth_run.specs.Reply.{board_reply, play_reply, reply, transcript_reply};
 ghost use Rattle.oth_text.specs.Ranking.{scores_line_of};
@@ -22,15 +22,13 @@ use oth_batch::Jobs;
 use oth_pool::Gate;
 use oth_search::TooManyEmpties;
 use oth_text::{
-    BoardReader, Failed, GameReader, LineFault, SCORES_LINE_LEN, Sink, TranscriptReader,
-    fault_line, game_fault_line, moves_line, report_line, transcript_fault_line, write_board,
+    BOARD_LINE_LEN, BoardReader, Failed, GameReader, LineFault, MOVES_LINE_LEN, REPORT_LINE_LEN,
+    SCORES_LINE_LEN, Sink, TranscriptReader, fault_line, game_fault_line, moves_line, report_line,
+    transcript_fault_line, write_board,
 };
 use oth_words::Command;
 use std::sync::Wait;
 use std::thread::Threads;
-
-/// The most bytes of a line that is written, without byte 10.
-pub const REPLY_LEN: usize = SCORES_LINE_LEN;
 
 /// A line of any length that is read in parts, by what is asked of it. It takes no more room than it is declared with.
 #[derive(Drop)]
@@ -118,12 +116,11 @@ impl Line {
         }
     }
 
-    /// Whether its answer may take time: that of a board of many empty squares, and where workers share the boards
-    /// (`is_shared`) that of any board, since this one may solve another board while it waits.
-    pub fn takes_time(&self, is_shared: bool) -> bool {
+    /// Whether its answer may take time: that of a board of many empty squares, or of a game.
+    pub fn takes_time(&self) -> bool {
         match self {
-            Line::Solve(reader) => is_shared || has_more_empties(reader, HELD_ANSWER_MAX_EMPTIES),
-            Line::Scores(reader) => is_shared || has_more_empties(reader, HELD_SCORES_MAX_EMPTIES),
+            Line::Solve(reader) => has_more_empties(reader, HELD_ANSWER_MAX_EMPTIES),
+            Line::Scores(reader) => has_more_empties(reader, HELD_SCORES_MAX_EMPTIES),
             Line::Moves(_) | Line::Transcript(_) | Line::Play(_) => false,
             Line::Analyse(_) => true,
         }
@@ -149,29 +146,19 @@ impl Line {
         ensures works { OnOk result (W.failed writer.new ≡ W.failed writer.old) }
         ensures fails { OnErr result (W.failed writer.new ≡ true) }
     {
-        if let Line::Analyse(game) = self {
-            return game.tell(solver, jobs, waiting, writer);
-        }
-        waiting.push_text(writer, self.reply(solver, jobs).as_slice())
-    }
-
-    // What is written of the line, if that is one line, without byte 10.
-    fn reply<T: Wait + Threads + Sync, G: Gate>(
-        &self,
-        solver: &Solver<'_, T, G>,
-        jobs: &Jobs<'_, T, G>,
-    ) -> ArrayVec<u8, REPLY_LEN>
-        ensures { (number : ℕ) (line : List ℕ) → IsShort self.now
-            → Holds solver.now.settings.command self.now number line
-            → result.items ≡ reply solver.now.settings number line }
-    {
         match self {
-            Line::Solve(reader) => solve_reply(reader, solver, jobs),
-            Line::Scores(reader) => scores_reply(reader, solver, jobs),
-            Line::Moves(reader) => moves_reply(reader),
-            Line::Transcript(reader) => transcript_reply(reader),
-            Line::Play(reader) => play_reply(reader),
-            Line::Analyse(_) => ArrayVec::new(),
+            Line::Solve(reader) => {
+                waiting.push_text(writer, solve_reply(reader, solver, jobs).as_slice())
+            }
+            Line::Scores(reader) => {
+                waiting.push_text(writer, scores_reply(reader, solver, jobs).as_slice())
+            }
+            Line::Moves(reader) => waiting.push_text(writer, moves_reply(reader).as_slice()),
+            Line::Transcript(reader) => {
+                waiting.push_text(writer, transcript_reply(reader).as_slice())
+            }
+            Line::Play(reader) => waiting.push_text(writer, play_reply(reader).as_slice()),
+            Line::Analyse(game) => game.tell(solver, jobs, waiting, writer),
         }
     }
 }
@@ -189,7 +176,7 @@ fn solve_reply<T: Wait + Threads + Sync, G: Gate>(
     reader: &BoardReader,
     solver: &Solver<'_, T, G>,
     jobs: &Jobs<'_, T, G>,
-) -> ArrayVec<u8, REPLY_LEN>
+) -> ArrayVec<u8, REPORT_LINE_LEN>
     ensures { (line : List ℕ) → KeepsLine reader.now line
         → result.items ≡ board_reply (report_line_of solver.now.settings.scoring) (solvable_reading line) }
 {
@@ -198,7 +185,7 @@ fn solve_reply<T: Wait + Threads + Sync, G: Gate>(
         Err(fault) => return as_reply(fault_line(&fault).as_slice()),
     };
     match solver.awaited_answer_of(jobs, &position.board) {
-        Ok(answer) => as_reply(report_line(&answer).as_slice()),
+        Ok(answer) => report_line(&answer),
         Err(many) => as_reply(fault_line(&LineFault::Empties(many.empties)).as_slice()),
     }
 }
@@ -208,7 +195,7 @@ fn scores_reply<T: Wait + Threads + Sync, G: Gate>(
     reader: &BoardReader,
     solver: &Solver<'_, T, G>,
     jobs: &Jobs<'_, T, G>,
-) -> ArrayVec<u8, REPLY_LEN>
+) -> ArrayVec<u8, SCORES_LINE_LEN>
     ensures { (line : List ℕ) → KeepsLine reader.now line
         → result.items ≡ board_reply (scores_line_of solver.now.settings.scoring) (solvable_reading line) }
 {
@@ -225,39 +212,39 @@ fn scores_reply<T: Wait + Threads + Sync, G: Gate>(
 }
 
 // All legal moves, or the line's fault.
-fn moves_reply(reader: &BoardReader) -> ArrayVec<u8, REPLY_LEN>
+fn moves_reply(reader: &BoardReader) -> ArrayVec<u8, MOVES_LINE_LEN>
     ensures { (line : List ℕ) → KeepsLine reader.now line → result.items ≡ board_reply moves_line_of (reading line) }
 {
     match reader.read() {
-        Ok(position) => as_reply(moves_line(&position.board).as_slice()),
+        Ok(position) => moves_line(&position.board),
         Err(fault) => as_reply(fault_line(&fault).as_slice()),
     }
 }
 
 // The board line of the position that a transcript leads to, or the line's fault.
-fn transcript_reply(reader: &TranscriptReader) -> ArrayVec<u8, REPLY_LEN>
+fn transcript_reply(reader: &TranscriptReader) -> ArrayVec<u8, BOARD_LINE_LEN>
     ensures { (line : List ℕ) → StandsFor reader.now line
         → result.items ≡ transcript_reply (transcript_reading line) }
 {
     match reader.read() {
-        Ok(position) => as_reply(write_board(&position).as_slice()),
+        Ok(position) => write_board(&position),
         Err(fault) => as_reply(transcript_fault_line(&fault).as_slice()),
     }
 }
 
 // The board line of the position that the moves on a board lead to, or the line's fault.
-fn play_reply(reader: &GameReader) -> ArrayVec<u8, REPLY_LEN>
+fn play_reply(reader: &GameReader) -> ArrayVec<u8, BOARD_LINE_LEN>
     ensures { (line : List ℕ) → KeepsGame reader.now line → result.items ≡ play_reply (game_reading line) }
 {
     match reader.read() {
-        Ok(reached) => as_reply(write_board(&reached).as_slice()),
+        Ok(reached) => write_board(&reached),
         Err(fault) => as_reply(game_fault_line(&fault).as_slice()),
     }
 }
 
-// The text as a reply.
-fn as_reply(text: &[u8]) -> ArrayVec<u8, REPLY_LEN>
-    requires { length text.now ≤ 512 }
+// The text of a fault with room for any reply of its kind.
+fn as_reply<const N: usize>(text: &[u8]) -> ArrayVec<u8, N>
+    requires { length text.now ≤ N }
     ensures { result.items ≡ text.now }
 {
     let mut line = ArrayVec::new();

@@ -28,8 +28,8 @@ use std::thread::Threads;
 ///
 /// A board is solved by `settings.workers` workers over a table of at most `settings.cells` cells, and a book that is
 /// given is asked first. Boards of lines that wait together may be solved side by side, each by one worker over such a
-/// table. The reply to a line is written as soon as it and those before it are known. None of this changes the report,
-/// nor does the gate, nor refused memory or threads. A line takes no memory, however long it is.
+/// table. A reply that takes time is written as soon as it and those before it are known. None of this changes the
+/// report, nor does the gate, nor refused memory or threads. A line takes no memory, however long it is.
 pub fn run<T: Wait + Threads + Sync, R: Source, W: Sink, G: Gate>(
     rt: &T,
     alloc: Global,

@@ -12,7 +12,7 @@ returns-in-Err g c = λ line kept.
 
 pub returns-in-Ok-awaited_answer_of : goal.returns-in-Ok-awaited_answer_of
 returns-in-Ok-awaited_answer_of g c = λ line kept.
-    c.as_reply-in-Ok-awaited_answer_of.ensures ∙ c.as_slice-in-Ok-awaited_answer_of.ensures.value ∙ c.report_line.ensures.text
+    c.report_line.ensures.text
     ∙ ap (λ b. report_line_of c.in-Ok-awaited_answer_of.answer.scoring b) c.in-Ok-awaited_answer_of.ensures.board
     ∙ ap (λ s. report_line_of s c.in-Ok.position.board) c.in-Ok-awaited_answer_of.ensures.scoring
     ∙ sym
