@@ -242,7 +242,7 @@ fn play_reply(reader: &GameReader) -> ArrayVec<u8, BOARD_LINE_LEN>
     }
 }
 
-// The text of a fault with room for any reply of its kind.
+// The text of a fault as a reply, in the room that the others of its kind take.
 fn as_reply<const N: usize>(text: &[u8]) -> ArrayVec<u8, N>
     requires { length text.now ≤ N }
     ensures { result.items ≡ text.now }

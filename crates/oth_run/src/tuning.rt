@@ -13,8 +13,9 @@ pub(crate) const STACK_CHUNK: usize = 4_096;
 /// Bytes of a report that wait for one write, at the most.
 pub(crate) const WAITING_LEN: usize = 16_384;
 
-/// Empty squares: up to here a board's answer waits for those of the next lines that were read with it, at most some 60
-/// milliseconds, and one call writes them. A larger board's answer is written at once.
+/// Empty squares: up to here a board's answer waits for those of the next lines that were read with it, until a larger
+/// board's turn comes or `WAITING_LEN` bytes wait, and one call writes them. A larger board's answer is written at
+/// once.
 pub(crate) const HELD_ANSWER_MAX_EMPTIES: u8 = 8;
 
 /// As `HELD_ANSWER_MAX_EMPTIES`, of the scores of all moves.
