@@ -5,9 +5,10 @@
 
 PROGRAM is a built `othsolve`, BOARDS a file of board lines, thousands of each number of empty squares, so that the start of a process
 counts for little, and each board once, since a reference may remember it. REFERENCE is a command that reads board lines and writes report
-lines. Each command is run RUNS times (5 if not given), all in turn, of which the least seconds count. Three tables are printed: `solve` by
-the number of empty squares; boards of all these numbers mixed, by `solve`, `scores`, `book-add` and `solve --book`; and one line at a
-time, each answered before the next is written, of which the median counts. The exit status is 1 where answers differ.
+lines. Each command is run RUNS times (5 if not given), all in turn, of which the least seconds count. It reads a file, since whoever fills
+a pipe takes a processor. Three tables are printed: `solve` by the number of empty squares; boards of all these numbers mixed, by `solve`,
+`scores`, `book-add` and `solve --book`; and one line at a time, each answered before the next is written, of which the median counts. The
+exit status is 1 where answers differ.
 """
 import argparse
 import functools
@@ -57,8 +58,11 @@ def by_workers(program, command, *behind):
 
 
 def solved(command, given):
-    """Tells what the command writes for these lines, and the wall-clock seconds that it took."""
-    run = timing.timed(command, input=given)
+    """Tells what the command writes for a file of these lines, and the wall-clock seconds that it took."""
+    with tempfile.TemporaryFile() as lines:
+        lines.write(given)
+        lines.seek(0)
+        run = timing.timed(command, stdin=lines)
     return run.wrote, (run.clock,)
 
 

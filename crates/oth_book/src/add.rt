@@ -1,7 +1,6 @@
 //! Additions to a book.
 
 ghost use Rattle.std.specs.Prelude.{◌≡◌, ◌≤◌, ◌<◌, length, IfOk, IfErr, OnErr, OnOk};
-ghost use Rattle.std.specs.Int.{int_max, int_min};
 ghost use Rattle.std.specs.List.{insert};
 ghost use Rattle.oth_book.specs.Add.{HasNoRoom};
 ghost use Rattle.oth_book.specs.Numbers.{refusal_number};
@@ -68,18 +67,4 @@ pub fn put_in(entries: &mut Vec<Claim>, place: usize, entry: Claim) -> Result<Ad
         return Err(AddError::Memory);
     }
     Ok(Added::New)
-}
-
-/// The greater of two bounds.
-pub fn greater(a: i8, b: i8) -> i8
-    ensures { result ≡ int_max a b }
-{
-    if a < b { b } else { a }
-}
-
-/// The lesser of two bounds.
-pub fn lesser(a: i8, b: i8) -> i8
-    ensures { result ≡ int_min a b }
-{
-    if b < a { b } else { a }
 }

@@ -11,7 +11,7 @@ ghost use Rattle.oth_book.specs.Book.{IsTrueBook, IsBookEntry, IsEntryOf, IsGap,
 ghost use Rattle.oth_book.specs.Add.{IsAdded, IsRefused, AreAdded, AreRefused, IsAskable, Keeps, SameBounds};
 ghost use Rattle.oth_book.specs.Add.{answer_entry, bounds_entry, closer};
 
-use crate::add::{AddError, Added, greater, lesser, put_in};
+use crate::add::{AddError, Added, put_in};
 use crate::claim::Claim;
 use crate::order::compare;
 use oth_rules::{Board, Scoring, Sym, map, unmap};
@@ -254,8 +254,8 @@ fn closer_of(kept: &Claim, solved: &Solved) -> Claim
 {
     Claim {
         board: kept.board,
-        lower: greater(kept.lower, solved.interval.lower),
-        upper: lesser(kept.upper, solved.interval.upper),
+        lower: kept.lower.max(solved.interval.lower),
+        upper: kept.upper.min(solved.interval.upper),
         best: 0,
     }
 }

@@ -75,7 +75,7 @@ impl Engine {
         ensures fails { OnErr result (W.failed writer.new ≡ true) }
     {
         self.line.tell(solver, jobs, &mut self.waiting, writer)?;
-        self.waiting.push_text(writer, b"\n")?;
+        self.waiting.push_end(writer)?;
         self.is_faulty |= self.line.is_faulty();
         self.line.clear();
         Ok(())

@@ -150,9 +150,7 @@ impl Line {
             Line::Solve(reader) => {
                 waiting.push_text(writer, solve_reply(reader, solver, jobs).as_slice())
             }
-            Line::Scores(reader) => {
-                waiting.push_text(writer, scores_reply(reader, solver, jobs).as_slice())
-            }
+            Line::Scores(reader) => tell_scores(reader, solver, jobs, waiting, writer),
             Line::Moves(reader) => waiting.push_text(writer, moves_reply(reader).as_slice()),
             Line::Transcript(reader) => {
                 waiting.push_text(writer, transcript_reply(reader).as_slice())
@@ -188,6 +186,28 @@ fn solve_reply<T: Wait + Threads + Sync, G: Gate>(
         Ok(answer) => report_line(&answer),
         Err(many) => as_reply(fault_line(&LineFault::Empties(many.empties)).as_slice()),
     }
+}
+
+// Adds the reply to a board whose moves are scored. Never inlined, so that room for such a reply is cleared for these
+// lines alone.
+#[inline(never)]
+fn tell_scores<T: Wait + Threads + Sync, W: Sink, G: Gate>(
+    reader: &BoardReader,
+    solver: &Solver<'_, T, G>,
+    jobs: &Jobs<'_, T, G>,
+    waiting: &mut Waiting,
+    writer: &mut W,
+) -> Result<(), Failed>
+    ensures ok { OnOk result ((line : List ℕ) → KeepsLine reader.now line
+        → Gathers (W.contents writer.old) (W.contents writer.new) waiting.old.bytes.items waiting.new.bytes.items
+        (board_reply (scores_line_of solver.now.settings.scoring) (solvable_reading line))) }
+    ensures err { OnErr result ((line : List ℕ) → KeepsLine reader.now line
+        → StopsInText (W.contents writer.old) (W.contents writer.new) waiting.old.bytes.items
+        (board_reply (scores_line_of solver.now.settings.scoring) (solvable_reading line))) }
+    ensures works { OnOk result (W.failed writer.new ≡ W.failed writer.old) }
+    ensures fails { OnErr result (W.failed writer.new ≡ true) }
+{
+    waiting.push_text(writer, scores_reply(reader, solver, jobs).as_slice())
 }
 
 // The score of every move, the best first, or the line's fault.

@@ -40,6 +40,22 @@ impl Waiting {
         Ok(())
     }
 
+    /// Adds byte 10, as `push_text` does.
+    pub fn push_end<W: Sink>(&mut self, writer: &mut W) -> Result<(), Failed>
+        ensures ok { OnOk result (Gathers (W.contents writer.old) (W.contents writer.new)
+            self.old.bytes.items self.new.bytes.items (10 ∷ [])) }
+        ensures err { OnErr result
+            (StopsInWaiting (W.contents writer.old) (W.contents writer.new) self.old.bytes.items) }
+        ensures works { OnOk result (W.failed writer.new ≡ W.failed writer.old) }
+        ensures fails { OnErr result (W.failed writer.new ≡ true) }
+    {
+        if self.bytes.remaining_capacity() == 0 {
+            self.write_to(writer)?;
+        }
+        self.bytes.push(b'\n');
+        Ok(())
+    }
+
     /// Adds the text and byte 10, as `push_text` does.
     pub fn push_line<W: Sink>(&mut self, writer: &mut W, text: &[u8]) -> Result<(), Failed>
         requires { length text.now ≤ WAITING_LEN }
@@ -51,7 +67,7 @@ impl Waiting {
         ensures fails { OnErr result (W.failed writer.new ≡ true) }
     {
         self.push_text(writer, text)?;
-        self.push_text(writer, b"\n")?;
+        self.push_end(writer)?;
         Ok(())
     }
 

@@ -8,7 +8,7 @@ ghost use Rattle.oth_text.specs.declared.position.Side.TheVariants.{Black, White
 
 use crate::board_line::side_byte;
 use crate::position::{Position, Side};
-use crate::report::{push_name, push_text, report_line, signed};
+use crate::report::{push_name, push_signed, push_text, report_line};
 use arrayvec::ArrayVec;
 use itoa::Buffer;
 use oth_rules::{Board, Square};
@@ -122,7 +122,7 @@ pub fn turn_line(number: u64, judged: &JudgedTurn) -> ArrayVec<u8, TURN_LINE_LEN
     line.push(side_byte(turn.before.mover));
     push_played(&mut line, turn.played);
     line.push(b' ');
-    push_text(&mut line, signed(judged.score).as_slice());
+    push_signed(&mut line, judged.score);
     line.push(b' ');
     push_text(&mut line, report_line(&judged.answer).as_slice());
     line

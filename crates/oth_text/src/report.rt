@@ -4,8 +4,8 @@ ghost use Rattle.std.specs.Prelude.{◌≡◌, ◌+◌, ◌≤◌, if◌then◌e
 ghost use Rattle.arrayvec.specs.ArrayVec.{array_vec_len};
 ghost use Rattle.oth_rules.specs.Square.{has};
 ghost use Rattle.oth_text.specs.OneLine.{IsOneLine};
-ghost use Rattle.oth_text.specs.Report.{moves_line_of, moves_or_word, names, report_line_of, score_text, square_name};
-ghost use Rattle.oth_text.specs.Report.{squares_of};
+ghost use Rattle.oth_text.specs.Report.{moves_line_of, moves_or_word, names, report_line_of, score_text, sign_byte};
+ghost use Rattle.oth_text.specs.Report.{square_name, squares_of};
 
 use arrayvec::ArrayVec;
 use itoa::Buffer;
@@ -35,23 +35,27 @@ pub fn report_line(answer: &Answer) -> ArrayVec<u8, REPORT_LINE_LEN>
     ensures one_line { IsOneLine result.items }
 {
     let mut line = ArrayVec::new();
-    push_text(&mut line, signed(answer.score).as_slice());
+    push_signed(&mut line, answer.score);
     line.push(b' ');
     push_moves(&mut line, answer.kind, answer.best);
     line
 }
 
-/// A sign and the score.
-pub(crate) fn signed(score: i8) -> ArrayVec<u8, 4>
-    ensures { result.items ≡ score_text score }
+/// Adds a sign and the score. There has to be room for four bytes.
+pub(crate) fn push_signed<const CAPACITY: usize>(line: &mut ArrayVec<u8, CAPACITY>, score: i8)
+    requires { array_vec_len line.old + 4 ≤ CAPACITY }
+    ensures text { line.new.items ≡ line.old.items ++ score_text score }
+    ensures len { array_vec_len line.new ≤ array_vec_len line.old + 4 }
 {
-    let mut line = ArrayVec::new();
-    line.push(if score < 0 { b'-' } else { b'+' });
-    push_text(
-        &mut line,
-        Buffer::new().format(score.unsigned_abs()).as_bytes(),
-    );
-    line
+    line.push(sign_byte(score));
+    push_text(line, Buffer::new().format(score.unsigned_abs()).as_bytes());
+}
+
+// The sign of the score, which zero has too.
+fn sign_byte(score: i8) -> u8
+    ensures { result ≡ sign_byte score }
+{
+    if score < 0 { b'-' } else { b'+' }
 }
 
 // The names of the moves, or `pass`, or `end`.

@@ -18,14 +18,15 @@ returns-in-Solve-clause-err g c =
     on_err_weaker c.push_text.result (λ stops. λ number line held. stops_in _ _ _ (reply c.args.solver.now.settings number line) stops) c.push_text.ensures.err
 
 pub returns-in-Scores-clause-ok : goal.returns-in-Scores-clause-ok
-returns-in-Scores-clause-ok g c = on_ok_weaker c.push_text-in-Scores.result (λ gathers. λ number line held.
+returns-in-Scores-clause-ok g c = on_ok_weaker c.tell_scores.result (λ told. λ number line held.
     let kept = rw c.in-Scores.is at held in
-    gathers_as _ _ _ _ _ _ (c.as_slice-in-Scores.ensures.value ∙ c.scores_reply.ensures line kept.1 ∙ replied c.args.solver.now.settings _ number line kept.0) gathers)
-    c.push_text-in-Scores.ensures.ok
+    gathers_as _ _ _ _ _ _ (replied c.args.solver.now.settings _ number line kept.0) (told line kept.1)) c.tell_scores.ensures.ok
 
 pub returns-in-Scores-clause-err : goal.returns-in-Scores-clause-err
-returns-in-Scores-clause-err g c =
-    on_err_weaker c.push_text-in-Scores.result (λ stops. λ number line held. stops_in _ _ _ (reply c.args.solver.now.settings number line) stops) c.push_text-in-Scores.ensures.err
+returns-in-Scores-clause-err g c = on_err_weaker c.tell_scores.result (λ told. λ number line held before done gathered.
+    let kept = rw c.in-Scores.is at held in
+    subst (λ t. AppendsBeginning before (g.W.Sink.contents c.tell_scores.new.writer) (done ++ t))
+    (replied c.args.solver.now.settings _ number line kept.0) (told line kept.1 before done gathered)) c.tell_scores.ensures.err
 
 pub returns-in-Moves-clause-ok : goal.returns-in-Moves-clause-ok
 returns-in-Moves-clause-ok g c = on_ok_weaker c.push_text-in-Moves.result (λ gathers. λ number line held.
