@@ -3,7 +3,6 @@
 ghost use Rattle.std.specs.Prelude.{◌≡◌, IfSome};
 
 use crate::found::answer_by_image;
-use crate::tuning::RECENT_MIN_EMPTIES;
 use oth_book::Book;
 use oth_rules::{Board, Scoring};
 use oth_search::{Answer, Scores};
@@ -21,12 +20,11 @@ pub enum Asked {
 }
 
 /// What boards have in common whose search is one: where answers are asked the discs of their canonical image, since
-/// the answer of one gives that of each image, and else, or where an image takes as long to make as its search, their
-/// own discs; the mover's before the opposing ones.
+/// the answer of one gives that of each image, and else their own discs; the mover's before the opposing ones.
 pub(crate) fn key_of(asked: Asked, board: &Board) -> (u64, u64) {
     let known = match asked {
-        Asked::Answer if board.empties() >= RECENT_MIN_EMPTIES => board.canonical().0,
-        Asked::Answer | Asked::Scores | Asked::Game => *board,
+        Asked::Answer => board.canonical().0,
+        Asked::Scores | Asked::Game => *board,
     };
     (known.own(), known.opp())
 }

@@ -5,7 +5,7 @@ ghost use Rattle.std.specs.Prelude.{◌≤◌};
 use crate::asked::Asked;
 use crate::tuning::{
     ALL_WORKERS_MIN_EMPTIES, EFFORT_OF_A_THREAD, EMPTIES_FOR_SCORES, GAME_MAX_EMPTIES,
-    ONE_WORKER_MAX_EMPTIES, effort_of,
+    ONE_WORKER_MAX_EMPTIES, RECENT_MIN_EMPTIES, effort_of,
 };
 use oth_rules::Board;
 
@@ -33,6 +33,11 @@ pub(crate) fn empties_to_search(asked: Asked, board: &Board) -> u8 {
         Asked::Answer | Asked::Game => board.empties(),
         Asked::Scores => board.empties() + EMPTIES_FOR_SCORES,
     }
+}
+
+/// Whether it takes longer to find what is asked of the board than to make its key and look that up.
+pub(crate) fn is_worth_a_key(asked: Asked, board: &Board) -> bool {
+    empties_to_search(asked, board) >= RECENT_MIN_EMPTIES
 }
 
 /// The most empty squares of a board of which one worker finds what is asked.

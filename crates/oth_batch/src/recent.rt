@@ -3,9 +3,9 @@
 ghost use Rattle.std.specs.Prelude.{◌≡◌, IfSome};
 
 use crate::asked::{Asked, Found, key_of};
-use crate::effort::empties_to_search;
+use crate::effort::is_worth_a_key;
 use crate::found::copied;
-use crate::tuning::{RECENT_BOARDS, RECENT_MIN_EMPTIES};
+use crate::tuning::RECENT_BOARDS;
 use oth_rules::{Board, Scoring};
 use oth_search::{Answer, Scores};
 use std::alloc::Global;
@@ -65,7 +65,7 @@ impl Recent {
 
     /// Whether something was found of the board, or of an image of it where answers are asked.
     pub fn has(&self, board: &Board) -> bool {
-        if !self.takes(board) {
+        if !is_worth_a_key(self.asked, board) {
             return false;
         }
         match self.kept.try_lock() {
@@ -79,7 +79,7 @@ impl Recent {
         ensures board { IfSome result (λ a. a.board ≡ board.now) }
         ensures scoring { IfSome result (λ a. a.scoring ≡ scoring) }
     {
-        if !self.takes(board) {
+        if !is_worth_a_key(self.asked, board) {
             return None;
         }
         let kept = self.kept.try_lock()?;
@@ -92,7 +92,7 @@ impl Recent {
         ensures board { IfSome result (λ s. s.answer.board ≡ board.now) }
         ensures scoring { IfSome result (λ s. s.answer.scoring ≡ scoring) }
     {
-        if !self.takes(board) {
+        if !is_worth_a_key(self.asked, board) {
             return None;
         }
         let kept = self.kept.try_lock()?;
@@ -101,24 +101,19 @@ impl Recent {
 
     /// Keeps the answer.
     pub fn keep_answer(&self, answer: &Answer) {
-        if self.takes(&answer.board) {
+        if is_worth_a_key(self.asked, &answer.board) {
             self.keep(&answer.board, Found::Answer(*answer));
         }
     }
 
     /// Keeps the scores.
     pub fn keep_scores(&self, scores: &Scores) {
-        if !self.takes(&scores.answer.board) {
+        if !is_worth_a_key(self.asked, &scores.answer.board) {
             return;
         }
         if let Some(copy) = copied(scores) {
             self.keep(&scores.answer.board, Found::Scores(copy));
         }
-    }
-
-    // Whether a search of the board takes longer than a look.
-    fn takes(&self, board: &Board) -> bool {
-        empties_to_search(self.asked, board) >= RECENT_MIN_EMPTIES
     }
 
     // Keeps what was found of the board.

@@ -39,8 +39,8 @@ pub(crate) fn effort_of(empties: u8) -> u64 {
 pub(crate) const ALL_WORKERS_MIN_EMPTIES: u8 = 13;
 
 /// Empty squares of a board whose answer takes as long as what is asked: from here on what was found is kept for a
-/// board that comes again, and where answers are asked is found for its images too. Below it some looks, and images to
-/// look for, take as long as the search.
+/// board that comes again, and where answers are asked is found for its images too. Below it to make a key and look it
+/// up takes as long as the search.
 pub(crate) const RECENT_MIN_EMPTIES: u8 = 9;
 
 /// Boards of a run of which at least is kept what was found, the last ones: more than lines are read at once.

@@ -1,6 +1,6 @@
 //! The line that has begun, and what a line is answered with.
 
-ghost use Rattle.std.specs.Prelude.{◌≡◌, ◌≤◌, ◌++◌, ℕ, List, [], length, true, OnOk, OnErr};
+ghost use Rattle.std.specs.Prelude.{◌≡◌, ◌++◌, ℕ, List, [], true, OnOk, OnErr};
 ghost use Rattle.oth_text.specs.BoardLine.{KeepsLine, reading, solvable_reading};
 ghost use Rattle.oth_text.specs.Game.{KeepsGame, game_reading};
 ghost use Rattle.oth_text.specs.Transcript.{StandsFor, is_nil, transcript_reading};
@@ -17,14 +17,12 @@ use crate::game::BegunGame;
 use crate::solver::Solver;
 use crate::tuning::{HELD_ANSWER_MAX_EMPTIES, HELD_SCORES_MAX_EMPTIES};
 use crate::waiting::Waiting;
-use arrayvec::ArrayVec;
 use oth_batch::Jobs;
 use oth_pool::Gate;
 use oth_search::TooManyEmpties;
 use oth_text::{
-    BOARD_LINE_LEN, BoardReader, Failed, GameReader, LineFault, MOVES_LINE_LEN, REPORT_LINE_LEN,
-    SCORES_LINE_LEN, Sink, TranscriptReader, fault_line, game_fault_line, moves_line, report_line,
-    transcript_fault_line, write_board,
+    BoardReader, Failed, GameReader, LineFault, Sink, TranscriptReader, fault_line,
+    game_fault_line, moves_line, report_line, transcript_fault_line, write_board,
 };
 use oth_words::Command;
 use std::sync::Wait;
@@ -147,15 +145,11 @@ impl Line {
         ensures fails { OnErr result (W.failed writer.new ≡ true) }
     {
         match self {
-            Line::Solve(reader) => {
-                waiting.push_text(writer, solve_reply(reader, solver, jobs).as_slice())
-            }
+            Line::Solve(reader) => tell_answer(reader, solver, jobs, waiting, writer),
             Line::Scores(reader) => tell_scores(reader, solver, jobs, waiting, writer),
-            Line::Moves(reader) => waiting.push_text(writer, moves_reply(reader).as_slice()),
-            Line::Transcript(reader) => {
-                waiting.push_text(writer, transcript_reply(reader).as_slice())
-            }
-            Line::Play(reader) => waiting.push_text(writer, play_reply(reader).as_slice()),
+            Line::Moves(reader) => tell_moves(reader, waiting, writer),
+            Line::Transcript(reader) => tell_transcript(reader, waiting, writer),
+            Line::Play(reader) => tell_play(reader, waiting, writer),
             Line::Analyse(game) => game.tell(solver, jobs, waiting, writer),
         }
     }
@@ -169,27 +163,41 @@ fn has_more_empties(reader: &BoardReader, most: u8) -> bool {
     }
 }
 
-// The score and all best moves, or the line's fault.
-fn solve_reply<T: Wait + Threads + Sync, G: Gate>(
+// Adds the score and all best moves, or the line's fault. Never inlined, nor are those below: each clears room for its
+// own replies alone.
+#[inline(never)]
+fn tell_answer<T: Wait + Threads + Sync, W: Sink, G: Gate>(
     reader: &BoardReader,
     solver: &Solver<'_, T, G>,
     jobs: &Jobs<'_, T, G>,
-) -> ArrayVec<u8, REPORT_LINE_LEN>
-    ensures { (line : List ℕ) → KeepsLine reader.now line
-        → result.items ≡ board_reply (report_line_of solver.now.settings.scoring) (solvable_reading line) }
+    waiting: &mut Waiting,
+    writer: &mut W,
+) -> Result<(), Failed>
+    ensures ok { OnOk result ((line : List ℕ) → KeepsLine reader.now line
+        → Gathers (W.contents writer.old) (W.contents writer.new) waiting.old.bytes.items waiting.new.bytes.items
+        (board_reply (report_line_of solver.now.settings.scoring) (solvable_reading line))) }
+    ensures err { OnErr result ((line : List ℕ) → KeepsLine reader.now line
+        → StopsInText (W.contents writer.old) (W.contents writer.new) waiting.old.bytes.items
+        (board_reply (report_line_of solver.now.settings.scoring) (solvable_reading line))) }
+    ensures works { OnOk result (W.failed writer.new ≡ W.failed writer.old) }
+    ensures fails { OnErr result (W.failed writer.new ≡ true) }
 {
     let position = match reader.read() {
         Ok(position) => position,
-        Err(fault) => return as_reply(fault_line(&fault).as_slice()),
+        Err(fault) => return waiting.push_text(writer, fault_line(&fault).as_slice()),
     };
     match solver.awaited_answer_of(jobs, &position.board) {
-        Ok(answer) => report_line(&answer),
-        Err(many) => as_reply(fault_line(&LineFault::Empties(many.empties)).as_slice()),
+        Ok(answer) => waiting.push_text(writer, report_line(&answer).as_slice()),
+        Err(many) => {
+            waiting.push_text(
+                writer,
+                fault_line(&LineFault::Empties(many.empties)).as_slice(),
+            )
+        }
     }
 }
 
-// Adds the reply to a board whose moves are scored. Never inlined, so that room for such a reply is cleared for these
-// lines alone.
+// Adds the score of every move, the best first, or the line's fault.
 #[inline(never)]
 fn tell_scores<T: Wait + Threads + Sync, W: Sink, G: Gate>(
     reader: &BoardReader,
@@ -207,67 +215,80 @@ fn tell_scores<T: Wait + Threads + Sync, W: Sink, G: Gate>(
     ensures works { OnOk result (W.failed writer.new ≡ W.failed writer.old) }
     ensures fails { OnErr result (W.failed writer.new ≡ true) }
 {
-    waiting.push_text(writer, scores_reply(reader, solver, jobs).as_slice())
-}
-
-// The score of every move, the best first, or the line's fault.
-fn scores_reply<T: Wait + Threads + Sync, G: Gate>(
-    reader: &BoardReader,
-    solver: &Solver<'_, T, G>,
-    jobs: &Jobs<'_, T, G>,
-) -> ArrayVec<u8, SCORES_LINE_LEN>
-    ensures { (line : List ℕ) → KeepsLine reader.now line
-        → result.items ≡ board_reply (scores_line_of solver.now.settings.scoring) (solvable_reading line) }
-{
     let position = match reader.read() {
         Ok(position) => position,
-        Err(fault) => return as_reply(fault_line(&fault).as_slice()),
+        Err(fault) => return waiting.push_text(writer, fault_line(&fault).as_slice()),
     };
     match solver.awaited_scores_line(jobs, &position.board) {
-        Ok(line) => line,
+        Ok(line) => waiting.push_text(writer, line.as_slice()),
         Err(TooManyEmpties { empties }) => {
-            as_reply(fault_line(&LineFault::Empties(empties)).as_slice())
+            waiting.push_text(writer, fault_line(&LineFault::Empties(empties)).as_slice())
         }
     }
 }
 
-// All legal moves, or the line's fault.
-fn moves_reply(reader: &BoardReader) -> ArrayVec<u8, MOVES_LINE_LEN>
-    ensures { (line : List ℕ) → KeepsLine reader.now line → result.items ≡ board_reply moves_line_of (reading line) }
+// Adds all legal moves, or the line's fault.
+#[inline(never)]
+fn tell_moves<W: Sink>(
+    reader: &BoardReader,
+    waiting: &mut Waiting,
+    writer: &mut W,
+) -> Result<(), Failed>
+    ensures ok { OnOk result ((line : List ℕ) → KeepsLine reader.now line
+        → Gathers (W.contents writer.old) (W.contents writer.new) waiting.old.bytes.items waiting.new.bytes.items
+        (board_reply moves_line_of (reading line))) }
+    ensures err { OnErr result ((line : List ℕ) → KeepsLine reader.now line
+        → StopsInText (W.contents writer.old) (W.contents writer.new) waiting.old.bytes.items
+        (board_reply moves_line_of (reading line))) }
+    ensures works { OnOk result (W.failed writer.new ≡ W.failed writer.old) }
+    ensures fails { OnErr result (W.failed writer.new ≡ true) }
 {
     match reader.read() {
-        Ok(position) => moves_line(&position.board),
-        Err(fault) => as_reply(fault_line(&fault).as_slice()),
+        Ok(position) => waiting.push_text(writer, moves_line(&position.board).as_slice()),
+        Err(fault) => waiting.push_text(writer, fault_line(&fault).as_slice()),
     }
 }
 
-// The board line of the position that a transcript leads to, or the line's fault.
-fn transcript_reply(reader: &TranscriptReader) -> ArrayVec<u8, BOARD_LINE_LEN>
-    ensures { (line : List ℕ) → StandsFor reader.now line
-        → result.items ≡ transcript_reply (transcript_reading line) }
+// Adds the board line of the position that a transcript leads to, or the line's fault.
+#[inline(never)]
+fn tell_transcript<W: Sink>(
+    reader: &TranscriptReader,
+    waiting: &mut Waiting,
+    writer: &mut W,
+) -> Result<(), Failed>
+    ensures ok { OnOk result ((line : List ℕ) → StandsFor reader.now line
+        → Gathers (W.contents writer.old) (W.contents writer.new) waiting.old.bytes.items waiting.new.bytes.items
+        (transcript_reply (transcript_reading line))) }
+    ensures err { OnErr result ((line : List ℕ) → StandsFor reader.now line
+        → StopsInText (W.contents writer.old) (W.contents writer.new) waiting.old.bytes.items
+        (transcript_reply (transcript_reading line))) }
+    ensures works { OnOk result (W.failed writer.new ≡ W.failed writer.old) }
+    ensures fails { OnErr result (W.failed writer.new ≡ true) }
 {
     match reader.read() {
-        Ok(position) => write_board(&position),
-        Err(fault) => as_reply(transcript_fault_line(&fault).as_slice()),
+        Ok(position) => waiting.push_text(writer, write_board(&position).as_slice()),
+        Err(fault) => waiting.push_text(writer, transcript_fault_line(&fault).as_slice()),
     }
 }
 
-// The board line of the position that the moves on a board lead to, or the line's fault.
-fn play_reply(reader: &GameReader) -> ArrayVec<u8, BOARD_LINE_LEN>
-    ensures { (line : List ℕ) → KeepsGame reader.now line → result.items ≡ play_reply (game_reading line) }
+// Adds the board line of the position that the moves on a board lead to, or the line's fault.
+#[inline(never)]
+fn tell_play<W: Sink>(
+    reader: &GameReader,
+    waiting: &mut Waiting,
+    writer: &mut W,
+) -> Result<(), Failed>
+    ensures ok { OnOk result ((line : List ℕ) → KeepsGame reader.now line
+        → Gathers (W.contents writer.old) (W.contents writer.new) waiting.old.bytes.items waiting.new.bytes.items
+        (play_reply (game_reading line))) }
+    ensures err { OnErr result ((line : List ℕ) → KeepsGame reader.now line
+        → StopsInText (W.contents writer.old) (W.contents writer.new) waiting.old.bytes.items
+        (play_reply (game_reading line))) }
+    ensures works { OnOk result (W.failed writer.new ≡ W.failed writer.old) }
+    ensures fails { OnErr result (W.failed writer.new ≡ true) }
 {
     match reader.read() {
-        Ok(reached) => write_board(&reached),
-        Err(fault) => as_reply(game_fault_line(&fault).as_slice()),
+        Ok(reached) => waiting.push_text(writer, write_board(&reached).as_slice()),
+        Err(fault) => waiting.push_text(writer, game_fault_line(&fault).as_slice()),
     }
-}
-
-// The text of a fault as a reply, in the room that the others of its kind take.
-fn as_reply<const N: usize>(text: &[u8]) -> ArrayVec<u8, N>
-    requires { length text.now ≤ N }
-    ensures { result.items ≡ text.now }
-{
-    let mut line = ArrayVec::new();
-    line.try_extend_from_slice(text).unwrap();
-    line
 }

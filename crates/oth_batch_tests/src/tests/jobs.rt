@@ -120,3 +120,30 @@ fn no_jobs_have_no_answer(rt: HostRuntime) -> Result<(), Fail> {
     }
     Ok(())
 }
+
+#[test]
+fn boards_of_few_empty_squares_are_found_in_turn(rt: HostRuntime) -> Result<(), Fail> {
+    let Some(few) = images(rt.alloc(), 8) else {
+        panic!(rt; "no boards")
+    };
+    let mut boards = Vec::new(rt.alloc());
+    for _ in 0..3 {
+        for board in few.as_slice() {
+            boards.push(*board)?;
+        }
+    }
+    let batch = batch(&rt, 4, 64, Scoring::Winner);
+    let Some(jobs) = Jobs::of(&batch, Asked::Answer, boards.as_slice()) else {
+        panic!(rt; "no jobs")
+    };
+    let (Some(first), Some(second)) = (boards.as_slice().first(), boards.as_slice().get(1)) else {
+        panic!(rt; "one board")
+    };
+    jobs.do_all();
+    assert!(rt; jobs.found(second).is_none());
+    for board in boards.as_slice() {
+        assert!(rt; jobs.found(board) == solve_alone(board, Scoring::Winner).ok());
+    }
+    assert!(rt; jobs.found(first).is_none());
+    Ok(())
+}
