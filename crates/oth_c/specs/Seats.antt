@@ -6,17 +6,17 @@
 --     Joins x y more more'       where there was no seat there is a further one of the same table
 --     Solves, SolvesFully x b a      a is the answer of the board under the table's scoring, as C has it and as the search
 --     EnclosesIn, EnclosesFully x b      bounds enclose the board's value under the table's scoring, as C has them and as the search
---     DecidesIn, DecidesFully x b alpha      such bounds that tell whether the value is above alpha
+--     DecidesIn x b alpha        such bounds that tell whether the value is above alpha
+--     Leaves R post x y b r      a search of the board from x, of whose result `post` tells, found r and left y
 --     IsKept x y                 it is the same seat of the same table, whatever it has seen
 --     RefusesCells, RefusesTable, RefusesSeat, RefusesBoard      why a call refuses: the first cause that holds
 use Rattle.std.specs.Prelude.{◌≡◌, ℕ, ℤ, pos, ◌+ℤ◌, ◌<◌, ◌≤◌, [], Bool, true, false, if◌then◌else◌, Option, Some, None}
-use Rattle.oth_rules.specs.Position.{empty_count}
+use Rattle.oth_rules.specs.Position.{Position, empty_count}
 use Rattle.oth_rules.specs.declared.scoring.Scoring.{Scoring}
 use Rattle.oth_rules.specs.Score.{score_of}
 use Rattle.oth_rules.specs.Value.{value}
 use Rattle.oth_search.specs.Bounds.Interval.{IsInterval, Encloses, Decides}
 use Rattle.oth_search.specs.Bounds.Full.{IsFullMinimax}
-use Rattle.oth_search.specs.declared.bounds.solved.Solved.{Solved}
 use Rattle.oth_search.specs.declared.shared.stop.Stopped.{Stopped}
 use Rattle.oth_search.specs.declared.bounds.answer.Answer.{Answer}
 use Rattle.oth_table.specs.SharedTable.{IsSame, Makes}
@@ -78,13 +78,11 @@ EnclosesFully (Some u) b s =
 abbrev pub DecidesIn : Option Use → OthBoard → ℤ → ℤ → ℤ → Type 0
 DecidesIn x b alpha lower upper = EnclosesIn x b lower upper × Decides lower upper alpha (alpha +ℤ pos 1)
 
-abbrev pub DecidesFully : Option Use → OthBoard → ℤ → Solved → Type 0
-DecidesFully None b alpha s = ⊥
-DecidesFully (Some u) b alpha s =
+abbrev pub Leaves : (R : Type 0) → (Use → Position → Use × R → Type 0) → Option Use → Option Use → OthBoard → R → Type 0
+Leaves R post x y b r =
     (overlaps b ≡ false)
     × (empty_count (position b) ≤ 30)
-    × (s.board ≡ position b) × (s.scoring ≡ u.table.terms.scoring)
-    × Decides s.interval.lower s.interval.upper alpha (alpha +ℤ pos 1)
+    × ((u v : Use) × (x ≡ Some u) × (y ≡ Some v) × post u (position b) (v, r))
 
 abbrev pub IsKept : Option Use → Option Use → Type 0
 IsKept None y = y ≡ None

@@ -16,7 +16,7 @@ use crate::answer::OthAnswer;
 use crate::board::OthBoard;
 use crate::refusal::{DONE, Refusal, deliver};
 use crate::seat::OthSeat;
-use crate::sharing::lifted;
+use crate::sharing::search_over;
 use crate::solving::{accepted, cells_over, own_table};
 use oth_search::{ScoredMove, Scores, WithLocal, scores_with};
 use std::alloc::Global;
@@ -126,18 +126,8 @@ pub extern "C" fn oth_scores_over(
     ensures refused { result ≢ DONE → (r : RefusedBy) × (result ≡ code_of r) × RefusesBoard seat.old.held board r }
     ensures kept { result ≢ DONE → (seat.new.held ≡ seat.old.held) × (scores.new ≡ scores.old) }
 {
-    deliver(scored_over(alloc, seat, board), scores)
-}
-
-// The scores, or the first refusal.
-fn scored_over(alloc: Global, seat: &mut OthSeat, board: OthBoard) -> Result<OthScores, Refusal>
-    ensures scored { IfOk result (TellsScores seat.old.held board) }
-    ensures same { IsKept seat.old.held seat.new.held }
-    ensures err { IfErr result (λ r. RefusesBoard seat.old.held board r × (seat.new.held ≡ seat.old.held)) }
-{
-    let (board, seated, mut place) = lifted(alloc, seat, board)?;
-    let (seated, scores) = seated.scores(alloc, board);
-    place.seated = Some(seated);
-    seat.put(place);
-    Ok(OthScores::of(&scores))
+    let found = search_over(alloc, seat, board, |seated, board| {
+        seated.scores(alloc, board)
+    });
+    deliver(found.map(|found| OthScores::of(&found)), scores)
 }

@@ -132,56 +132,34 @@ impl Seated {
     }
 
     /// The answer of a board under the table's scoring, and the seat, as it then is.
-    pub fn solve(self, alloc: Global, board: Board) -> (Seated, Answer)
+    pub fn solve(mut self, alloc: Global, board: Board) -> (Seated, Answer)
         ensures kept { fixed_of result.0 ≡ fixed_of self }
         ensures full { IsFullMinimax board self.table.terms.scoring result.1 }
     {
-        let Seated {
-            table,
-            seat,
-            stop,
-            kept,
-        } = self;
-        let mut cells = cells_over(alloc, &board, &table, seat, false);
-        let answer = solve_with(board, &mut cells, table.scoring());
-        let seat = cells.into_cells().into_seat();
-        let seated = Seated {
-            table,
-            seat,
-            stop,
-            kept,
-        };
-        (seated, answer)
+        let seat = self.seat;
+        let mut cells = cells_over(alloc, &board, &self.table, seat, false);
+        let answer = solve_with(board, &mut cells, self.table.scoring());
+        self.seat = cells.into_cells().into_seat();
+        (self, answer)
     }
 
     /// The scores of a board's moves under the table's scoring, and the seat, as it then is.
-    pub fn scores(self, alloc: Global, board: Board) -> (Seated, Scores)
+    pub fn scores(mut self, alloc: Global, board: Board) -> (Seated, Scores)
         ensures kept { fixed_of result.0 ≡ fixed_of self }
         ensures board { result.1.answer.board ≡ board }
         ensures scoring { result.1.answer.scoring ≡ self.table.terms.scoring }
     {
-        let Seated {
-            table,
-            seat,
-            stop,
-            kept,
-        } = self;
-        let mut cells = cells_over(alloc, &board, &table, seat, false);
-        let scores = scores_with(board, &mut cells, table.scoring());
-        let seat = cells.into_cells().into_seat();
-        let seated = Seated {
-            table,
-            seat,
-            stop,
-            kept,
-        };
-        (seated, scores)
+        let seat = self.seat;
+        let mut cells = cells_over(alloc, &board, &self.table, seat, false);
+        let scores = scores_with(board, &mut cells, self.table.scoring());
+        self.seat = cells.into_cells().into_seat();
+        (self, scores)
     }
 
     /// Returns the answer of a board under the table's scoring, or the bounds that are known when about `most` boards
     /// were looked up, or once the table's flag is set; and the seat, as it then is.
     pub fn solve_within(
-        self,
+        mut self,
         alloc: Global,
         board: Board,
         most: u64,
@@ -193,59 +171,37 @@ impl Seated {
         ensures moves { IfErr result.1 (λ s. (s.moves.board ≡ board)
             × (s.moves.scoring ≡ self.table.terms.scoring)) }
     {
-        let Seated {
-            table,
-            seat,
-            stop,
-            kept,
-        } = self;
+        let (seat, kept) = (self.seat, self.kept);
         let (seen, memories) = kept.taken_up(alloc, &board);
-        let cells = WithLocal::of(TableCells::of(&table, seat), memories);
+        let cells = WithLocal::of(TableCells::of(&self.table, seat), memories);
         let mut limited = Limited::going_on(cells, most, seen);
-        let found = solve_until(&board, &mut limited, table.scoring(), &stop);
+        let found = solve_until(&board, &mut limited, self.table.scoring(), &self.stop);
         let (cells, seen) = limited.into_parts();
         let (cells, memories) = cells.into_parts();
         let memories = if found.is_err() { Some(memories) } else { None };
-        let kept = Kept { seen, memories };
-        let seat = cells.into_seat();
-        let seated = Seated {
-            table,
-            seat,
-            stop,
-            kept,
-        };
-        (seated, found)
+        self.seat = cells.into_seat();
+        self.kept = Kept { seen, memories };
+        (self, found)
     }
 
     /// Returns bounds that tell whether the board's value is above `alpha` under the table's scoring, and the seat, as
     /// it then is. A threshold that no value is above, or every one, takes no search.
-    pub fn null_window(self, alloc: Global, board: Board, alpha: i8) -> (Seated, Solved)
+    pub fn null_window(mut self, alloc: Global, board: Board, alpha: i8) -> (Seated, Solved)
         ensures kept { fixed_of result.0 ≡ fixed_of self }
         ensures board { result.1.board ≡ board }
         ensures scoring { result.1.scoring ≡ self.table.terms.scoring }
         ensures decides { Decides result.1.interval.lower result.1.interval.upper alpha (alpha +ℤ pos 1) }
     {
-        let Seated {
-            table,
-            seat,
-            stop,
-            kept,
-        } = self;
-        let scoring = table.scoring();
-        let mut cells = cells_over(alloc, &board, &table, seat, false);
+        let scoring = self.table.scoring();
+        let seat = self.seat;
+        let mut cells = cells_over(alloc, &board, &self.table, seat, false);
         let found = if -64 <= alpha && alpha <= 63 {
             Solved::by_null_window(&board, alpha, &mut cells, scoring)
         } else {
             Solved::unknown(board, scoring)
         };
-        let seat = cells.into_cells().into_seat();
-        let seated = Seated {
-            table,
-            seat,
-            stop,
-            kept,
-        };
-        (seated, found)
+        self.seat = cells.into_cells().into_seat();
+        (self, found)
     }
 
     /// Tells all seats of the table whether searches that may be ended are to end.

@@ -1,12 +1,10 @@
 //! The solver for several threads over one table. Each has a seat of it, and makes its calls by itself.
 
-ghost use Rattle.std.specs.Prelude.{◌≡◌, ◌≢◌, ◌≤◌, IfOk, IfErr, None, Some, false};
-ghost use Rattle.oth_rules.specs.Position.{empty_count};
+ghost use Rattle.std.specs.Prelude.{◌≡◌, ◌≢◌, IfOk, IfErr, None};
 ghost use Rattle.oth_table.specs.Sizes.{IsSize};
-ghost use Rattle.oth_c.specs.Boards.{overlaps, position};
 ghost use Rattle.oth_c.specs.Codes.{code_of};
 ghost use Rattle.oth_c.specs.Seats.{is_held, IsOpenedAt, Opens, Joins, Solves, IsKept};
-ghost use Rattle.oth_c.specs.Seats.{DecidesIn, DecidesFully, RefusesCells, RefusesTable, RefusesSeat, RefusesBoard};
+ghost use Rattle.oth_c.specs.Seats.{DecidesIn, Leaves, RefusesCells, RefusesTable, RefusesSeat, RefusesBoard};
 ghost use Rattle.oth_c.specs.declared.refusal.Refusal.{Refusal as RefusedBy};
 
 use crate::answer::OthAnswer;
@@ -17,7 +15,7 @@ use crate::seated::{SeatSlot, Seated};
 use crate::solving::scoring_of;
 use crate::within::OthBounds;
 use oth_rules::{Board, Scoring};
-use oth_search::{MOST_EMPTIES, Solved};
+use oth_search::MOST_EMPTIES;
 use std::alloc::Global;
 
 /// Makes a table of `cells` cells, 1, 2, 4 .. 262,144, for boards under the scoring of this number, 0 or 1, and its
@@ -126,16 +124,16 @@ fn joined_at(alloc: Global, seated: &mut Option<Seated>, more: &mut OthSeat) -> 
     Ok(())
 }
 
-/// Takes what is at the seat out of its place. Returns the board, the seat with its table, and the place, into which
-/// they are put again after the search of the board; or the first refusal.
-pub fn lifted(
+/// Searches the board by `search`, which takes what is at the seat and gives it back. Returns what it found, or the
+/// first refusal.
+pub fn search_over<R, F: FnOnce(Seated, Board) -> (Seated, R)>(
     alloc: Global,
     seat: &mut OthSeat,
     board: OthBoard,
-) -> Result<(Board, Seated, Box<SeatSlot>), Refusal>
-    ensures board { IfOk result (λ x. (overlaps board ≡ false) × (empty_count (position board) ≤ 30)
-        × (x.0 ≡ position board)) }
-    ensures seated { IfOk result (λ x. seat.old.held ≡ Some x.1) }
+    search: F,
+) -> Result<R, Refusal>
+    requires { F.IsAlwaysCallable search }
+    ensures found { IfOk result (Leaves R (F.post search) seat.old.held seat.new.held board) }
     ensures err { IfErr result (λ r. RefusesBoard seat.old.held board r × (seat.new.held ≡ seat.old.held)) }
 {
     let board = board.board()?;
@@ -146,7 +144,12 @@ pub fn lifted(
         return Err(Refusal::NoSeat);
     };
     match place.seated.take() {
-        Some(seated) => Ok((board, seated, place)),
+        Some(seated) => {
+            let (seated, found) = search(seated, board);
+            place.seated = Some(seated);
+            seat.put(place);
+            Ok(found)
+        }
         None => Err(Refusal::NoSeat),
     }
 }
@@ -166,20 +169,10 @@ pub extern "C" fn oth_solve_over(
     ensures refused { result ≢ DONE → (r : RefusedBy) × (result ≡ code_of r) × RefusesBoard seat.old.held board r }
     ensures kept { result ≢ DONE → (seat.new.held ≡ seat.old.held) × (answer.new ≡ answer.old) }
 {
-    deliver(solved_over(alloc, seat, board), answer)
-}
-
-// The answer, or the first refusal.
-fn solved_over(alloc: Global, seat: &mut OthSeat, board: OthBoard) -> Result<OthAnswer, Refusal>
-    ensures answered { IfOk result (Solves seat.old.held board) }
-    ensures same { IsKept seat.old.held seat.new.held }
-    ensures err { IfErr result (λ r. RefusesBoard seat.old.held board r × (seat.new.held ≡ seat.old.held)) }
-{
-    let (board, seated, mut place) = lifted(alloc, seat, board)?;
-    let (seated, answer) = seated.solve(alloc, board);
-    place.seated = Some(seated);
-    seat.put(place);
-    Ok(OthAnswer::of(&answer))
+    let found = search_over(alloc, seat, board, |seated, board| {
+        seated.solve(alloc, board)
+    });
+    deliver(found.map(|found| OthAnswer::of(&found)), answer)
 }
 
 /// Writes true bounds of the value of a board of at most 30 empty squares, under the table's scoring, that tell whether
@@ -198,31 +191,10 @@ pub extern "C" fn oth_null_window(
     ensures refused { result ≢ DONE → (r : RefusedBy) × (result ≡ code_of r) × RefusesBoard seat.old.held board r }
     ensures kept { result ≢ DONE → (seat.new.held ≡ seat.old.held) × (bounds.new ≡ bounds.old) }
 {
-    match decided_over(alloc, seat, board, alpha) {
-        Ok(found) => {
-            *bounds = OthBounds::of(found.interval);
-            DONE
-        }
-        Err(refusal) => refusal.code(),
-    }
-}
-
-// The board with such bounds, or the first refusal.
-fn decided_over(
-    alloc: Global,
-    seat: &mut OthSeat,
-    board: OthBoard,
-    alpha: i8,
-) -> Result<Solved, Refusal>
-    ensures decided { IfOk result (DecidesFully seat.old.held board alpha) }
-    ensures same { IsKept seat.old.held seat.new.held }
-    ensures err { IfErr result (λ r. RefusesBoard seat.old.held board r × (seat.new.held ≡ seat.old.held)) }
-{
-    let (board, seated, mut place) = lifted(alloc, seat, board)?;
-    let (kept, found) = seated.null_window(alloc, board, alpha);
-    place.seated = Some(kept);
-    seat.put(place);
-    Ok(found)
+    let found = search_over(alloc, seat, board, |seated, board| {
+        seated.null_window(alloc, board, alpha)
+    });
+    deliver(found.map(|found| OthBounds::of(found.interval)), bounds)
 }
 
 /// Frees a seat, and with the last seat its table. Where there is none nothing is done.

@@ -14,7 +14,7 @@ use crate::board::OthBoard;
 use crate::refusal::{DONE, Refusal, STOPPED};
 use crate::scores::NO_SCORE;
 use crate::seat::OthSeat;
-use crate::sharing::lifted;
+use crate::sharing::search_over;
 use oth_rules::Square;
 use oth_search::{Answer, Interval, RootMoves, Stopped};
 use std::alloc::Global;
@@ -192,11 +192,9 @@ fn found_within(
     ensures same { IsKept seat.old.held seat.new.held }
     ensures err { IfErr result (λ r. RefusesBoard seat.old.held board r × (seat.new.held ≡ seat.old.held)) }
 {
-    let (board, seated, mut place) = lifted(alloc, seat, board)?;
-    let (seated, found) = seated.solve_within(alloc, board, most);
-    place.seated = Some(seated);
-    seat.put(place);
-    Ok(found)
+    search_over(alloc, seat, board, |seated, board| {
+        seated.solve_within(alloc, board, most)
+    })
 }
 
 /// Sets the flag of the seat's table: calls of `oth_solve_within` over that table end, those that are under way and

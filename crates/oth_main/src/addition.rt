@@ -1,7 +1,7 @@
 //! Boards that are added to a book.
 
-ghost use Rattle.std.specs.Prelude.{◌≡◌, ◌≢◌, ◌≤◌, ◌<◌, ◌↔◌, ◌++◌, ◌∷◌, [], ℕ, List, All, false, true, IfErr, IfOk};
-ghost use Rattle.std.specs.Prelude.{IsErr, OnErr, OnOk};
+ghost use Rattle.std.specs.Prelude.{◌≡◌, ◌≢◌, ◌≤◌, ◌++◌, ◌∷◌, [], ℕ, List, All, false, true, IfErr, IfOk};
+ghost use Rattle.std.specs.Prelude.{OnErr, OnOk};
 ghost use Rattle.std.specs.Io.KnownBytes.{Appends, IsAtEnd};
 ghost use Rattle.oth_rules.specs.Position.{empty_count};
 ghost use Rattle.oth_rules.specs.Symmetry.{canonical};
@@ -22,9 +22,8 @@ use crate::progress::Progress;
 use oth_batch::{Asked, Recent};
 use oth_book::{AddError, Book, write};
 use oth_pool::Gate;
-use oth_rules::Board;
 use oth_run::{Ahead, Lawful, RunFault, Solver, split_line};
-use oth_search::{Answer, TooManyEmpties};
+use oth_search::Answer;
 use oth_text::{BoardReader, LineFault, Sink, Source, fault_line};
 use std::alloc::Global;
 use std::sync::Wait;
@@ -51,55 +50,19 @@ struct Conditions<'p> {
 }
 
 impl<'p> Conditions<'p> {
-    // The settings, under the book's scoring.
-    fn asked(&self, book: &Book) -> Lawful
-        ensures scoring { result.scoring ≡ book.now.scoring }
+    // What boards are solved with, under the book's scoring. Of each board the book is asked first.
+    fn solver<'s, T: Threads + Sync>(&'s self, rt: &'s T, book: &'s Book) -> Solver<'s, T, Progress>
+        ensures scoring { result.settings.scoring ≡ book.now.scoring }
     {
-        self.settings.to_solve_by(book.scoring())
+        Solver {
+            rt,
+            alloc: self.alloc,
+            gate: self.progress,
+            book: Some(book),
+            settings: self.settings.to_solve_by(book.scoring()),
+            recent: Recent::new(self.alloc, Asked::Answer),
+        }
     }
-}
-
-// Advances `ahead` past the first line in `bytes`. The solver that it may call asks the book of each board first.
-fn advance_line<T: Threads + Sync>(
-    ahead: &mut Ahead,
-    rt: &T,
-    book: &Book,
-    bytes: &[u8],
-    conditions: &Conditions<'_>,
-) {
-    let solver = Solver {
-        rt,
-        alloc: conditions.alloc,
-        gate: conditions.progress,
-        book: Some(book),
-        settings: conditions.asked(book),
-        recent: Recent::new(conditions.alloc, Asked::Answer),
-    };
-    ahead.advance(&solver, bytes);
-}
-
-// The answer of the board, found ahead or now. The solver that is called asks the book of it first.
-fn answer_by<T: Threads + Sync>(
-    ahead: &Ahead,
-    rt: &T,
-    book: &Book,
-    board: &Board,
-    conditions: &Conditions<'_>,
-) -> Result<Answer, TooManyEmpties>
-    ensures refused { IsErr result ↔ (30 < empty_count board.now) }
-    ensures counted { IfErr result (λ e. e.empties ≡ empty_count board.now) }
-    ensures board { IfOk result (λ a. a.board ≡ board.now) }
-    ensures scoring { IfOk result (λ a. a.scoring ≡ book.now.scoring) }
-{
-    let solver = Solver {
-        rt,
-        alloc: conditions.alloc,
-        gate: conditions.progress,
-        book: Some(book),
-        settings: conditions.asked(book),
-        recent: Recent::new(conditions.alloc, Asked::Answer),
-    };
-    ahead.find_answer(&solver, board)
 }
 
 /// The book so far, the line that has begun and its number from 1, answers of the next lines, and how they are solved.
@@ -197,7 +160,8 @@ impl<'p> Addition<'p> {
     {
         let mut rest = bytes;
         while let Some((line, others)) = split_line(rest) {
-            advance_line(&mut self.ahead, rt, &self.book, rest, &self.conditions);
+            self.ahead
+                .advance(&self.conditions.solver(rt, &self.book), rest);
             self.take_line(rt, line, errors)?;
             rest = others;
         }
@@ -283,7 +247,10 @@ impl<'p> Addition<'p> {
         let position = self.line.read()?;
         let board = &position.board;
         self.conditions.progress.awaits(board);
-        match answer_by(&self.ahead, rt, &self.book, board, &self.conditions) {
+        let found = self
+            .ahead
+            .find_answer(&self.conditions.solver(rt, &self.book), board);
+        match found {
             Ok(answer) => Ok(answer),
             Err(many) => Err(LineFault::Empties(many.empties)),
         }

@@ -8,7 +8,7 @@ ghost use Rattle.oth_search.specs.Bounds.Interval.{IsThreshold};
 
 use crate::tuning::{HIGHER_BY, HIGHER_MIN_EMPTIES};
 use arrayvec::ArrayVec;
-use oth_search::{Cells, RootMoves, RootPeers, Solved, first_threshold};
+use oth_search::{Cells, RootMoves, RootPeers, Solved, ask_at, first_threshold};
 
 /// The moves of a root of which is known only that some give no more than this, and the threshold of the guess.
 #[derive(Drop)]
@@ -127,17 +127,7 @@ fn ask_each<C: Cells, P: RootPeers<C>>(
     ensures fixed { C.fixed cells.new ≡ C.fixed cells.old }
 {
     for place in 0..moves.len() {
-        let Some(known) = moves.get(place) else {
-            continue;
-        };
-        if known.child.interval.lower > most {
-            continue;
-        }
-        peers.before(&known);
-        let found = peers.decide(&known, most, cells);
-        moves.narrow(place, &found);
-        peers.after(&known, &*moves);
-        if found.interval.upper <= most {
+        if ask_at(moves, place, most, cells, peers) {
             return true;
         }
     }

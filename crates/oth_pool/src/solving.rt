@@ -106,7 +106,8 @@ pub(crate) fn crew(workers: u8, empties: u8) -> u8
     }
 }
 
-// Returns the answer of `by_book`, a board with the book's bounds.
+// Returns the answer of `by_book`, a board with the book's bounds. Where the mover must pass, the book is asked of the
+// board after the pass first.
 fn answer<R: Threads + Sync, G: Gate>(
     means: &Means<R, G>,
     by_book: &Solved,
@@ -123,29 +124,14 @@ fn answer<R: Threads + Sync, G: Gate>(
         return ended(board, by_book.scoring);
     }
     if board.moves() == 0 {
-        let answer = answer_passed(means, &by_book.passed(), book, cells);
+        let passed = by_book.passed();
+        let answer = match answer_in(book, &passed.board, passed.scoring) {
+            Some(answer) => answer,
+            None => answer_moves(means, &passed, book, cells),
+        };
         return before_pass(board, answer);
     }
     answer_moves(means, by_book, book, cells)
-}
-
-// As `answer_moves`, of the board after a pass: the book's answer, if it has one.
-fn answer_passed<R: Threads + Sync, G: Gate>(
-    means: &Means<R, G>,
-    by_book: &Solved,
-    book: Option<&Book>,
-    cells: u32,
-) -> Answer
-    requires some { can_move by_book.now.board ≡ true }
-    requires few { IsSolvable by_book.now.board }
-    requires crew { IsCrew means.now.workers }
-    ensures board { result.board ≡ by_book.now.board }
-    ensures scoring { result.scoring ≡ by_book.now.scoring }
-{
-    match answer_in(book, &by_book.board, by_book.scoring) {
-        Some(answer) => answer,
-        None => answer_moves(means, by_book, book, cells),
-    }
 }
 
 // As `answer`, of a board whose mover has a move, over a table unless `cells` is 0 or memory is refused. A board of few

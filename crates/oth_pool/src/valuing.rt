@@ -10,7 +10,7 @@ use crate::solving::answer_over;
 use crate::work::room_for;
 use arrayvec::ArrayVec;
 use oth_pieces::awake;
-use oth_search::{Cells, Interval, NoPeers, Solved, ended, is_few, solve_few, value_of};
+use oth_search::{Cells, NoPeers, Solved, ended, is_few, solve_few, value_of};
 use oth_table::TableCells;
 use oth_walk::{Alone, Announced, Gate, Sharing, WorkerCells, worker_cells};
 use std::thread::Threads;
@@ -124,7 +124,7 @@ fn value_alone<R, G: Gate, C: Cells>(
     sibling: Option<&Solved>,
     cells: &mut C,
 ) -> Solved {
-    if is_exact(by_book) {
+    if by_book.interval.is_exact() {
         return *by_book;
     }
     if !means.gate.hears() {
@@ -163,7 +163,7 @@ fn value_together<'t, R: Threads + Sync, G: Gate>(
     requires crew { IsCrew means.now.workers }
 {
     let board = by_book.board;
-    if is_exact(by_book) {
+    if by_book.interval.is_exact() {
         return *by_book;
     }
     if board.is_over() {
@@ -174,10 +174,4 @@ fn value_together<'t, R: Threads + Sync, G: Gate>(
         return Solved::of_answer(&answer).before_pass(&board);
     }
     Solved::of_answer(&answer_over(means, by_book, None, access))
-}
-
-// Whether the bounds are one number.
-fn is_exact(solved: &Solved) -> bool {
-    let Interval { lower, upper } = solved.interval;
-    lower == upper
 }

@@ -24,8 +24,8 @@ pub use ordering::{MoveOrder, order};
 pub use pvs::search;
 pub use root::{
     MOST_EMPTIES, NoPeers, Pace, RootGoal, RootMove, RootMoves, RootPeers, ScoredMove, Scores,
-    TooManyEmpties, answer_by, before_pass, ended, find_first_bound, first_threshold, is_few,
-    scores_with, seeming_value, settle_at, settle_moves, solve_alone, solve_few, solve_moves,
-    solve_with, value_of,
+    TooManyEmpties, answer_by, ask_at, before_pass, ended, find_first_bound, first_threshold,
+    is_few, scores_with, seeming_value, settle_at, settle_moves, solve_alone, solve_few,
+    solve_moves, solve_with, value_of,
 };
 pub use shared::{Limited, Seen, StopFlag, Stopped, TreePeers, put, solve_until};

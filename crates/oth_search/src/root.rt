@@ -20,8 +20,9 @@
 //! scores a guess seems to lie. `step`: how far a null window lies below what is known. `value`: the value of a board
 //! whose best moves nobody asks for; the other moves are only asked whether they are better. `scores`: a board's moves
 //! with their scores, from the values of the boards after them. `few`: the answer of a board of so few empty squares
-//! that none of this pays.
+//! that none of this pays. `best_so_far`: the score that `best_moves` and `few` have come to, and its moves.
 mod best_moves;
+mod best_so_far;
 mod bracket;
 mod few;
 mod glance;
@@ -43,6 +44,6 @@ pub use moves::{RootMove, RootMoves};
 pub use root_peers::{NoPeers, RootPeers};
 pub use scores::{ScoredMove, Scores, answer_by, scores_with};
 pub(crate) use settle::{Round, settle_on};
-pub use settle::{RootGoal, find_first_bound, first_threshold, settle_at, settle_moves};
+pub use settle::{RootGoal, ask_at, find_first_bound, first_threshold, settle_at, settle_moves};
 pub use step::Pace;
 pub use value::value_of;

@@ -43,7 +43,7 @@ pub fn read_entry(line: &[u8], version: Version) -> Option<Claim>
 fn is_entry(board: &Board, bounds: Interval, best: u64) -> bool
     ensures { IsTrue result ↔ ((canonical board.now ≡ board.now) × (bounds.lower <ℤ bounds.upper → best ≡ 0)) }
 {
-    is_canonical(board) && (bounds.lower == bounds.upper || best == 0)
+    is_canonical(board) && (bounds.is_exact() || best == 0)
 }
 
 // Whether the board is its own canonical image.

@@ -2,7 +2,7 @@
 use Rattle.std.proofs.Common.{◌≡◌, ◌⊎◌, inl, inr, ⊎_elim, ℕ, ◌<◌, ◌^◌, Bool, true, false, ◌&&◌, refl, sym, ap, subst, ◌∙◌, arith}
 use Rattle.std.specs.Prelude.{ℤ, pos, negsuc, neg_ℤ, ◌-ℤ◌, ◌≤ℤ◌, ◌<ℤ◌}
 use Rattle.std.specs.Ordering.{int_eq}
-use Rattle.std.proofs.lemmas.Int.{ints}
+use Rattle.std.proofs.lemmas.Int.{ints, by_lt_z}
 use Rattle.std.proofs.lemmas.Bool.{false≢true, cases_eq}
 use Rattle.std.proofs.lemmas.Bool.Decides.{Decides-int_eq}
 use Rattle.oth_rules.specs.Symmetry.{image}
@@ -185,6 +185,19 @@ gives_exactly g p q s score lower upper alpha beta e h i d low high below =
     (λ one. omega (arith, ints, v.below, v.above, one))
     (λ out. ⊎_elim (λ k. absurd (omega (arith, ints, k))) (λ k. absurd (omega (arith, ints, k, i.low, i.ordered))) out)
     d
+
+-- a move that is not worse is marked: alone where it gives more than the score, else beside the others
+pub RootLoop-reached : (g : Scoring) (p q : Position) (left : ℕ → Type 0) (s : ℕ) (rest : ℕ → Type 0) (score : ℤ) (best : ℕ) (lower upper alpha beta r : ℤ) (all : ℕ)
+    → RootLoop g p left score best → Takes left s rest → q ≡ after p s → Encloses lower upper (value (score_of g) q) → IsInterval lower upper
+    → Decides lower upper alpha beta → alpha ≡ negsuc 64 → beta ≡ pos 1 -ℤ score → lower ≤ℤ neg_ℤ score → r ≡ neg_ℤ lower
+    → (r ≡ score → With best s all) → (score <ℤ r → With 0 s all) → RootLoop g p rest r all
+RootLoop-reached g p q left s rest score best lower upper alpha beta r all l k e h i d low high below is equal better =
+    let exactly = gives_exactly g p q s score lower upper alpha beta e h i d low high below ∙ sym is in
+    by_lt_z score r
+    (λ more. RootLoop-better g p left s rest score best r all l k exactly more (better more))
+    (λ no_more.
+    let same : r ≡ score = omega (arith, ints, no_more, is, below) in
+    subst (λ x. RootLoop g p rest x all) (sym same) (RootLoop-equal g p left s rest score best all l k (exactly ∙ same) (equal same)))
 
 -- the kind of a board, by its three cases
 

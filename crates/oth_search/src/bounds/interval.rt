@@ -47,12 +47,19 @@ impl Interval {
         }
     }
 
+    /// Whether the bounds are one number.
+    pub fn is_exact(self) -> bool
+        ensures { IsTrue result ↔ (self.lower ≡ self.upper) }
+    {
+        self.lower == self.upper
+    }
+
     /// Whether the bounds are one number, or both on one side of the window.
     pub fn decides(self, alpha: i8, beta: i8) -> bool
         ensures decided { IsTrue result → Decides self.lower self.upper alpha beta }
         ensures open { IsFalse result → IsOpen self.lower self.upper alpha beta }
     {
-        self.lower == self.upper || self.lower >= beta || self.upper <= alpha
+        self.is_exact() || self.lower >= beta || self.upper <= alpha
     }
 
     /// The bounds as the opponent sees them.

@@ -116,7 +116,7 @@ impl Solved {
         ensures { IsTrue result ↔ ((self.now.interval.lower ≡ self.now.interval.upper)
             ⊎ (threshold <ℤ self.now.interval.lower)) }
     {
-        self.interval.lower == self.interval.upper || self.interval.lower > threshold
+        self.interval.is_exact() || self.interval.lower > threshold
     }
 
     /// The board with wider bounds; `None` exactly if they leave -64..64 or do not contain the old ones.

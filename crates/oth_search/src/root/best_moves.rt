@@ -8,11 +8,12 @@ ghost use Rattle.oth_rules.specs.Laws.{IsScore};
 ghost use Rattle.oth_search.specs.Bounds.Interval.{Encloses, Decides};
 ghost use Rattle.oth_search.specs.Bounds.Full.{IsFullMinimax};
 
+use super::best_so_far::BestSoFar;
 use super::few::{is_few, solve_few};
 use super::moves::{RootMove, RootMoves};
 use super::root_peers::{NoPeers, RootPeers};
 use super::settle::settle_moves;
-use crate::bounds::{Answer, Cells, Interval, Kind, NoCells, Solved, with};
+use crate::bounds::{Answer, Cells, Interval, Kind, NoCells, Solved};
 use crate::local::{StackCells, is_remembered};
 use oth_rules::{Board, Scoring};
 use thiserror::Error;
@@ -151,28 +152,25 @@ pub(crate) fn best_moves<C: Cells>(moves: &RootMoves, cells: &mut C) -> Answer
     ensures fixed { C.fixed cells.new ≡ C.fixed cells.old }
 {
     let root = moves.backed_up();
-    let mut score = root.interval.lower;
-    let mut best = 0;
+    let mut best = BestSoFar {
+        score: root.interval.lower,
+        moves: 0,
+    };
     for root_move in moves.as_slice() {
         let RootMove { square, child } = *root_move;
-        let reply = reply_below(&child, -score, cells);
-        if reply.lower > -score {
+        let reply = reply_below(&child, -best.score, cells);
+        if reply.lower > -best.score {
             continue;
         }
-        if -reply.lower > score {
-            score = -reply.lower;
-            best = with(0, square);
-        } else {
-            best = with(best, square);
-        }
+        best = best.with(square, -reply.lower);
     }
-    Answer {
-        board: root.board,
-        scoring: root.scoring,
-        score,
-        best,
-        kind: Kind::Move,
-    }
+    Answer::of(
+        &root.board,
+        best.score,
+        best.moves,
+        Kind::Move,
+        root.scoring,
+    )
 }
 
 // Bounds of a board, exact if its value is at most `limit`, else above `limit`: those that are known, or else by a

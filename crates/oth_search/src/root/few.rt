@@ -5,8 +5,9 @@ ghost use Rattle.oth_rules.specs.Move.{can_move};
 ghost use Rattle.oth_rules.specs.Laws.{IsScore};
 ghost use Rattle.oth_search.specs.Bounds.Interval.{Decides};
 
+use super::best_so_far::BestSoFar;
 use super::step::Pace;
-use crate::bounds::{Answer, Kind, NoCells, Solved, odd_quadrants, preferred, with, without};
+use crate::bounds::{Answer, Kind, NoCells, Solved, odd_quadrants, preferred, without};
 use crate::nws::nws_with;
 use crate::tuning::FEW_MAX_EMPTIES;
 use oth_rules::{Board, Scoring};
@@ -26,30 +27,21 @@ pub fn solve_few(root: &Solved) -> Answer
     let board = root.board;
     let scoring = root.scoring;
     let odd = odd_quadrants(board.empty_squares());
-    let mut score = root.interval.lower;
-    let mut best = 0;
+    let mut best = BestSoFar {
+        score: root.interval.lower,
+        moves: 0,
+    };
     let mut left = board.moves_by_lines();
     while left != 0 {
         let square = preferred(left, odd);
         left = without(left, square);
-        let reply = at_most(board.play_legal(square), -score, scoring).interval;
-        if reply.lower > -score {
+        let reply = at_most(board.play_legal(square), -best.score, scoring).interval;
+        if reply.lower > -best.score {
             continue;
         }
-        if -reply.lower > score {
-            score = -reply.lower;
-            best = with(0, square);
-        } else {
-            best = with(best, square);
-        }
+        best = best.with(square, -reply.lower);
     }
-    Answer {
-        board,
-        scoring,
-        score,
-        best,
-        kind: Kind::Move,
-    }
+    Answer::of(&board, best.score, best.moves, Kind::Move, scoring)
 }
 
 // The board with its exact value if that is at most `limit`, else with a lower bound above `limit`: by a null window at

@@ -1,8 +1,10 @@
 //! The selective search: few moves at each node, down to boards of few empty squares, which are searched in full. It
 //! makes guesses; no answer rests on it.
 ghost use Rattle.std.specs.Prelude.{◌≡◌, ◌<◌};
+ghost use Rattle.std.specs.List.{All};
 ghost use Rattle.oth_rules.specs.Laws.{IsScore};
 ghost use Rattle.oth_search.specs.Bounds.Interval.{IsThreshold};
+ghost use Rattle.oth_search.specs.Ordering.Children.{IsChild};
 
 use crate::bounds::{Cells, greater, without};
 use crate::nws::{Node, nws_node};
@@ -60,6 +62,17 @@ pub fn seeming_value<C: Cells>(board: Board, alpha: i8, cells: &mut C, scoring: 
     glance(Node::of(board), alpha, sight, cells, scoring)
 }
 
+/// Returns the children of a node, as many as a guess ranks.
+pub(super) fn ranked_for_guess(node: &Node) -> ArrayVec<Child, MOST_RANKED>
+    ensures { All (IsChild node.now.board) result.items }
+{
+    ranked(
+        node,
+        GUESS_EVALUATION_MIN_EMPTIES,
+        GUESS_LOOKAHEAD_MAX_EMPTIES,
+    )
+}
+
 // As `seeming_value`, of any node, as far as `sight` goes.
 #[cycle(glancing)]
 fn glance<C: Cells>(node: Node, alpha: i8, sight: Sight, cells: &mut C, scoring: Scoring) -> i8
@@ -94,11 +107,7 @@ fn glance_at_moves<C: Cells>(
     ensures score { IsScore result }
     ensures fixed { C.fixed cells.new ≡ C.fixed cells.old }
 {
-    let mut ranked: ArrayVec<Child, MOST_RANKED> = ranked(
-        &node,
-        GUESS_EVALUATION_MIN_EMPTIES,
-        GUESS_LOOKAHEAD_MAX_EMPTIES,
-    );
+    let mut ranked = ranked_for_guess(&node);
     let mut best = -64;
     let mut left = node.moves;
     for _ in 0..sight.width {

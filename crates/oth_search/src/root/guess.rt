@@ -6,17 +6,13 @@ ghost use Rattle.oth_rules.specs.Laws.{IsScore};
 ghost use Rattle.oth_search.specs.Bounds.Interval.{IsThreshold};
 
 use super::bracket::Bracket;
-use super::glance::seeming_value;
+use super::glance::{ranked_for_guess, seeming_value};
 use super::moves::RootMoves;
 use super::root_peers::RootPeers;
 use crate::bounds::{Cells, Interval, Solved, greater, lesser, without};
 use crate::nws::Node;
-use crate::ordering::{Child, next_child, ranked, try_again};
-use crate::tuning::{
-    GUESS_DEFERRAL_ROUNDS, GUESS_EVALUATION_MIN_EMPTIES, GUESS_LOOKAHEAD_MAX_EMPTIES, GUESS_ROUNDS,
-    MOST_RANKED,
-};
-use arrayvec::ArrayVec;
+use crate::ordering::{next_child, try_again};
+use crate::tuning::{GUESS_DEFERRAL_ROUNDS, GUESS_ROUNDS};
 use oth_rules::{Board, Scoring};
 
 /// Returns the least value that a board after a move of the root seems to have, by null windows from `likely` on. Moves
@@ -213,11 +209,7 @@ fn glance_at_all_moves<C: Cells, O: RootPeers<C>>(
     ensures score { IsScore result }
     ensures fixed { C.fixed cells.new ≡ C.fixed cells.old }
 {
-    let mut ranked: ArrayVec<Child, MOST_RANKED> = ranked(
-        &node,
-        GUESS_EVALUATION_MIN_EMPTIES,
-        GUESS_LOOKAHEAD_MAX_EMPTIES,
-    );
+    let mut ranked = ranked_for_guess(&node);
     let mut best = -64;
     let mut left = node.moves;
     for turn in 0..GUESS_DEFERRAL_ROUNDS {

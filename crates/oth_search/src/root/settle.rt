@@ -208,17 +208,36 @@ fn ask_all<C: Cells, O: RootPeers<C>>(
         if best(moves, peers) < 64 || peers.is_over(cells) {
             return true;
         }
-        let Some(known) = heard(moves, place, cells, peers) else {
-            continue;
-        };
-        if known.child.interval.lower <= most {
-            peers.before(&known);
-            let found = peers.decide(&known, most, cells);
-            moves.narrow(place, &found);
-            peers.after(&known, &*moves);
-        }
+        heard(moves, place, cells, peers);
+        ask_at(moves, place, most, cells, peers);
     }
     best(moves, peers) < 64 || peers.is_over(cells)
+}
+
+/// Asks whether the board after the move at `place` has at most `most`, unless it is known to have more. Returns
+/// whether it has. The peers hear of the search.
+pub fn ask_at<C: Cells, O: RootPeers<C>>(
+    moves: &mut RootMoves,
+    place: usize,
+    most: i8,
+    cells: &mut C,
+    peers: &mut O,
+) -> bool
+    requires { IsThreshold most }
+    ensures root { moves.new ≡ moves.old }
+    ensures fixed { C.fixed cells.new ≡ C.fixed cells.old }
+{
+    let Some(known) = moves.get(place) else {
+        return false;
+    };
+    if known.child.interval.lower > most {
+        return false;
+    }
+    peers.before(&known);
+    let found = peers.decide(&known, most, cells);
+    moves.narrow(place, &found);
+    peers.after(&known, &*moves);
+    found.interval.upper <= most
 }
 
 // The move at `place`, if there is one, with what is known of the board after it by now, whoever found it.

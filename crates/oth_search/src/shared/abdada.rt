@@ -49,11 +49,12 @@ fn abdada<C: Cells, H: TreePeers<C>>(
     ensures fixed { C.fixed cells.new ≡ C.fixed cells.old }
 {
     let board = asked.board;
-    if plies == 0 || board.empties() < peers.fewest() {
+    if plies == 0 || board.empties() < peers.fewest() || board.is_over() {
         return window.search(&board, cells, asked.scoring);
     }
     if !board.can_move() {
-        return abdada_past(asked, window, plies - 1, cells, peers);
+        let after = Solved::unknown(board.pass(), asked.scoring);
+        return abdada(&after, window.turned(), plies - 1, cells, peers).before_pass(&board);
     }
     let known = Solved::looked_up(&board, cells, asked.scoring);
     if window.is_decided(known.interval) {
@@ -66,29 +67,6 @@ fn abdada<C: Cells, H: TreePeers<C>>(
         return found;
     }
     found.joined(&Solved::looked_up(&board, cells, asked.scoring))
-}
-
-// As `abdada`, of a board whose mover has no move.
-#[cycle(abdada)]
-fn abdada_past<C: Cells, H: TreePeers<C>>(
-    asked: &Solved,
-    window: NullWindow,
-    plies: u8,
-    cells: &mut C,
-    peers: &mut H,
-) -> Solved
-    requires { can_move asked.now.board ≡ false }
-    ensures board { result.board ≡ asked.now.board }
-    ensures scoring { result.scoring ≡ asked.now.scoring }
-    ensures fixed { C.fixed cells.new ≡ C.fixed cells.old }
-{
-    let board = asked.board;
-    let passed = board.pass();
-    if !passed.can_move() {
-        return window.search(&board, cells, asked.scoring);
-    }
-    let after = Solved::unknown(passed, asked.scoring);
-    abdada(&after, window.turned(), plies, cells, peers).before_pass(&board)
 }
 
 // A board while its moves are searched.
@@ -152,14 +130,16 @@ fn abdada_moves<C: Cells, H: TreePeers<C>>(
     };
     for round in 0..MOVE_ROUNDS {
         node.defers = round < LAST_MOVE_ROUND;
-        if let Some(found) = visit_all(&mut node, squares.as_slice(), plies, cells, peers) {
-            return asked.joined(&found);
+        for square in squares.as_slice() {
+            if let Some(found) = visit(&mut node, *square, plies, cells, peers) {
+                return asked.joined(&found);
+            }
         }
     }
     let solved = node.searched.solved();
     put(&solved, cells);
     if let Some(best) = node.best {
-        if solved.interval.lower == solved.interval.upper {
+        if solved.interval.is_exact() {
             peers.prefer(&solved.board, best);
         }
     }
@@ -178,29 +158,6 @@ fn decided_by_child<C: Cells>(asked: &Solved, window: NullWindow, cells: &mut C)
         let reply = Solved::looked_up(&child, cells, asked.scoring);
         if window.is_reached(-upper_of(&reply)) {
             return Some(lifted(&asked.board, square, &reply, cells));
-        }
-    }
-    None
-}
-
-// Makes one round through the moves not searched yet. Returns bounds of the board once no further move is to be
-// searched.
-#[cycle(abdada)]
-fn visit_all<C: Cells, H: TreePeers<C>>(
-    node: &mut OpenNode,
-    squares: &[Square],
-    plies: u8,
-    cells: &mut C,
-    peers: &mut H,
-) -> Option<Solved>
-    ensures board { node.new.searched.board ≡ node.old.searched.board }
-    ensures scoring { node.new.searched.scoring ≡ node.old.searched.scoring }
-    ensures fixed { C.fixed cells.new ≡ C.fixed cells.old }
-{
-    for square in squares {
-        let found = visit(node, *square, plies, cells, peers);
-        if found.is_some() {
-            return found;
         }
     }
     None

@@ -1,81 +1,64 @@
-use Rattle.std.proofs.Common.{refl, sym, ◌∙◌, arith}
+use Rattle.std.proofs.Common.{refl, ◌∙◌, arith}
 use Rattle.std.proofs.lemmas.Int.{ints}
-use Rattle.oth_search.proofs.BoundsLemmas.Bytes.{read-limit, read-negated, IsScore-lower}
+use Rattle.oth_search.proofs.BoundsLemmas.Bytes.{read-negated, IsScore-lower}
 use Rattle.oth_search.proofs.BoundsLemmas.Enclosing.{same_scoring}
 use Rattle.oth_search.proofs.BoundsLemmas.SquareSets.{Takes-without, In-none}
 use Rattle.oth_search.proofs.BoundsLemmas.Replies.{legal-moves}
 use Rattle.oth_search.proofs.RootLemmas.Few.{moves-legal}
-use Rattle.oth_search.proofs.RootLemmas.Roots.{RootLoop-start, RootLoop-worse, RootLoop-equal, RootLoop-better, RootLoop-score, RootLoop-best, gives_less, gives_exactly, kind-move}
+use Rattle.oth_search.proofs.RootLemmas.Roots.{RootLoop-start, RootLoop-worse, RootLoop-reached, RootLoop-score, RootLoop-best, gives_less, kind-move}
 use Rattle.oth_search.proofs.root.few.solve_few.Goals as goal
 
 pub loop-left-init : goal.loop-left-init
 loop-left-init c =
-    let root = c.args.root.now in (
-      omega arith,
-      RootLoop-start root.scoring root.board _ _ _ _ _ root.interval.is_interval root.encloses (omega (arith, ints)) refl
-          (legal-moves root.board _ c.moves_by_lines-left.ensures)
-          (moves-legal root.board _ c.moves_by_lines-left.ensures),
-    )
+    let root = c.args.root.now in
+    RootLoop-start root.scoring root.board _ _ _ _ _ root.interval.is_interval root.encloses (omega (arith, ints)) refl
+    (legal-moves root.board _ c.moves_by_lines-left.ensures)
+    (moves-legal root.board _ c.moves_by_lines-left.ensures)
 
 pub play_legal-requires : goal.play_legal-requires
-play_legal-requires c = c.loop-left.invariant.1.untried c.preferred-square.result c.preferred-square.ensures
+play_legal-requires c = c.loop-left.invariant.untried c.preferred-square.result c.preferred-square.ensures
 
-pub loop-left-preserved-then-reply-score : goal.loop-left-preserved-then-reply-score
-loop-left-preserved-then-reply-score c =
-    let root = c.args.root.now in
-    let child = c.at_most.result in
-    let s = c.preferred-square.result in (
-      c.loop-left.invariant.0,
-      RootLoop-worse root.scoring root.board _ s _ _ _ c.loop-left.invariant.1
-          (Takes-without _ _ _ c.preferred-square.ensures c.without-left.ensures.rest)
-          (gives_less root.scoring root.board child.board s _ child.interval.lower child.interval.upper (c.at_most.ensures.board ∙ c.play_legal.ensures)
-          (same_scoring root.scoring child.scoring child.board _ _ c.at_most.ensures.scoring child.encloses)
-          (omega (arith, ints, c.if-reply-score.true))),
-    )
-
-pub loop-left-preserved-then-reply-score-2 : goal.loop-left-preserved-then-reply-score-2
-loop-left-preserved-then-reply-score-2 c =
+pub loop-left-preserved-then-reply-best : goal.loop-left-preserved-then-reply-best
+loop-left-preserved-then-reply-best c =
     let root = c.args.root.now in
     let child = c.at_most.result in
     let s = c.preferred-square.result in
-    let takes = Takes-without _ _ _ c.preferred-square.ensures c.without-left.ensures.rest in
-    let exactly = gives_exactly root.scoring root.board child.board s c.loop-left.score child.interval.lower child.interval.upper _ _ (c.at_most.ensures.board ∙ c.play_legal.ensures)
+    RootLoop-worse root.scoring root.board _ s _ _ _ c.loop-left.invariant
+    (Takes-without _ _ _ c.preferred-square.ensures c.without-left.ensures.rest)
+    (gives_less root.scoring root.board child.board s _ child.interval.lower child.interval.upper (c.at_most.ensures.board ∙ c.play_legal.ensures)
     (same_scoring root.scoring child.scoring child.board _ _ c.at_most.ensures.scoring child.encloses)
-    child.interval.is_interval c.at_most.ensures.decides
-    refl (read-limit c.loop-left.score _ c.loop-left.invariant.1.range c.loop-left.score-is)
-    (omega (arith, ints, c.loop-left.score-is, c.if-reply-score.false)) in (
-      c.with-best.type_inv,
-      RootLoop-better root.scoring root.board _ s _ _ _ _ _ c.loop-left.invariant.1 takes
-          (exactly ∙ sym (read-negated child.interval.lower (IsScore-lower child.interval.lower child.interval.upper child.interval.is_interval)))
-          (omega (arith, ints, c.if-reply-score-2.true))
-          c.with-best.ensures,
-    )
+    (omega (arith, ints, c.if-reply-best.true)))
 
 pub loop-left-preserved : goal.loop-left-preserved
 loop-left-preserved c =
     let root = c.args.root.now in
     let child = c.at_most.result in
     let s = c.preferred-square.result in
-    let takes = Takes-without _ _ _ c.preferred-square.ensures c.without-left.ensures.rest in
-    let exactly = gives_exactly root.scoring root.board child.board s c.loop-left.score child.interval.lower child.interval.upper _ _ (c.at_most.ensures.board ∙ c.play_legal.ensures)
+    let found = c.with-best.ensures in
+    let range = c.loop-left.invariant.range in
+    RootLoop-reached root.scoring root.board child.board _ s _ c.loop-left.best.score _ child.interval.lower child.interval.upper _ _ _ _ c.loop-left.invariant
+    (Takes-without _ _ _ c.preferred-square.ensures c.without-left.ensures.rest)
+    (c.at_most.ensures.board ∙ c.play_legal.ensures)
     (same_scoring root.scoring child.scoring child.board _ _ c.at_most.ensures.scoring child.encloses)
     child.interval.is_interval c.at_most.ensures.decides
-    refl (read-limit c.loop-left.score _ c.loop-left.invariant.1.range c.loop-left.score-is)
-    (omega (arith, ints, c.loop-left.score-is, c.if-reply-score.false)) in (
-      c.with-best-else-reply-score-2.type_inv,
-      RootLoop-equal root.scoring root.board _ s _ _ _ _ c.loop-left.invariant.1 takes
-          (exactly ∙ omega (arith, ints, c.if-reply-score-2.false, c.if-reply-score.false))
-          c.with-best-else-reply-score-2.ensures,
-    )
+    refl (omega (arith, ints, range.low, range.high))
+    (omega (arith, ints, range.low, range.high, c.if-reply-best.false))
+    (found.score ∙ read-negated child.interval.lower (IsScore-lower child.interval.lower child.interval.upper child.interval.is_interval))
+    (λ same. found.equal (omega (arith, ints, range.low, range.high, found.score, same)))
+    (λ more. found.better (omega (arith, ints, range.low, range.high, found.score, more)))
 
-pub invariant_of-result : goal.invariant_of-result
-invariant_of-result c =
+pub of-requires-clause-score : goal.of-requires-clause-score
+of-requires-clause-score c =
+    let root = c.args.root.now in
+    let l = c.loop-left.invariant in
+    omega (arith, ints, RootLoop-score root.scoring root.board _ _ _ l (In-none c.loop-left.left c.loop-left-test.false) c.requires)
+
+pub of-requires-clause-best : goal.of-requires-clause-best
+of-requires-clause-best c =
     let root = c.args.root.now in
     let l = c.loop-left.invariant in
     let none = In-none c.loop-left.left c.loop-left-test.false in
-    let score = RootLoop-score root.scoring root.board _ _ _ l.1 none c.requires in
-    record {
-      is_value = score;
-      are_best = RootLoop-best root.scoring root.board _ _ _ l.0 l.1 none score;
-      fits = kind-move root.board c.requires;
-    }
+    RootLoop-best root.scoring root.board _ _ _ c.type_inv.best.1.0.1 l none (RootLoop-score root.scoring root.board _ _ _ l none c.requires)
+
+pub of-requires-clause-kind : goal.of-requires-clause-kind
+of-requires-clause-kind c = kind-move c.args.root.now.board c.requires

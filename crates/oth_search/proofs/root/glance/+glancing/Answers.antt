@@ -17,7 +17,7 @@ glance_at_moves-loop-init g t c = record {
   score = record { low = omega (arith, ints); high = omega (arith, ints) };
   fixed = refl;
   legal = legal-moves c.args.node.board c.args.node.moves c.args.node.legal;
-  each = c.ranked-ranked.ensures;
+  each = c.ranked_for_guess-ranked.ensures;
 }
 
 pub glance_at_moves-loop-preserved : goal.glance_at_moves-loop-preserved

@@ -15,7 +15,7 @@ loop-turn-init g c = record {
   score = record { low = omega (arith, ints); high = omega (arith, ints) };
   fixed = refl;
   legal = legal-moves c.args.node.board c.args.node.moves c.args.node.legal;
-  each = c.ranked-ranked.ensures;
+  each = c.ranked_for_guess-ranked.ensures;
 }
 
 pub loop-rest-init : goal.loop-rest-init

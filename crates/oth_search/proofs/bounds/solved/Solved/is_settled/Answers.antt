@@ -1,5 +1,5 @@
 use Rattle.std.proofs.Common.{rules}
 use Rattle.oth_search.proofs.bounds.solved.Solved.is_settled.Goals as goal
 
-pub returns-else-self : goal.returns-else-self
-returns-else-self c = search rules
+pub returns-else-is_exact : goal.returns-else-is_exact
+returns-else-is_exact c = search rules
