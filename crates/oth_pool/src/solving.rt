@@ -17,8 +17,8 @@ use oth_book::Book;
 use oth_pieces::{Floor, FloorSeat, Frontier, is_crew};
 use oth_rules::{Board, Scoring};
 use oth_search::{
-    Answer, Cells, MOST_EMPTIES, NoPeers, RootMoves, Solved, backed_up_from, before_pass, ended,
-    is_few, solve_few, solve_moves,
+    Answer, Cells, Kind, MOST_EMPTIES, NoPeers, RootMoves, Solved, backed_up_from, before_pass,
+    ended, is_few, solve_few, solve_moves,
 };
 use oth_table::{SharedTable, TableCells, is_size};
 use oth_walk::{
@@ -120,18 +120,18 @@ fn answer<R: Threads + Sync, G: Gate>(
     ensures scoring { result.scoring ≡ by_book.now.scoring }
 {
     let board = by_book.board;
-    if board.is_over() {
-        return ended(board, by_book.scoring);
+    match Kind::of(&board) {
+        Kind::Move => answer_moves(means, by_book, book, cells),
+        Kind::Pass => {
+            let passed = by_book.passed();
+            let answer = match answer_in(book, &passed.board, passed.scoring) {
+                Some(answer) => answer,
+                None => answer_moves(means, &passed, book, cells),
+            };
+            before_pass(board, answer)
+        }
+        Kind::End => ended(board, by_book.scoring),
     }
-    if board.moves() == 0 {
-        let passed = by_book.passed();
-        let answer = match answer_in(book, &passed.board, passed.scoring) {
-            Some(answer) => answer,
-            None => answer_moves(means, &passed, book, cells),
-        };
-        return before_pass(board, answer);
-    }
-    answer_moves(means, by_book, book, cells)
 }
 
 // As `answer`, of a board whose mover has a move, over a table unless `cells` is 0 or memory is refused. A board of few

@@ -10,7 +10,7 @@ use crate::solving::answer_over;
 use crate::work::room_for;
 use arrayvec::ArrayVec;
 use oth_pieces::awake;
-use oth_search::{Cells, NoPeers, Solved, ended, is_few, solve_few, value_of};
+use oth_search::{Cells, Kind, NoPeers, Solved, ended, is_few, solve_few, value_of};
 use oth_table::TableCells;
 use oth_walk::{Alone, Announced, Gate, Sharing, WorkerCells, worker_cells};
 use std::thread::Threads;
@@ -144,13 +144,11 @@ fn value_alone<R, G: Gate, C: Cells>(
 // Values `by_book`, a board of few empty squares with the book's bounds.
 fn value_few(by_book: &Solved) -> Solved {
     let board = by_book.board;
-    if board.is_over() {
-        return Solved::of_answer(&ended(board, by_book.scoring));
+    match Kind::of(&board) {
+        Kind::Move => Solved::of_answer(&solve_few(by_book)),
+        Kind::Pass => Solved::of_answer(&solve_few(&by_book.passed())).before_pass(&board),
+        Kind::End => Solved::of_answer(&ended(board, by_book.scoring)),
     }
-    if board.moves() == 0 {
-        return Solved::of_answer(&solve_few(&by_book.passed())).before_pass(&board);
-    }
-    Solved::of_answer(&solve_few(by_book))
 }
 
 // Values `by_book`, a board with the book's bounds, by all workers.
@@ -162,16 +160,16 @@ fn value_together<'t, R: Threads + Sync, G: Gate>(
     requires few { IsSolvable by_book.now.board }
     requires crew { IsCrew means.now.workers }
 {
-    let board = by_book.board;
     if by_book.interval.is_exact() {
         return *by_book;
     }
-    if board.is_over() {
-        return Solved::of_answer(&ended(board, by_book.scoring));
+    let board = by_book.board;
+    match Kind::of(&board) {
+        Kind::Move => Solved::of_answer(&answer_over(means, by_book, None, access)),
+        Kind::Pass => {
+            let answer = answer_over(means, &by_book.passed(), None, access);
+            Solved::of_answer(&answer).before_pass(&board)
+        }
+        Kind::End => Solved::of_answer(&ended(board, by_book.scoring)),
     }
-    if board.moves() == 0 {
-        let answer = answer_over(means, &by_book.passed(), None, access);
-        return Solved::of_answer(&answer).before_pass(&board);
-    }
-    Solved::of_answer(&answer_over(means, by_book, None, access))
 }

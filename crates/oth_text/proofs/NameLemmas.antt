@@ -1,30 +1,24 @@
--- The names of squares on a line, square by square.
-use Rattle.std.proofs.Common.{◌≡◌, ◌+◌, ◌*◌, ◌≤◌, ℕ, List, [], ◌∷◌, ◌++◌, length, Bool, true, false, cond, if◌then◌else◌, arith, sym, refl, ap, ◌∙◌, append_assoc, append-nil}
-use Rattle.std.specs.List.{range_with_len, filter}
-use Rattle.std.proofs.lemmas.List.{map-id, length-append}
-use Rattle.std.proofs.lemmas.List.FromFn.{filter_of_map_range_with_len_more}
+-- The names of squares on a line, one after another.
+use Rattle.std.proofs.Common.{◌≡◌, ◌≢◌, ◌+◌, ◌*◌, ◌≤◌, ℕ, List, [], ◌∷◌, ◌++◌, length, Bool, true, false, not, cond, if◌then◌else◌, arith, sym, refl, ap, ◌∙◌, append_assoc, append-nil}
+use Rattle.std.proofs.lemmas.List.{length-append}
+use Rattle.std.proofs.lemmas.List.Filters.{length-filter_both}
+use Rattle.std.proofs.lemmas.Bool.{false≢true}
 use Rattle.oth_rules.specs.Square.{has, squares}
+use Rattle.oth_search.specs.Bounds.Squares.{In, Without}
+use Rattle.oth_search.proofs.OrderingLemmas.Orders.{squares-first, squares-none}
 use Rattle.oth_text.specs.Report.{names, square_name, squares_of}
-
--- the squares of the word below n
-unfoldable pub squares_below : ℕ → ℕ → List ℕ
-squares_below word n = filter (has word) (range_with_len 0 n)
-
-pub squares_below_more : (word n : ℕ) → squares_below word (n + 1) ≡ squares_below word n ++ cond (has word n) (n ∷ []) []
-unfolding squares_below
-squares_below_more word n =
-    ap (filter (has word)) (sym (map-id (range_with_len 0 (n + 1)))) ∙ filter_of_map_range_with_len_more (has word) (λ x. x) 0 n n (omega arith)
-    ∙ ap (λ xs. filter (has word) xs ++ cond (has word n) (n ∷ []) []) (map-id (range_with_len 0 n))
 
 abbrev pub is_nil : List ℕ → Bool
 is_nil [] = true
 is_nil (x ∷ xs) = false
 
--- the line is what stood there and the names of the squares below n
-pub record AreNames (before line : List ℕ) (word n : ℕ) (is_first : Bool) : Type 0 where
-  pub text : line ≡ before ++ names (squares_below word n)
-  pub first : is_first ≡ is_nil (squares_below word n)
-  pub len : length line + 1 ≤ length before + 3 * n + (if is_first then 1 else 0)
+-- the line is what stood there and the names of the first squares of the word, behind which come those that are left
+pub record AreNames (before line : List ℕ) (word rest : ℕ) (is_first : Bool) : Type 0 where
+  pub named : List ℕ
+  pub text : line ≡ before ++ names named
+  pub first : is_first ≡ is_nil named
+  pub all : named ++ squares_of rest ≡ squares_of word
+  pub len : length line + 1 ≤ length before + 3 * length named + (if is_first then 1 else 0)
 
 pub names_more : (xs : List ℕ) (n : ℕ) → names (xs ++ n ∷ []) ≡ names xs ++ cond (is_nil xs) (square_name n) (32 ∷ square_name n)
 names_more [] n = refl
@@ -35,44 +29,70 @@ is_nil_push : (xs : List ℕ) (n : ℕ) → is_nil (xs ++ n ∷ []) ≡ false
 is_nil_push [] n = refl
 is_nil_push (x ∷ xs) n = refl
 
--- a square that isn't in the word
-pub names_skip : (before line : List ℕ) (word n : ℕ) (is_first : Bool) → AreNames before line word n is_first → has word n ≡ false → AreNames before line word (n + 1) is_first
-names_skip before line word n is_first so_far none =
-    let same : squares_below word (n + 1) ≡ squares_below word n =
-    squares_below_more word n ∙ ap (λ b. squares_below word n ++ cond b (n ∷ []) []) none ∙ append-nil (squares_below word n) in
-    record {
-      text = so_far.text ∙ ap (λ xs. before ++ names xs) (sym same);
-      first = so_far.first ∙ ap is_nil (sym same);
-      len = let h = so_far.len in omega arith;
-    }
+-- the least square of a set comes first
+least_first : (set square rest : ℕ) → In set square → Without set square rest → ((s : ℕ) → In set s → square ≤ s) → squares_of set ≡ square ∷ squares_of rest
+unfolding squares_of
+least_first set square rest h w least = squares-first set square rest h w least
 
--- two bytes more, and three where it isn't the first
-length_push_name : (b : Bool) (line : List ℕ) (before n : ℕ) → length line + 1 ≤ before + 3 * n + (if b then 1 else 0)
-    → length (line ++ cond b (square_name n) (32 ∷ square_name n)) + 1 ≤ before + 3 * (n + 1) + 0
-length_push_name true line before n h = simp length-append (omega arith)
-length_push_name false line before n h = simp length-append (omega arith)
+none_left : (set : ℕ) → set ≡ 0 → squares_of set ≡ []
+unfolding squares_of
+none_left set e = squares-none set e
 
--- a square of the word
-pub names_push : (before line : List ℕ) (word n : ℕ) (is_first : Bool) → AreNames before line word n is_first → has word n ≡ true
-    → AreNames before (line ++ cond is_first (square_name n) (32 ∷ square_name n)) word (n + 1) false
-names_push before line word n is_first so_far some =
-    let squares = squares_below word n in
-    let more : squares_below word (n + 1) ≡ squares ++ n ∷ [] = squares_below_more word n ∙ ap (λ b. squares ++ cond b (n ∷ []) []) some in
-    record {
-      text = ap (λ xs. xs ++ cond is_first (square_name n) (32 ∷ square_name n)) so_far.text
-          ∙ append_assoc before (names squares) _
-          ∙ ap (λ b. before ++ (names squares ++ cond b (square_name n) (32 ∷ square_name n))) so_far.first
-          ∙ ap (λ xs. before ++ xs) (sym (names_more squares n) ∙ ap names (sym more));
-      first = sym (ap is_nil more ∙ is_nil_push squares n);
-      len = length_push_name is_first line (length before) n so_far.len;
-    }
+-- a word has at most 64 squares
+few_squares : (word : ℕ) → length (squares_of word) ≤ 64
+unfolding squares_of squares
+few_squares word =
+    let most = length-filter_both (has word) (λ s. not (has word s)) (λ s. refl) squares in
+    omega (arith, most)
 
 -- nothing was written yet
-pub names_none : (before : List ℕ) (word : ℕ) → AreNames before before word 0 true
-unfolding squares_below
-names_none before word = record { text = sym (append-nil before); first = refl; len = omega arith }
+pub names_none : (before : List ℕ) (word : ℕ) → AreNames before before word word true
+names_none before word = record { named = []; text = sym (append-nil before); first = refl; all = refl; len = omega arith }
+
+-- two bytes more, and three where it isn't the first
+length_push_name : (b : Bool) (line : List ℕ) (before n square : ℕ) → length line + 1 ≤ before + 3 * n + (if b then 1 else 0)
+    → length (line ++ cond b (square_name square) (32 ∷ square_name square)) + 1 ≤ before + 3 * (n + 1) + 0
+length_push_name true line before n square h = simp length-append (omega arith)
+length_push_name false line before n square h = simp length-append (omega arith)
+
+-- the least square that is left
+pub names_push : (before line : List ℕ) (word set square rest : ℕ) (is_first : Bool) → AreNames before line word set is_first
+    → In set square → Without set square rest → ((s : ℕ) → In set s → square ≤ s)
+    → AreNames before (line ++ cond is_first (square_name square) (32 ∷ square_name square)) word rest false
+names_push before line word set square rest is_first so_far h w least =
+    let named = so_far.named in
+    let longer = length_push_name is_first line (length before) (length named) square so_far.len in
+    record {
+      named = named ++ square ∷ [];
+      text = ap (λ xs. xs ++ cond is_first (square_name square) (32 ∷ square_name square)) so_far.text
+          ∙ append_assoc before (names named) _
+          ∙ ap (λ b. before ++ (names named ++ cond b (square_name square) (32 ∷ square_name square))) so_far.first
+          ∙ ap (λ xs. before ++ xs) (sym (names_more named square));
+      first = sym (is_nil_push named square);
+      all = append_assoc named (square ∷ []) (squares_of rest) ∙ ap (λ xs. named ++ xs) (sym (least_first set square rest h w least)) ∙ so_far.all;
+      len = omega (arith, longer, length-append named (square ∷ []));
+    }
+
+-- there is room for one more
+room_for_name : (b : Bool) (line before n : ℕ) → line + 1 ≤ before + 3 * n + (if b then 1 else 0) → (b ≡ true → n ≡ 0) → n + 1 ≤ 64 → line + (if b then 2 else 3) ≤ before + 191
+room_for_name true line before n h none few = omega (arith, none refl)
+room_for_name false line before n h none few = omega arith
+
+no_names : (b : Bool) (xs : List ℕ) → b ≡ is_nil xs → b ≡ true → length xs ≡ 0
+no_names b [] e is = refl
+no_names b (x ∷ xs) e is = absurd (false≢true (sym e ∙ is))
+
+pub names_room : (before line : List ℕ) (word set square rest : ℕ) (is_first : Bool) → AreNames before line word set is_first
+    → In set square → Without set square rest → ((s : ℕ) → In set s → square ≤ s)
+    → length line + (if is_first then 2 else 3) ≤ length before + 191
+names_room before line word set square rest is_first so_far h w least =
+    let total = ap length so_far.all in
+    let parts = length-append so_far.named (squares_of set) in
+    let next = ap length (least_first set square rest h w least) in
+    room_for_name is_first (length line) (length before) (length so_far.named) so_far.len (no_names is_first so_far.named so_far.first)
+    (omega (arith, total, parts, next, few_squares word))
 
 -- all squares
-pub names_all : (before line : List ℕ) (word n : ℕ) (is_first : Bool) → AreNames before line word n is_first → n ≡ 64 → line ≡ before ++ names (squares_of word)
-unfolding squares_below squares_of squares
-names_all before line word n is_first so_far all = so_far.text ∙ ap (λ m. before ++ names (squares_below word m)) all
+pub names_all : (before line : List ℕ) (word rest : ℕ) (is_first : Bool) → AreNames before line word rest is_first → rest ≡ 0 → line ≡ before ++ names (squares_of word)
+names_all before line word rest is_first so_far none =
+    so_far.text ∙ ap (λ xs. before ++ names xs) (sym (append-nil so_far.named) ∙ ap (λ xs. so_far.named ++ xs) (sym (none_left rest none)) ∙ so_far.all)

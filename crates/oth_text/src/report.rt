@@ -1,15 +1,14 @@
 //! The lines that are printed of a board: its moves, or its value and best moves.
 
-ghost use Rattle.std.specs.Prelude.{◌≡◌, ◌+◌, ◌≤◌, if◌then◌else◌, ◌++◌, [], ◌∷◌, ◌<◌, length, ℕ, IsTrue};
+ghost use Rattle.std.specs.Prelude.{◌≡◌, ◌+◌, ◌≤◌, if◌then◌else◌, ◌++◌, [], ◌∷◌, ◌<◌, length, ℕ};
 ghost use Rattle.arrayvec.specs.ArrayVec.{array_vec_len};
-ghost use Rattle.oth_rules.specs.Square.{has};
 ghost use Rattle.oth_text.specs.OneLine.{IsOneLine};
 ghost use Rattle.oth_text.specs.Report.{moves_line_of, moves_or_word, names, report_line_of, score_text, sign_byte};
 ghost use Rattle.oth_text.specs.Report.{square_name, squares_of};
 
 use arrayvec::ArrayVec;
 use itoa::Buffer;
-use oth_rules::Board;
+use oth_rules::{Board, Square};
 use oth_search::{Answer, Kind};
 
 /// The most bytes of a moves line.
@@ -76,20 +75,13 @@ fn push_names<const CAPACITY: usize>(line: &mut ArrayVec<u8, CAPACITY>, squares:
     ensures { line.new.items ≡ line.old.items ++ names (squares_of squares) }
 {
     let mut is_first = true;
-    for n in 0u8..64 {
-        if has(squares, n) {
-            push_name(line, n, is_first);
-            is_first = false;
-        }
+    let mut rest = squares;
+    while rest != 0 {
+        let square = Square::first_of(rest);
+        push_name(line, square.number(), is_first);
+        is_first = false;
+        rest &= !square.word();
     }
-}
-
-// Whether the square of this number is in the set.
-fn has(word: u64, n: u8) -> bool
-    requires { n < 64 }
-    ensures { result ≡ has word n }
-{
-    word >> n & 1 == 1
 }
 
 /// A square's name, behind a space where it isn't the first.

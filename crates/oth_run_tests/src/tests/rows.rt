@@ -9,7 +9,7 @@ use std::sync::Wait;
 use std::thread::Threads;
 
 // Lines, and what `Solve` writes of each.
-const SOLVED: [(&[u8], &[u8]); 23] = [
+const SOLVED: [(&[u8], &[u8]); 14] = [
     (
         b"XXXXXXXXXXXXXXXXXXXXXXXXXXXXXXXXXXXXXXXXXXXXXXXXXXXXXXXXXXXXXXXX X\n",
         b"+64 end\n",
@@ -63,41 +63,8 @@ const SOLVED: [(&[u8], &[u8]); 23] = [
         b"+64 a1 a2\n",
     ),
     (
-        b"---------------------------OX------XO--------------------------- X\n",
-        b"error 5 60\n",
-    ),
-    (
-        b"-------------------------------XXXXXXXXXXXXXXXXXXXXXXXXXXXXXXXXX X\n",
-        b"error 5 31\n",
-    ),
-    (
         b"------------------------------XXXXXXXXXXXXXXXXXXXXXXXXXXXXXXXXXX X\n",
         b"+64 end\n",
-    ),
-    (b"\n", b"error 1\n"),
-    (
-        b"--OXOOO-OOOOOOOOOOOOOOOOOOOOOOOOOOOOOOOOOOOOOOOOOOOOOOOOOOOOOOOO X-\n",
-        b"error 1\n",
-    ),
-    (
-        b"--OXOOO-OOOOOOOOOOOOOOOOOOOOOOOOOOOOOOOOOOOOOOOOOOOOOOOOOOOOOOOO X\r\n",
-        b"error 1\n",
-    ),
-    (
-        b"x-OXOOO-OOOOOOOOOOOOOOOOOOOOOOOOOOOOOOOOOOOOOOOOOOOOOOOOOOOOOOOO X\n",
-        b"error 2 at 1\n",
-    ),
-    (
-        b"--OXO.O-OOOOOOOOOOOOOOOOOOOOOOOOOOOOOOOO?OOOOOOOOOOOOOOOOOOOOOOO X\n",
-        b"error 2 at 6\n",
-    ),
-    (
-        b"--OXOOO-OOOOOOOOOOOOOOOOOOOOOOOOOOOOOOOOOOOOOOOOOOOOOOOOOOOOOOOO.X\n",
-        b"error 3\n",
-    ),
-    (
-        b"--OXOOO-OOOOOOOOOOOOOOOOOOOOOOOOOOOOOOOOOOOOOOOOOOOOOOOOOOOOOOOO x\n",
-        b"error 4\n",
     ),
 ];
 
@@ -146,7 +113,7 @@ const SOLVED_BY_DISCS: [(&[u8], &[u8]); 10] = [
 ];
 
 // Lines, and what `Scores` writes of each.
-const SCORED: [(&[u8], &[u8]); 18] = [
+const SCORED: [(&[u8], &[u8]); 10] = [
     (
         b"XXXXXXXXXXXXXXXXXXXXXXXXXXXXXXXXXXXXXXXXXXXXXXXXXXXXXXXXXXXXXXXX X\n",
         b"+64 end\n",
@@ -184,37 +151,8 @@ const SCORED: [(&[u8], &[u8]); 18] = [
         b"+12 d3 -6 b6 -8 c7 -8 a8 -12 g8 -14 a6\n",
     ),
     (
-        b"---------------------------OX------XO--------------------------- X\n",
-        b"error 5 60\n",
-    ),
-    (
-        b"-------------------------------XXXXXXXXXXXXXXXXXXXXXXXXXXXXXXXXX X\n",
-        b"error 5 31\n",
-    ),
-    (
         b"------------------------------XXXXXXXXXXXXXXXXXXXXXXXXXXXXXXXXXX X\n",
         b"+64 end\n",
-    ),
-    (b"\n", b"error 1\n"),
-    (
-        b"--OXOOO-OOOOOOOOOOOOOOOOOOOOOOOOOOOOOOOOOOOOOOOOOOOOOOOOOOOOOOOO X-\n",
-        b"error 1\n",
-    ),
-    (
-        b"--OXOOO-OOOOOOOOOOOOOOOOOOOOOOOOOOOOOOOOOOOOOOOOOOOOOOOOOOOOOOOO X\r\n",
-        b"error 1\n",
-    ),
-    (
-        b"--OXO.O-OOOOOOOOOOOOOOOOOOOOOOOOOOOOOOOO?OOOOOOOOOOOOOOOOOOOOOOO X\n",
-        b"error 2 at 6\n",
-    ),
-    (
-        b"--OXOOO-OOOOOOOOOOOOOOOOOOOOOOOOOOOOOOOOOOOOOOOOOOOOOOOOOOOOOOOO.X\n",
-        b"error 3\n",
-    ),
-    (
-        b"--OXOOO-OOOOOOOOOOOOOOOOOOOOOOOOOOOOOOOOOOOOOOOOOOOOOOOOOOOOOOOO x\n",
-        b"error 4\n",
     ),
 ];
 
@@ -243,7 +181,7 @@ const SCORED_BY_DISCS: [(&[u8], &[u8]); 5] = [
 ];
 
 // Lines, and what `Moves` writes of each.
-const MOVED: [(&[u8], &[u8]); 8] = [
+const MOVED: [(&[u8], &[u8]); 4] = [
     (
         b"---------------------------OX------XO--------------------------- X\n",
         b"d3 c4 f5 e6\n",
@@ -260,6 +198,10 @@ const MOVED: [(&[u8], &[u8]); 8] = [
         b"XXXXXXXXXXXXXXXXXXXXXXXXXXXXXXXXXXXXXXXXXXXXXXXXXXXXXXXXXXXXXXXX X\n",
         b"end\n",
     ),
+];
+
+// Lines that are no board lines, and what `Solve`, `Scores` and `Moves` write of each.
+const UNREAD: [(&[u8], &[u8]); 7] = [
     (b"\n", b"error 1\n"),
     (
         b"--OXOOO-OOOOOOOOOOOOOOOOOOOOOOOOOOOOOOOOOOOOOOOOOOOOOOOOOOOOOOOO X-\n",
@@ -270,8 +212,32 @@ const MOVED: [(&[u8], &[u8]); 8] = [
         b"error 1\n",
     ),
     (
+        b"x-OXOOO-OOOOOOOOOOOOOOOOOOOOOOOOOOOOOOOOOOOOOOOOOOOOOOOOOOOOOOOO X\n",
+        b"error 2 at 1\n",
+    ),
+    (
+        b"--OXO.O-OOOOOOOOOOOOOOOOOOOOOOOOOOOOOOOO?OOOOOOOOOOOOOOOOOOOOOOO X\n",
+        b"error 2 at 6\n",
+    ),
+    (
+        b"--OXOOO-OOOOOOOOOOOOOOOOOOOOOOOOOOOOOOOOOOOOOOOOOOOOOOOOOOOOOOOO.X\n",
+        b"error 3\n",
+    ),
+    (
         b"--OXOOO-OOOOOOOOOOOOOOOOOOOOOOOOOOOOOOOOOOOOOOOOOOOOOOOOOOOOOOOO x\n",
         b"error 4\n",
+    ),
+];
+
+// Boards of too many empty squares, and what `Solve` and `Scores` write of each.
+const TOO_MANY: [(&[u8], &[u8]); 2] = [
+    (
+        b"---------------------------OX------XO--------------------------- X\n",
+        b"error 5 60\n",
+    ),
+    (
+        b"-------------------------------XXXXXXXXXXXXXXXXXXXXXXXXXXXXXXXXX X\n",
+        b"error 5 31\n",
     ),
 ];
 
@@ -370,6 +336,25 @@ fn solves_each_row_by_discs(rt: HostRuntime) {
         &by_two_workers(Scoring::Discs),
         SOLVED_BY_DISCS.as_slice(),
     );
+}
+
+// By any workers and under either scoring, which change nothing.
+#[test]
+fn lines_that_cannot_be_answered_tell_their_fault(rt: HostRuntime) {
+    for scoring in [Scoring::Winner, Scoring::Discs] {
+        for command in [Command::Solve, Command::Scores] {
+            for (workers, cells) in [(1, 0), (2, 1), (16, 64)] {
+                let asked = Settings {
+                    workers,
+                    cells,
+                    ..settings(command, scoring)
+                };
+                check_rows(&rt, &asked, UNREAD.as_slice());
+                check_rows(&rt, &asked, TOO_MANY.as_slice());
+            }
+        }
+        check_rows(&rt, &settings(Command::Moves, scoring), UNREAD.as_slice());
+    }
 }
 
 #[test]

@@ -6,6 +6,7 @@ ghost use Rattle.oth_search.specs.Bounds.Squares.{In, Without};
 ghost use Rattle.oth_search.specs.Bounds.Replies.{IsBackedUp};
 
 use super::interval::greater;
+use super::kind::Kind;
 use super::solved::Solved;
 use super::square_set::{first, without};
 use oth_rules::{Board, Scoring, Square};
@@ -97,14 +98,11 @@ pub fn backed_up_from(board: Board, plies: u8, known: &[Solved], scoring: Scorin
     ensures board { result.board ≡ board }
     ensures scoring { result.scoring ≡ scoring }
 {
-    if board.moves() != 0 {
-        return known_by_moves(board, plies, known, scoring);
+    match Kind::of(&board) {
+        Kind::Move => known_by_moves(board, plies, known, scoring),
+        Kind::Pass => known_by_moves(board.pass(), plies, known, scoring).before_pass(&board),
+        Kind::End => bounds_among(board, known, scoring),
     }
-    let passed = board.pass();
-    if passed.moves() != 0 {
-        return known_by_moves(passed, plies, known, scoring).before_pass(&board);
-    }
-    bounds_among(board, known, scoring)
 }
 
 // As `backed_up_from`, of a board whose mover has a move.

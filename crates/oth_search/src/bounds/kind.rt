@@ -20,9 +20,9 @@ impl Kind {
     pub fn of(board: &Board) -> Kind
         ensures { result ≡ kind_of board.now }
     {
-        if board.moves() != 0 {
+        if board.moves_by_lines() != 0 {
             Kind::Move
-        } else if board.pass().moves() != 0 {
+        } else if board.pass().moves_by_lines() != 0 {
             Kind::Pass
         } else {
             Kind::End

@@ -70,14 +70,14 @@ pub fn solve_with<C: Cells>(board: Board, cells: &mut C, scoring: Scoring) -> An
     ensures scoring { result.scoring ≡ scoring }
     ensures fixed { C.fixed cells.new ≡ C.fixed cells.old }
 {
-    if board.is_over() {
-        return ended(board, scoring);
+    match Kind::of(&board) {
+        Kind::Move => solve_unobserved(board, cells, scoring),
+        Kind::Pass => {
+            let passed = solve_unobserved(board.pass(), cells, scoring);
+            before_pass(board, passed)
+        }
+        Kind::End => ended(board, scoring),
     }
-    if board.moves() == 0 {
-        let passed = solve_unobserved(board.pass(), cells, scoring);
-        return before_pass(board, passed);
-    }
-    solve_unobserved(board, cells, scoring)
 }
 
 // The answer of a board whose mover has a move, by a search of which nobody hears.

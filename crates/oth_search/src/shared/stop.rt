@@ -9,7 +9,7 @@ ghost use Rattle.oth_search.specs.Bounds.Full.{IsFullMinimax};
 use super::flag::StopFlag;
 use super::seen::{Begun, Seen};
 use super::tree_peers::TreePeers;
-use crate::bounds::{Answer, Cells, Entry, Interval, NullWindow, Solved};
+use crate::bounds::{Answer, Cells, Entry, Interval, Kind, NullWindow, Solved};
 use crate::root::{
     Pace, RootGoal, RootMove, RootMoves, RootPeers, Round, before_pass, best_moves, ended,
     first_threshold, settle_on,
@@ -225,13 +225,11 @@ pub fn solve_until<C: Cells>(
     ensures spent { IfErr result (λ s. cells.new.left ≡ 0) }
     ensures fixed { C.fixed cells.new.cells ≡ C.fixed cells.old.cells }
 {
-    if board.is_over() {
-        return Ok(ended(*board, scoring));
+    match Kind::of(board) {
+        Kind::Move => solve_moves_until(*board, cells, scoring, stop),
+        Kind::Pass => solve_past_until(board, cells, scoring, stop),
+        Kind::End => Ok(ended(*board, scoring)),
     }
-    if board.can_move() {
-        return solve_moves_until(*board, cells, scoring, stop);
-    }
-    solve_past_until(board, cells, scoring, stop)
 }
 
 // As `solve_until`, of a board whose mover must pass.

@@ -1,35 +1,31 @@
-use Rattle.std.proofs.Common.{ap, refl, sym, ◌∙◌, arith}
+use Rattle.std.proofs.Common.{ap, sym, ◌∙◌, arith}
 use Rattle.oth_rules.specs.Position.{pass, empty_count}
-use Rattle.oth_rules.proofs.SearchLaws.{is_over-false, empty_count-pass}
-use Rattle.oth_search.proofs.BoundsLemmas.Replies.{can_move-from_moves, can_move-from_none, can_move-after_pass}
+use Rattle.oth_rules.specs.Move.{can_move}
+use Rattle.oth_rules.proofs.SearchLaws.{empty_count-pass}
+use Rattle.oth_search.proofs.BoundsLemmas.KindLemmas.{move-can, pass-must, end-over}
 use Rattle.oth_pool.proofs.solving.answer.Goals as goal
 
+pub answer_moves-requires-clause-some : goal.answer_moves-requires-clause-some
+answer_moves-requires-clause-some g c = λ κs within. move-can c.args.by_book.now.board (sym c.in-Move.is ∙ c.of.ensures)
+
 pub passed-passed-requires-clause-none : goal.passed-passed-requires-clause-none
-passed-passed-requires-clause-none g c = can_move-from_none c.args.by_book.now.board _ c.moves.ensures c.if-moves-eq0.true
+passed-passed-requires-clause-none g c = (pass-must c.args.by_book.now.board (sym c.in-Pass.is ∙ c.of.ensures)).0
 
 pub passed-passed-requires-clause-some : goal.passed-passed-requires-clause-some
-passed-passed-requires-clause-some g c =
-    can_move-after_pass c.args.by_book.now.board (pass c.args.by_book.now.board) refl
-    (can_move-from_none c.args.by_book.now.board _ c.moves.ensures c.if-moves-eq0.true)
-    (is_over-false c.args.by_book.now.board (sym c.is_over.ensures ∙ c.if-is_over.false))
+passed-passed-requires-clause-some g c = (pass-must c.args.by_book.now.board (sym c.in-Pass.is ∙ c.of.ensures)).1
 
 pub answer_moves-answer-requires-clause-some : goal.answer_moves-answer-requires-clause-some
 answer_moves-answer-requires-clause-some g c = λ κs within.
-    can_move-after_pass c.args.by_book.now.board _ c.passed-passed.ensures.board
-    (can_move-from_none c.args.by_book.now.board _ c.moves.ensures c.if-moves-eq0.true)
-    (is_over-false c.args.by_book.now.board (sym c.is_over.ensures ∙ c.if-is_over.false))
+    ap can_move c.passed-passed.ensures.board ∙ (pass-must c.args.by_book.now.board (sym c.in-Pass.is ∙ c.of.ensures)).1
 
 pub answer_moves-answer-requires-clause-few : goal.answer_moves-answer-requires-clause-few
 answer_moves-answer-requires-clause-few g c = omega (arith, c.requires.few, ap empty_count c.passed-passed.ensures.board, empty_count-pass c.args.by_book.now.board)
 
 pub before_pass-requires-clause-none : goal.before_pass-requires-clause-none
-before_pass-requires-clause-none g c = can_move-from_none c.args.by_book.now.board _ c.moves.ensures c.if-moves-eq0.true
+before_pass-requires-clause-none g c = (pass-must c.args.by_book.now.board (sym c.in-Pass.is ∙ c.of.ensures)).0
 
 pub before_pass-requires-clause-some : goal.before_pass-requires-clause-some
-before_pass-requires-clause-some g c =
-    can_move-after_pass c.args.by_book.now.board (pass c.args.by_book.now.board) refl
-    (can_move-from_none c.args.by_book.now.board _ c.moves.ensures c.if-moves-eq0.true)
-    (is_over-false c.args.by_book.now.board (sym c.is_over.ensures ∙ c.if-is_over.false))
+before_pass-requires-clause-some g c = (pass-must c.args.by_book.now.board (sym c.in-Pass.is ∙ c.of.ensures)).1
 
-pub answer_moves-requires-clause-some : goal.answer_moves-requires-clause-some
-answer_moves-requires-clause-some g c = λ κs within. can_move-from_moves c.args.by_book.now.board _ c.moves.ensures c.if-moves-eq0.false
+pub ended-requires : goal.ended-requires
+ended-requires g c = end-over c.args.by_book.now.board (sym c.in-End.is ∙ c.of.ensures)

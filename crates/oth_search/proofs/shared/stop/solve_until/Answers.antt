@@ -1,10 +1,15 @@
-use Rattle.std.proofs.Common.{refl, sym, ◌∙◌}
-use Rattle.oth_rules.proofs.SearchLaws.{is_over-false}
-use Rattle.oth_search.proofs.BoundsLemmas.Replies.{can_move-after_pass}
+use Rattle.std.proofs.Common.{sym, ◌∙◌}
+use Rattle.oth_search.proofs.BoundsLemmas.KindLemmas.{move-can, pass-must, end-over}
 use Rattle.oth_search.proofs.shared.stop.solve_until.Goals as goal
 
+pub solve_moves_until-requires : goal.solve_moves_until-requires
+solve_moves_until-requires g c = move-can c.args.board.now (sym c.in-Move.is ∙ c.of.ensures)
+
+pub solve_past_until-requires-clause-none : goal.solve_past_until-requires-clause-none
+solve_past_until-requires-clause-none g c = (pass-must c.args.board.now (sym c.in-Pass.is ∙ c.of.ensures)).0
+
 pub solve_past_until-requires-clause-some : goal.solve_past_until-requires-clause-some
-solve_past_until-requires-clause-some g c =
-    can_move-after_pass c.args.board.now _ refl
-    (sym c.can_move.ensures ∙ c.if-can_move.false)
-    (is_over-false c.args.board.now (sym c.is_over.ensures ∙ c.if-is_over.false))
+solve_past_until-requires-clause-some g c = (pass-must c.args.board.now (sym c.in-Pass.is ∙ c.of.ensures)).1
+
+pub ended-requires : goal.ended-requires
+ended-requires g c = end-over c.args.board.now (sym c.in-End.is ∙ c.of.ensures)
