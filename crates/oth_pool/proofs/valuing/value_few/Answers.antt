@@ -12,8 +12,8 @@ passed-requires-clause-none c = (pass-must c.args.by_book.now.board (sym c.in-Pa
 pub passed-requires-clause-some : goal.passed-requires-clause-some
 passed-requires-clause-some c = (pass-must c.args.by_book.now.board (sym c.in-Pass.is ∙ c.of.ensures)).1
 
-pub solve_few-in-Pass-requires : goal.solve_few-in-Pass-requires
-solve_few-in-Pass-requires c =
+pub solve_few-requires-in-Pass : goal.solve_few-requires-in-Pass
+solve_few-requires-in-Pass c =
     ap can_move c.passed.ensures.board ∙ (pass-must c.args.by_book.now.board (sym c.in-Pass.is ∙ c.of.ensures)).1
 
 pub before_pass-requires-clause-none : goal.before_pass-requires-clause-none
