@@ -16,16 +16,14 @@
 //! the compiler leaves nothing of them.
 //!
 //! `moves`: the root's moves, each legal one once with the board after it, true by the type, in move order; all of the
-//! above narrow what is known of these boards. `glance`: the selective search of the guess. `bracket`: between which
-//! scores a guess seems to lie. `step`: how far a null window lies below what is known. `value`: the value of a board
-//! whose best moves nobody asks for; the other moves are only asked whether they are better. `scores`: a board's moves
-//! with their scores, from the values of the boards after them. `few`: the answer of a board of so few empty squares
-//! that none of this pays. `best_so_far`: the score that `best_moves` and `few` have come to, and its moves.
+//! above narrow what is known of these boards. `guess`, a room of its own: the first guess and the selective search
+//! that it is made by. `step`: how far a null window lies below what is known. `value`: the value of a board whose best
+//! moves nobody asks for; the other moves are only asked whether they are better. `scores`: a board's moves with their
+//! scores, from the values of the boards after them. `few`: the answer of a board of so few empty squares that none of
+//! this pays. `best_so_far`: the score that `best_moves` and `few` have come to, and its moves.
 mod best_moves;
 mod best_so_far;
-mod bracket;
 mod few;
-mod glance;
 mod guess;
 mod moves;
 mod root_peers;
@@ -39,7 +37,7 @@ pub use best_moves::{
     MOST_EMPTIES, TooManyEmpties, before_pass, ended, solve_alone, solve_moves, solve_with,
 };
 pub use few::{is_few, solve_few};
-pub use glance::seeming_value;
+pub use guess::seeming_value;
 pub use moves::{RootMove, RootMoves};
 pub use root_peers::{NoPeers, RootPeers};
 pub use scores::{ScoredMove, Scores, answer_by, scores_with};

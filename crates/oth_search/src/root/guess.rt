@@ -1,18 +1,22 @@
 //! The first guess of a root's score: all moves and replies in turn, and each board after a reply by the selective
 //! search of `glance`. One worker makes it alone; several make it together, where each takes boards that no other one
-//! is at, and hears what the others saw of a board.
+//! is at, and hears what the others saw of a board. `bracket`: between which scores the guess seems to lie.
 ghost use Rattle.std.specs.Prelude.{◌≡◌, ◌<◌, ◌≤◌, ◌≤ℤ◌, pos};
 ghost use Rattle.oth_rules.specs.Laws.{IsScore};
 ghost use Rattle.oth_search.specs.Bounds.Interval.{IsThreshold};
 
-use super::bracket::Bracket;
-use super::glance::{ranked_for_guess, seeming_value};
+mod bracket;
+mod glance;
+
 use super::moves::RootMoves;
 use super::root_peers::RootPeers;
 use crate::bounds::{Cells, Interval, Solved, greater, lesser, without};
 use crate::nws::Node;
 use crate::ordering::{next_child, try_again};
 use crate::tuning::{GUESS_DEFERRAL_ROUNDS, GUESS_ROUNDS};
+use bracket::Bracket;
+use glance::ranked_for_guess;
+pub use glance::seeming_value;
 use oth_rules::{Board, Scoring};
 
 /// Returns the least value that a board after a move of the root seems to have, by null windows from `likely` on. Moves

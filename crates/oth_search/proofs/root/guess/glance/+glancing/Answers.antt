@@ -7,7 +7,7 @@ use Rattle.oth_search.proofs.BoundsLemmas.SquareSets.{Takes-same}
 use Rattle.oth_search.proofs.BoundsLemmas.Replies.{legal-moves}
 use Rattle.oth_search.proofs.BoundsLemmas.Enclosing.{IsScore-over}
 use Rattle.oth_search.proofs.RootLemmas.RootSearch.{IsScore-negated, IsScore-one}
-use Rattle.oth_search.proofs.root.glance.+glancing.Goals as goal
+use Rattle.oth_search.proofs.root.guess.glance.+glancing.Goals as goal
 
 pub glance-returns-clause-score : goal.glance-returns-clause-score
 glance-returns-clause-score g t c = IsScore-over c.args.scoring c.args.node.board _ (omega (arith, ints, c.final_score.ensures))

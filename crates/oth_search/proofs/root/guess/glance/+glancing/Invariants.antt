@@ -3,7 +3,7 @@ use Rattle.std.specs.List.{All}
 use Rattle.oth_rules.specs.Laws.{IsScore, IsLegal}
 use Rattle.oth_search.specs.Bounds.Squares.{In}
 use Rattle.oth_search.specs.Ordering.Children.{IsChild}
-use Rattle.oth_search.proofs.root.glance.+glancing.Given as goal
+use Rattle.oth_search.proofs.root.guess.glance.+glancing.Given as goal
 
 abbrev pub decreases-glance : goal.decreases-glance
 decreases-glance g l = 2 * l.sight.plies + 1
