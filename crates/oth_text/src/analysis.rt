@@ -8,7 +8,7 @@ ghost use Rattle.oth_text.specs.declared.position.Side.TheVariants.{Black, White
 
 use crate::board_line::side_byte;
 use crate::position::{Position, Side};
-use crate::report::{push_name, push_signed, push_text, report_line};
+use crate::report::{push_name, push_report_line, push_signed, push_text};
 use arrayvec::ArrayVec;
 use itoa::Buffer;
 use oth_rules::{Board, Square};
@@ -124,7 +124,7 @@ pub fn turn_line(number: u64, judged: &JudgedTurn) -> ArrayVec<u8, TURN_LINE_LEN
     line.push(b' ');
     push_signed(&mut line, judged.score);
     line.push(b' ');
-    push_text(&mut line, report_line(&judged.answer).as_slice());
+    push_report_line(&mut line, &judged.answer);
     line
 }
 

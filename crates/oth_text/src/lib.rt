@@ -34,5 +34,5 @@ pub use fault_text::{FAULT_LINE_LEN, fault_line, game_fault_line, transcript_fau
 pub use game::{GameReader, read_game};
 pub use position::{Position, Side};
 pub use ranking::{SCORES_LINE_LEN, ranked, scores_line};
-pub use report::{MOVES_LINE_LEN, REPORT_LINE_LEN, moves_line, report_line};
+pub use report::{MOVES_LINE_LEN, REPORT_LINE_LEN, moves_line, push_report_line, report_line};
 pub use transcript::{TranscriptReader, play_transcript, read_transcript};

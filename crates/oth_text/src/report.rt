@@ -34,10 +34,18 @@ pub fn report_line(answer: &Answer) -> ArrayVec<u8, REPORT_LINE_LEN>
     ensures one_line { IsOneLine result.items }
 {
     let mut line = ArrayVec::new();
-    push_signed(&mut line, answer.score);
-    line.push(b' ');
-    push_moves(&mut line, answer.kind, answer.best);
+    push_report_line(&mut line, answer);
     line
+}
+
+/// Adds the report line of the answer behind what `line` has. There has to be room for [`REPORT_LINE_LEN`] bytes.
+pub fn push_report_line<const CAPACITY: usize>(line: &mut ArrayVec<u8, CAPACITY>, answer: &Answer)
+    requires { array_vec_len line.old + 196 ≤ CAPACITY }
+    ensures { line.new.items ≡ line.old.items ++ report_line_of answer.now.scoring answer.now.board }
+{
+    push_signed(line, answer.score);
+    line.push(b' ');
+    push_moves(line, answer.kind, answer.best);
 }
 
 /// Adds a sign and the score. There has to be room for four bytes.
