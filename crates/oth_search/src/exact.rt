@@ -4,7 +4,7 @@ ghost use Rattle.oth_rules.specs.Laws.{IsScore};
 ghost use Rattle.oth_search.specs.Bounds.Interval.{Decides};
 
 use crate::bounds::{Cells, Solved};
-use crate::nws::Hearer;
+use crate::nws::{Hearer, Node, Unheard, nws_heard};
 use crate::root::Pace;
 use crate::shared::put;
 use oth_rules::{Board, Scoring};
@@ -18,7 +18,7 @@ impl Solved {
         ensures decides { Decides result.interval.lower result.interval.upper (negsuc 64) (limit +ℤ pos 1) }
         ensures fixed { C.fixed cells.new ≡ C.fixed cells.old }
     {
-        let known = Solved::unknown(*board, scoring).decided_at(limit, cells);
+        let known = Solved::unknown(*board, scoring).decided_with(limit, cells, &mut Unheard);
         if known.interval.lower > limit {
             return known;
         }
@@ -26,31 +26,8 @@ impl Solved {
     }
 
     /// The board with bounds that decide whether its value is above `alpha`, -65 to 64. Searches only where the known
-    /// ones and those in the cells leave that open, and stores what it finds.
-    pub(crate) fn decided_at<C: Cells>(&self, alpha: i8, cells: &mut C) -> Solved
-        requires low { negsuc 64 ≤ℤ alpha }
-        requires high { alpha ≤ℤ pos 64 }
-        ensures board { result.board ≡ self.now.board }
-        ensures scoring { result.scoring ≡ self.now.scoring }
-        ensures lower { self.now.interval.lower ≤ℤ result.interval.lower }
-        ensures upper { result.interval.upper ≤ℤ self.now.interval.upper }
-        ensures decides { Decides result.interval.lower result.interval.upper alpha (alpha +ℤ pos 1) }
-        ensures fixed { C.fixed cells.new ≡ C.fixed cells.old }
-    {
-        if self.interval.decides(alpha, alpha + 1) {
-            return *self;
-        }
-        let known = self.joined(&Solved::looked_up(&self.board, cells, self.scoring));
-        if known.interval.decides(alpha, alpha + 1) {
-            return known;
-        }
-        let found = Solved::by_null_window(&self.board, alpha, cells, self.scoring);
-        let solved = known.joined(&found);
-        put(&solved, cells);
-        solved
-    }
-
-    /// As `decided_at`, and tells `hearer` of each search of a board after a move.
+    /// ones and those in the cells leave that open, and stores what it finds. Tells `hearer` of each search of a board
+    /// after a move.
     pub fn decided_with<C: Cells, H: Hearer<C>>(
         &self,
         alpha: i8,
@@ -73,8 +50,8 @@ impl Solved {
         if known.interval.decides(alpha, alpha + 1) {
             return known;
         }
-        let found = Solved::by_heard_window(&self.board, alpha, cells, self.scoring, hearer);
-        let solved = known.joined(&found);
+        let found = nws_heard(Node::of(self.board), alpha, cells, self.scoring, hearer);
+        let solved = known.narrowed(alpha, found);
         put(&solved, cells);
         solved
     }
@@ -91,7 +68,7 @@ impl Solved {
         let mut pace = Pace::new();
         while reply.interval.lower < reply.interval.upper {
             let alpha = pace.below(reply.interval);
-            reply = reply.decided_at(alpha, cells);
+            reply = reply.decided_with(alpha, cells, &mut Unheard);
             pace = pace.after(reply.interval.upper <= alpha);
         }
         reply

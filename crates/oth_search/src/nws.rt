@@ -23,5 +23,5 @@ mod quadrant;
 mod shallow;
 
 pub use deep::{by_table, nws_node, nws_with};
-pub use heard::{Hearer, nws_heard};
+pub use heard::{Hearer, Unheard, nws_heard};
 pub use node::Node;

@@ -11,7 +11,7 @@ ghost use Rattle.oth_rules.specs.Symmetry.{canonical};
 ghost use Rattle.oth_search.specs.Bounds.Interval.{IsThreshold, IsWindow, Encloses, Decides, IsOpen, WithinAt, IsInner};
 
 use crate::bounds::{Cells, Entry, Interval, Solved, greater, lesser};
-use crate::nws::{Hearer, Node, by_table, nws_heard, nws_with};
+use crate::nws::{by_table, nws_with};
 use crate::ordering::order;
 use oth_rules::{Board, Scoring};
 
@@ -80,24 +80,6 @@ impl Solved {
         ensures fixed { C.fixed cells.new ≡ C.fixed cells.old }
     {
         let found = nws_with(*board, alpha, cells, scoring);
-        Solved::unknown(*board, scoring).narrowed(alpha, found)
-    }
-
-    /// As `by_null_window`, and tells `hearer` of each search of a board after a move.
-    pub fn by_heard_window<C: Cells, H: Hearer<C>>(
-        board: &Board,
-        alpha: i8,
-        cells: &mut C,
-        scoring: Scoring,
-        hearer: &mut H,
-    ) -> Solved
-        requires { IsThreshold alpha }
-        ensures board { result.board ≡ board.now }
-        ensures scoring { result.scoring ≡ scoring }
-        ensures decides { Decides result.interval.lower result.interval.upper alpha (alpha +ℤ pos 1) }
-        ensures fixed { C.fixed cells.new ≡ C.fixed cells.old }
-    {
-        let found = nws_heard(Node::of(*board), alpha, cells, scoring, hearer);
         Solved::unknown(*board, scoring).narrowed(alpha, found)
     }
 

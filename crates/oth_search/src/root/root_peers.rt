@@ -6,6 +6,7 @@ ghost use Rattle.oth_search.specs.Bounds.Interval.{IsThreshold};
 use super::moves::{RootMove, RootMoves};
 use super::step::Pace;
 use crate::bounds::{Cells, Interval, Solved};
+use crate::nws::Unheard;
 use oth_rules::{Board, Square};
 
 /// Hooks of the root driver, called in the thread that searches: they hear of the searches of the boards after a root's
@@ -61,7 +62,7 @@ pub trait RootPeers<C: Cells> {
         ensures upper { result.interval.upper ≤ℤ known.now.child.interval.upper }
         ensures fixed { C.fixed cells.new ≡ C.fixed cells.old }
     {
-        known.child.decided_at(alpha, cells)
+        known.child.decided_with(alpha, cells, &mut Unheard)
     }
 
     /// During a first guess: a bound, on its side of `alpha`, of what the board seems to have, if another worker told

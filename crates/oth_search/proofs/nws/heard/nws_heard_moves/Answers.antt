@@ -13,7 +13,7 @@ pub loop-left-init : goal.loop-left-init
 loop-left-init g c = record {
   loop = ReplyLoop-start c.args.scoring c.args.node.board _ _ _ refl (omega (arith, ints, c.requires.threshold.low))
       (NoneAbove-moves c.args.scoring c.args.node.board c.args.node.moves _ c.args.node.legal);
-  fixed = c.cutoff.ensures.fixed;
+  fixed = c.bounded_by_child.ensures.fixed;
   each = c.ranked-list.ensures;
 }
 

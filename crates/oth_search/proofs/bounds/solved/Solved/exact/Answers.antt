@@ -6,11 +6,11 @@ use Rattle.oth_search.proofs.bounds.solved.Solved.exact.Goals as goal
 pub loop-reply-smaller : goal.loop-reply-smaller
 loop-reply-smaller g c =
     let old = c.loop-reply.reply.interval in
-    let new = c.decided_at-reply.result.interval in
+    let new = c.decided_with-reply.result.interval in
     fewer old.lower old.upper new.lower new.upper c.below-alpha.result _ _ new.is_interval
     (omega (arith, ints, c.below-alpha.ensures.low))
     (omega (arith, ints, c.below-alpha.ensures.high (omega (arith, ints, c.loop-reply-test.true))))
-    (omega (arith, ints, c.decided_at-reply.ensures.lower)) (omega (arith, ints, c.decided_at-reply.ensures.upper)) (omega (arith, ints)) (omega (arith, ints)) c.decided_at-reply.ensures.decides
+    (omega (arith, ints, c.decided_with-reply.ensures.lower)) (omega (arith, ints, c.decided_with-reply.ensures.upper)) (omega (arith, ints)) (omega (arith, ints)) c.decided_with-reply.ensures.decides
 
 pub returns-clause-exact : goal.returns-clause-exact
 returns-clause-exact g c =
