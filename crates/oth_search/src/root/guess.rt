@@ -156,7 +156,7 @@ fn is_told_below<C: Cells, O: RootPeers<C>>(board: &Board, at: i8, peers: &mut O
 }
 
 // Returns a bound, on its side of `alpha`, of the value that the board after a root's move seems to have: what was told
-// of it, or else by a glance at all its moves.
+// of it, or else by a glance at all its moves, or where there is none by `seeming_value`.
 fn glance_after_move<C: Cells, O: RootPeers<C>>(
     reply: &Solved,
     alpha: i8,
@@ -172,36 +172,19 @@ fn glance_after_move<C: Cells, O: RootPeers<C>>(
         return told;
     }
     peers.begin(&board);
-    let found = glance_all(&board, alpha, cells, peers, reply.scoring);
+    let node = Node::of(board);
+    let found = if node.moves != 0 {
+        glance_at_all_moves(node, alpha, cells, peers, reply.scoring)
+    } else {
+        seeming_value(board, alpha, cells, reply.scoring)
+    };
     peers.tell_seen(&board, alpha, found);
     peers.end(&board);
     found
 }
 
-// As `glance_after_move`, but always glances: at all moves of the board, or at those after a forced pass.
-fn glance_all<C: Cells, O: RootPeers<C>>(
-    board: &Board,
-    alpha: i8,
-    cells: &mut C,
-    peers: &mut O,
-    scoring: Scoring,
-) -> i8
-    requires { IsThreshold alpha }
-    ensures score { IsScore result }
-    ensures fixed { C.fixed cells.new ≡ C.fixed cells.old }
-{
-    let node = Node::of(*board);
-    if node.moves != 0 {
-        return glance_at_all_moves(node, alpha, cells, peers, scoring);
-    }
-    let passed = Node::of(board.pass());
-    if passed.moves != 0 {
-        return -glance_at_all_moves(passed, -alpha - 1, cells, peers, scoring);
-    }
-    board.final_score(scoring)
-}
-
-// As `glance_all`, of a board whose mover has a move. In the first round defers children that another worker is at.
+// As `glance_after_move`, of a board whose mover has a move, by a glance at each one. In the first round defers
+// children that another worker is at.
 fn glance_at_all_moves<C: Cells, O: RootPeers<C>>(
     node: Node,
     alpha: i8,

@@ -73,8 +73,7 @@ pub(super) fn ranked_for_guess(node: &Node) -> ArrayVec<Child, MOST_RANKED>
     )
 }
 
-// As `seeming_value`, of any node, as far as `sight` goes.
-#[cycle(glancing)]
+// As `seeming_value`, of any node, as far as `sight` goes: by its `sight.width` best-ranked moves.
 fn glance<C: Cells>(node: Node, alpha: i8, sight: Sight, cells: &mut C, scoring: Scoring) -> i8
     requires { IsThreshold alpha }
     ensures score { IsScore result }
@@ -83,30 +82,13 @@ fn glance<C: Cells>(node: Node, alpha: i8, sight: Sight, cells: &mut C, scoring:
     if sight.plies == 0 {
         return nws_node(node, alpha, cells, scoring);
     }
-    if node.moves != 0 {
-        return glance_at_moves(node, alpha, sight, cells, scoring);
+    if node.moves == 0 {
+        let passed = Node::of(node.board.pass());
+        if passed.moves == 0 {
+            return node.board.final_score(scoring);
+        }
+        return -glance(passed, -alpha - 1, sight, cells, scoring);
     }
-    let passed = Node::of(node.board.pass());
-    if passed.moves != 0 {
-        return -glance_at_moves(passed, -alpha - 1, sight, cells, scoring);
-    }
-    node.board.final_score(scoring)
-}
-
-// As `glance`, of a node whose mover has a move: by the `sight.width` best-ranked moves.
-#[cycle(glancing)]
-fn glance_at_moves<C: Cells>(
-    node: Node,
-    alpha: i8,
-    sight: Sight,
-    cells: &mut C,
-    scoring: Scoring,
-) -> i8
-    requires plies { 0 < sight.plies }
-    requires threshold { IsThreshold alpha }
-    ensures score { IsScore result }
-    ensures fixed { C.fixed cells.new ≡ C.fixed cells.old }
-{
     let mut ranked = ranked_for_guess(&node);
     let mut best = -64;
     let mut left = node.moves;

@@ -7,21 +7,27 @@ use Rattle.oth_search.proofs.BoundsLemmas.SquareSets.{Takes-same}
 use Rattle.oth_search.proofs.BoundsLemmas.Replies.{legal-moves}
 use Rattle.oth_search.proofs.BoundsLemmas.Enclosing.{IsScore-over}
 use Rattle.oth_search.proofs.RootLemmas.RootSearch.{IsScore-negated, IsScore-one}
-use Rattle.oth_search.proofs.root.guess.glance.+glancing.Goals as goal
+use Rattle.oth_search.proofs.root.guess.glance.+glance.Goals as goal
 
-pub glance-returns-clause-score : goal.glance-returns-clause-score
-glance-returns-clause-score g t c = IsScore-over c.args.scoring c.args.node.board _ (omega (arith, ints, c.final_score.ensures))
+pub returns-then-passed-eq0-clause-score : goal.returns-then-passed-eq0-clause-score
+returns-then-passed-eq0-clause-score g t c = IsScore-over c.args.scoring c.args.node.board _ (omega (arith, ints, c.final_score.ensures))
 
-pub glance_at_moves-loop-init : goal.glance_at_moves-loop-init
-glance_at_moves-loop-init g t c = record {
+pub glance-score-requires : goal.glance-score-requires
+glance-score-requires g t c = λ κs within. (
+  omega (arith, c.decreases, c.below.ensures),
+  (within, record { low = omega (arith, ints, c.requires.high); high = omega (arith, ints, c.requires.low) }),
+)
+
+pub loop-init : goal.loop-init
+loop-init g t c = record {
   score = record { low = omega (arith, ints); high = omega (arith, ints) };
   fixed = refl;
   legal = legal-moves c.args.node.board c.args.node.moves c.args.node.legal;
   each = c.ranked_for_guess-ranked.ensures;
 }
 
-pub glance_at_moves-loop-preserved : goal.glance_at_moves-loop-preserved
-glance_at_moves-loop-preserved g t c = record {
+pub loop-preserved : goal.loop-preserved
+loop-preserved g t c = record {
   score = IsScore-one _ (neg_ℤ c.glance-score.result) _ _ c.greater-best.result _ c.loop.invariant.score
       (IsScore-negated _ _ (omega (arith, ints)) c.glance-score.ensures.score)
       (omega (arith, ints)) (omega (arith, ints)) (omega (arith, ints)) c.greater-best.ensures.one;
