@@ -27,13 +27,7 @@ use std::marker::Model;
 use thiserror::Error;
 pub use view::View;
 
-// The place of the root's own discs among the floor's words.
-const OWN: usize = 0;
-
-// The place of the opposing discs.
-const OPP: usize = 1;
-
-// The place of the height: the floor, plus 64.
+// The place of the height among the floor's words: the floor, plus 64.
 const HEIGHT: usize = 2;
 
 /// A floor of a root, which is a board and a scoring: the greatest lower bound of its value that was raised. Threads
