@@ -63,12 +63,8 @@ impl Model for FloorSeat {
 
     ghost Value = { Watcher };
 
-    ghost view = { λ s. record {
-      floor = s.seat.table_id;
-      name = s.seat.me.0.name;
-      root = s.seat.me.0.root;
-      seen = s.seat.me.0.seen;
-    } };
+    ghost view = { λ s. let v = s.seat.me.0 in
+        record { floor = s.seat.table_id; root = v.root; name = v.name; seen = v.seen } };
 
     ghost invariant = { λ s. (s.seat.me.0.live ≡ true) × (s.seat.me.1 ≡ []) };
 }
