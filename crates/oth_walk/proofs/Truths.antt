@@ -10,7 +10,7 @@ use Rattle.oth_rules.proofs.Scores.{value_bounds, negated}
 use Rattle.oth_rules.specs.Laws.{IsScore}
 use Rattle.oth_rules.specs.Move.{after}
 use Rattle.oth_pieces.specs.declared.floor.root.Root.{Root}
-use Rattle.oth_walk.specs.MoveBounds.{child_value, limit, AreTrue, Looked, Raised}
+use Rattle.oth_walk.specs.MoveBounds.{child_value, limit, AreTrue, Finds}
 
 -- after one word was set, what held of each word holds of each, if it holds of the new one
 each_set : (l : List ℕ) (i a j : ℕ) (P : ℕ → Type 0) → P (get_or l j 0) → (j ≡ i → P a) → P (get_or (set l i a) j 0)
@@ -30,7 +30,7 @@ abbrev Rule : Root → State ℕ Root → Type 0
 Rule root s = AreTrue root s.words
 
 pub looks : (root v : Root) (slots seat i : ℕ) (c : List (ℕ × ℕ)) → v ≡ root
-    → Allows (Rule root) slots seat (v, c) i (λ n. n) (Looked (step slots i 0 0 none) (v, c))
+    → Allows (Rule root) slots seat (v, c) i (λ n. n) (Finds (step slots i 0 0 none) (v, c))
 looks root v slots seat i c same s kept _ _ _ = (
   v,
   keeps,
@@ -39,15 +39,15 @@ looks root v slots seat i c same s kept _ _ _ = (
   (refl, subst (λ (r : Root). Tells r i (slice_index s.words i)) (sym same) (kept i)),
 )
 
-pub raises : (root v : Root) (slots seat i : ℕ) (c : List (ℕ × ℕ)) (k : ℕ) → (pos k -ℤ pos 64) ≤ℤ limit root i
-    → Allows (Rule root) slots seat (v, c) i (λ n. max n k) (Raised (step slots i k 0 none) (v, c))
-raises root v slots seat i c k true_bound s kept _ _ _ = (
+pub raises : (root v : Root) (slots seat i : ℕ) (c : List (ℕ × ℕ)) (k : ℕ) → v ≡ root → (pos k -ℤ pos 64) ≤ℤ limit root i
+    → Allows (Rule root) slots seat (v, c) i (λ n. max n k) (Finds (step slots i k 0 none) (v, c))
+raises root v slots seat i c k same true_bound s kept _ _ _ = (
   v,
   keeps,
   tt,
   (λ j. each_set s.words i (max (slice_index s.words i) k) j (Tells root j) (kept j)
       (λ e. subst (λ w. Tells root w (max (slice_index s.words i) k)) (sym e) (greatest (slice_index s.words i) k (limit root i) (kept i) true_bound))),
-  refl,
+  (refl, subst (λ (r : Root). Tells r i (slice_index s.words i)) (sym same) (kept i)),
 )
 
 child_bounds : (root : Root) (i : ℕ) → IsScore (child_value root i)

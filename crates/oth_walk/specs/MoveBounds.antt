@@ -23,12 +23,9 @@ limit root i = if nat_le 64 i then neg_ℤ (child_value root (i - 64)) else chil
 abbrev pub AreTrue : Root → List ℕ → Type 0
 AreTrue root words = (i : ℕ) → (pos (slice_index words i) -ℤ pos 64) ≤ℤ limit root i
 
--- a seat knows its root
-abbrev pub Looked : Step ℕ → Me ℕ Root → ℕ → Me ℕ Root → Type 0
-Looked s m found m' = (m'.0 ≡ m.0) × ((pos found -ℤ pos 64) ≤ℤ limit m.0 s.word)
-
-abbrev pub Raised : Step ℕ → Me ℕ Root → ℕ → Me ℕ Root → Type 0
-Raised s m found m' = m'.0 ≡ m.0
+-- a seat knows its root, and a step of it finds no more in a word than that may tell
+abbrev pub Finds : Step ℕ → Me ℕ Root → ℕ → Me ℕ Root → Type 0
+Finds s m found m' = (m'.0 ≡ m.0) × ((pos found -ℤ pos 64) ≤ℤ limit m.0 s.word)
 
 abbrev pub IsOfMove : Option Root → ℕ → Solved → Type 0
 IsOfMove None square s = ⊥

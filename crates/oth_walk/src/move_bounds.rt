@@ -14,14 +14,11 @@ use atomic_table::{Seat, Table};
 use oth_pieces::floor::Root;
 use oth_rules::Square;
 use oth_search::{Interval, Solved};
-use rule::{Hear, Raise, TrueBounds};
+use rule::{Step, TrueBounds};
 use std::alloc::Global;
 use std::marker::Model;
 
-// A word for the lower bound of each square's move, and behind these one for its upper bound.
-const BOUND_WORDS: usize = 128;
-
-// The first word of the upper bounds.
+// The first word of the upper bounds, one for each square's move. As many stand before it, for the lower bounds.
 const UPPER: usize = 64;
 
 /// True bounds of the boards after a root's moves, which workers tell and hear.
@@ -29,17 +26,8 @@ const UPPER: usize = 64;
 pub struct MoveBounds {
     table: Table<u8, Root, Root, TrueBounds, Global>,
     root: Root,
-}
-
-impl Model for MoveBounds {
-    ghost use Rattle.std.specs.Prelude.{◌≡◌};
-    ghost use Rattle.oth_pieces.specs.Watch.{Place};
-
-    ghost Value = { Place };
-
-    ghost view = { λ b. record { id = b.table.shared.table_id; root = b.root } };
-
-    ghost invariant = { λ b. (b.table.shared.table_id.words ≡ 128) × (b.table.shared.key ≡ b.root) };
+    ghost words: { table.shared.table_id.words ≡ 128 },
+    ghost key: { table.shared.key ≡ root },
 }
 
 impl MoveBounds {
@@ -47,7 +35,7 @@ impl MoveBounds {
     pub fn new(alloc: Global, root: Root) -> Option<MoveBounds>
         ensures root { IfSome result (λ b. b.root ≡ root) }
     {
-        let words = [0u64; BOUND_WORDS];
+        let words = [0u64; 2 * UPPER];
         match Table::of_words(alloc, &words, &root) {
             Ok((table, _)) => Some(MoveBounds { table, root }),
             Err(_) => None,
@@ -76,7 +64,7 @@ fn number_at(height: u64) -> i8
 struct BoundWords<'b> {
     bounds: &'b MoveBounds,
     seat: Seat<u8, Root>,
-    ghost sits: { (seat.table_id ≡ bounds.now.id) × (seat.me.0 ≡ bounds.now.root) },
+    ghost sits: { (seat.table_id ≡ bounds.now.table.shared.table_id) × (seat.me.0 ≡ bounds.now.root) },
 }
 
 impl<'b> BoundWords<'b> {
@@ -84,7 +72,7 @@ impl<'b> BoundWords<'b> {
     fn of(bounds: &'b MoveBounds) -> BoundWords<'b>
         ensures { result.bounds.now ≡ bounds.now }
     {
-        let (_, seat) = bounds.table.shared.load_new_seat::<Hear>(0);
+        let (_, seat) = bounds.table.shared.load_new_seat::<Step>(0);
         BoundWords { bounds, seat }
     }
 
@@ -96,7 +84,7 @@ impl<'b> BoundWords<'b> {
         ensures same { self.new.bounds ≡ self.old.bounds }
     {
         let bounds = self.bounds;
-        let height = bounds.table.shared.load::<Hear>(&mut self.seat, word);
+        let height = bounds.table.shared.load::<Step>(&mut self.seat, word);
         number_at(height)
     }
 
@@ -112,7 +100,7 @@ impl<'b> BoundWords<'b> {
         bounds
             .table
             .shared
-            .fetch_max::<Raise>(&mut self.seat, word, height);
+            .fetch_max::<Step>(&mut self.seat, word, height);
     }
 }
 

@@ -1,5 +1,5 @@
-//! The rule of the bounds of root moves, and its kinds of step.
-ghost use Rattle.oth_walk.specs.MoveBounds.{AreTrue, Looked, Raised};
+//! The rule of the bounds of root moves, and their kind of step.
+ghost use Rattle.oth_walk.specs.MoveBounds.{AreTrue, Finds};
 
 use atomic_table::{Play, TableRule};
 use oth_pieces::floor::Root;
@@ -13,16 +13,9 @@ impl TableRule<u8, Root, Root> for TrueBounds {
     ghost first = { λ root. root };
 }
 
-/// Hears what was told.
-pub struct Hear;
+/// A load or a fetch_max. What it finds is true.
+pub struct Step;
 
-impl Play<u8, Root> for Hear {
-    ghost then = { Looked };
-}
-
-/// Tells a bound, or finds a closer one.
-pub struct Raise;
-
-impl Play<u8, Root> for Raise {
-    ghost then = { Raised };
+impl Play<u8, Root> for Step {
+    ghost then = { Finds };
 }
