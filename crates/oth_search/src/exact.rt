@@ -4,7 +4,7 @@ ghost use Rattle.oth_rules.specs.Laws.{IsScore};
 ghost use Rattle.oth_search.specs.Bounds.Interval.{Decides};
 
 use crate::bounds::{Cells, Solved};
-use crate::nws::{Hearer, Node, Unheard, nws_heard};
+use crate::nws::{Hearer, Unheard, nws_heard};
 use crate::root::Pace;
 use crate::shared::put;
 use oth_rules::{Board, Scoring};
@@ -50,7 +50,7 @@ impl Solved {
         if known.interval.decides(alpha, alpha + 1) {
             return known;
         }
-        let found = nws_heard(Node::of(self.board), alpha, cells, self.scoring, hearer);
+        let found = nws_heard(&known, alpha, cells, hearer);
         let solved = known.narrowed(alpha, found);
         put(&solved, cells);
         solved

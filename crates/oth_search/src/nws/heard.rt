@@ -33,27 +33,28 @@ impl<C: Cells> Hearer<C> for Unheard {
     fn end(&mut self, _found: &Solved) {}
 }
 
-/// As `nws_node`, but tells `hearer` of each search of a board after a move, or after a forced pass and a move, and
-/// asks the cells of these boards alone.
+/// As `nws_node`, of the board of `known`, but tells `hearer` of each search of a board after a move, or after a forced
+/// pass and a move, and asks the cells of these boards alone.
 pub fn nws_heard<C: Cells, H: Hearer<C>>(
-    node: Node,
+    known: &Solved,
     alpha: i8,
     cells: &mut C,
-    scoring: Scoring,
     hearer: &mut H,
 ) -> i8
     requires { IsThreshold alpha }
-    ensures value { BoundsAt (value (score_of scoring) node.board) alpha result }
+    ensures value { BoundsAt (value (score_of known.now.scoring) known.now.board) alpha result }
     ensures fixed { C.fixed cells.new ≡ C.fixed cells.old }
 {
+    let Solved { board, scoring, .. } = *known;
+    let node = Node::of(board);
     if node.moves != 0 {
         return nws_heard_moves(node, alpha, cells, scoring, hearer);
     }
-    let passed = Node::of(node.board.pass());
+    let passed = Node::of(board.pass());
     if passed.moves != 0 {
         return -nws_heard_moves(passed, -alpha - 1, cells, scoring, hearer);
     }
-    node.board.final_score(scoring)
+    board.final_score(scoring)
 }
 
 // As `nws_heard`, of a board whose mover has a move: the best-ranked one first, unless a cutoff comes before.
@@ -73,15 +74,21 @@ fn nws_heard_moves<C: Cells, H: Hearer<C>>(
         return most;
     }
     let mut list: ArrayVec<Child, 32> = ranked(&node, EVALUATION_MIN_EMPTIES, 64);
-    if let Some(found) = bounded_by_child(&node.board, list.as_slice(), alpha, cells, scoring) {
-        return found;
+    if node.board.empties() >= EVALUATION_MIN_EMPTIES {
+        if let Some(found) = bounded_by_child(&node.board, list.as_slice(), alpha, cells, scoring) {
+            return found;
+        }
     }
     let mut best = -64;
     let mut left = node.moves;
     while left != 0 {
         let child = next_child(&node.board, list.as_mut_slice(), left);
         left = without(left, child.square());
-        let score = -nws_of_reply(child.node(), -alpha - 1, cells, scoring, hearer);
+        let asked = Solved::unknown(child.board, scoring);
+        hearer.begin(&asked, cells);
+        let found = nws_node(child.node(), -alpha - 1, cells, scoring);
+        hearer.end(&asked.narrowed(-alpha - 1, found));
+        let score = -found;
         if score > alpha {
             return score;
         }
@@ -90,23 +97,4 @@ fn nws_heard_moves<C: Cells, H: Hearer<C>>(
         }
     }
     best
-}
-
-// As `nws_node`, of a board after a move: `hearer` hears of its search.
-fn nws_of_reply<C: Cells, H: Hearer<C>>(
-    node: Node,
-    alpha: i8,
-    cells: &mut C,
-    scoring: Scoring,
-    hearer: &mut H,
-) -> i8
-    requires { IsThreshold alpha }
-    ensures value { BoundsAt (value (score_of scoring) node.board) alpha result }
-    ensures fixed { C.fixed cells.new ≡ C.fixed cells.old }
-{
-    let asked = Solved::unknown(node.board, scoring);
-    hearer.begin(&asked, cells);
-    let found = nws_node(node, alpha, cells, scoring);
-    hearer.end(&asked.narrowed(alpha, found));
-    found
 }

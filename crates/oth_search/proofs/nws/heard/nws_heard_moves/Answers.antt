@@ -8,42 +8,46 @@ use Rattle.oth_search.proofs.OrderingLemmas.KeyLemmas.{All-refill}
 use Rattle.oth_search.proofs.BoundsLemmas.SquareSets.{Takes-same, In-none}
 use Rattle.oth_search.proofs.BoundsLemmas.Replies.{BoundsAt-reply, BoundsAt-cut, ReplyLoop-start, ReplyLoop-keeps, ReplyLoop-takes, ReplyLoop-end, NoneAbove-moves}
 use Rattle.oth_search.proofs.nws.heard.nws_heard_moves.Goals as goal
+use Rattle.oth_search.proofs.nws.heard.nws_heard_moves.Goals.{then-empties-ge-EVALUATION_MIN_EMPTIES+in_default-bounded_by_child, else-empties-ge-EVALUATION_MIN_EMPTIES}
 
 pub loop-left-init : goal.loop-left-init
 loop-left-init g c = record {
   loop = ReplyLoop-start c.args.scoring c.args.node.board _ _ _ refl (omega (arith, ints, c.requires.threshold.low))
       (NoneAbove-moves c.args.scoring c.args.node.board c.args.node.moves _ c.args.node.legal);
-  fixed = c.bounded_by_child.ensures.fixed;
+  fixed = elim c.if-empties-ge-EVALUATION_MIN_EMPTIES.branch [
+    | then-empties-ge-EVALUATION_MIN_EMPTIES+in_default-bounded_by_child w ↦ rw (w.cells-is) w.bounded_by_child.ensures.fixed
+    | else-empties-ge-EVALUATION_MIN_EMPTIES w ↦ rw (w.cells-is) refl
+  ];
   each = c.ranked-list.ensures;
 }
 
 pub next_child-child-requires-clause-legal : goal.next_child-child-requires-clause-legal
 next_child-child-requires-clause-legal g c = c.loop-left.invariant.loop.replies.untried
 
-pub nws_of_reply-score-requires : goal.nws_of_reply-score-requires
-nws_of_reply-score-requires g c =
+pub nws_node-found-requires : goal.nws_node-found-requires
+nws_node-found-requires g c =
     record { low = omega (arith, ints, c.requires.threshold.high); high = omega (arith, ints, c.requires.threshold.low) }
 
 pub returns-then-score-alpha-clause-value : goal.returns-then-score-alpha-clause-value
 returns-then-score-alpha-clause-value g c =
     let made = c.next_child-child.ensures.child in
     BoundsAt-cut c.args.scoring c.args.node.board (key_square c.next_child-child.result.key) c.args.alpha _ made.legal
-    (BoundsAt-reply c.args.scoring c.args.node.board c.node.result.board (key_square c.next_child-child.result.key) c.args.alpha _ _ c.nws_of_reply-score.result (c.node.ensures ∙ made.board)
-    (read-reply c.args.alpha c.requires.threshold) (read-negated c.nws_of_reply-score.result c.nws_of_reply-score.ensures.value.score) c.nws_of_reply-score.ensures.value)
+    (BoundsAt-reply c.args.scoring c.args.node.board c.node.result.board (key_square c.next_child-child.result.key) c.args.alpha _ _ c.nws_node-found.result (c.node.ensures ∙ made.board)
+    (read-reply c.args.alpha c.requires.threshold) (read-negated c.nws_node-found.result c.nws_node-found.ensures.value.score) c.nws_node-found.ensures.value)
     (omega (arith, ints, c.if-score-alpha.true))
 
 pub loop-left-preserved : goal.loop-left-preserved
 loop-left-preserved g c =
     let child = c.next_child-child.result in
     let made = c.next_child-child.ensures.child in
-    let r : ℤ = neg_ℤ c.nws_of_reply-score.result in
+    let r : ℤ = neg_ℤ c.nws_node-found.result in
     record {
       loop = ReplyLoop-keeps c.args.scoring c.args.node.board _ _ (key_square child.key) _ _ r c.loop-left.invariant.loop
           (Takes-same _ _ _ _ c.square.ensures c.next_child-child.ensures.member c.without-left.ensures.rest)
-          (BoundsAt-reply c.args.scoring c.args.node.board c.node.result.board (key_square child.key) _ _ r c.nws_of_reply-score.result (c.node.ensures ∙ made.board)
-          (read-reply_read c.args.alpha c.requires.threshold) refl c.nws_of_reply-score.ensures.value)
+          (BoundsAt-reply c.args.scoring c.args.node.board c.node.result.board (key_square child.key) _ _ r c.nws_node-found.result (c.node.ensures ∙ made.board)
+          (read-reply_read c.args.alpha c.requires.threshold) refl c.nws_node-found.ensures.value)
           (omega (arith, ints, c.if-score-best.false));
-      fixed = c.nws_of_reply-score.ensures.fixed ∙ c.loop-left.invariant.fixed;
+      fixed = c.nws_node-found.ensures.fixed ∙ c.begin.ensures.fixed ∙ c.loop-left.invariant.fixed;
       each = All-refill (IsChild c.args.node.board) _ _ _ c.loop-left.invariant.each c.next_child-child.ensures.children;
     }
 
@@ -54,11 +58,11 @@ loop-left-preserved-then-score-best g c =
     record {
       loop = ReplyLoop-takes c.args.scoring c.args.node.board _ _ (key_square child.key) _ _ _ c.loop-left.invariant.loop
           (Takes-same _ _ _ _ c.square.ensures c.next_child-child.ensures.member c.without-left.ensures.rest)
-          (BoundsAt-reply c.args.scoring c.args.node.board c.node.result.board (key_square child.key) _ _ _ c.nws_of_reply-score.result (c.node.ensures ∙ made.board)
-          (read-reply_read c.args.alpha c.requires.threshold) (read-negated c.nws_of_reply-score.result c.nws_of_reply-score.ensures.value.score) c.nws_of_reply-score.ensures.value)
+          (BoundsAt-reply c.args.scoring c.args.node.board c.node.result.board (key_square child.key) _ _ _ c.nws_node-found.result (c.node.ensures ∙ made.board)
+          (read-reply_read c.args.alpha c.requires.threshold) (read-negated c.nws_node-found.result c.nws_node-found.ensures.value.score) c.nws_node-found.ensures.value)
           (omega (arith, ints, c.if-score-alpha.false))
           (omega (arith, ints, c.if-score-best.true));
-      fixed = c.nws_of_reply-score.ensures.fixed ∙ c.loop-left.invariant.fixed;
+      fixed = c.nws_node-found.ensures.fixed ∙ c.begin.ensures.fixed ∙ c.loop-left.invariant.fixed;
       each = All-refill (IsChild c.args.node.board) _ _ _ c.loop-left.invariant.each c.next_child-child.ensures.children;
     }
 

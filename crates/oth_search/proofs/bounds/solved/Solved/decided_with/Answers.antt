@@ -15,9 +15,7 @@ nws_heard-found-requires g c =
     record { low = omega (arith, ints, o.below, known.low); high = omega (arith, ints, o.above, known.high) }
 
 pub narrowed-solved-requires : goal.narrowed-solved-requires
-narrowed-solved-requires g c =
-    rw (c.joined-known.ensures.board, c.joined-known.ensures.scoring)
-    (BoundsAt-same _ _ _ _ _ _ refl refl (omega (arith, ints)) (rw (c.of.ensures) at c.nws_heard-found.ensures.value))
+narrowed-solved-requires g c = BoundsAt-same _ _ _ _ _ _ refl refl (omega (arith, ints)) c.nws_heard-found.ensures.value
 
 pub returns-clause-lower : goal.returns-clause-lower
 returns-clause-lower g c =
