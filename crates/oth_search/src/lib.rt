@@ -23,8 +23,8 @@ pub use nws::Hearer;
 pub use ordering::{MoveOrder, order};
 pub use pvs::search;
 pub use root::{
-    MOST_EMPTIES, NoPeers, Pace, RootGoal, RootMove, RootMoves, RootPeers, ScoredMove, Scores,
-    TooManyEmpties, answer_by, ask_at, before_pass, ended, find_first_bound, first_threshold,
+    MOST_EMPTIES, NoPeers, Pace, RootGoal, RootMove, RootMoves, RootPeers, Round, ScoredMove,
+    Scores, TooManyEmpties, answer_by, ask_at, ask_in_rounds, before_pass, ended, first_threshold,
     is_few, scores_with, seeming_value, settle_at, settle_moves, solve_alone, solve_few,
     solve_moves, solve_with, value_of,
 };

@@ -4,7 +4,7 @@
 //!
 //!     guess             the least value that a reply seems to have, by null windows of a selective search
 //!       |
-//!     find_first_bound  each reply in turn is asked for that value, until one has it; where none has, for more
+//!     ask_in_rounds     each reply in turn is asked for that value, until one has it; where none has, for more
 //!       |
 //!     settle_at         the leader: null windows ever further below what is known of it, until its value is known
 //!       |               each other reply: a null window at the best value; if it is no worse, on as the leader
@@ -41,7 +41,9 @@ pub use guess::seeming_value;
 pub use moves::{RootMove, RootMoves};
 pub use root_peers::{NoPeers, RootPeers};
 pub use scores::{ScoredMove, Scores, answer_by, scores_with};
-pub(crate) use settle::{Round, settle_on};
-pub use settle::{RootGoal, ask_at, find_first_bound, first_threshold, settle_at, settle_moves};
+pub(crate) use settle::settle;
+pub use settle::{
+    RootGoal, Round, ask_at, ask_in_rounds, first_threshold, settle_at, settle_moves,
+};
 pub use step::Pace;
 pub use value::value_of;

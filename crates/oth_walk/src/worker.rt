@@ -8,7 +8,7 @@ use crate::peers::Peers;
 use crate::shared::{Search, Seats};
 use oth_rules::Square;
 use oth_search::{
-    Cells, RootGoal, RootMove, RootMoves, RootPeers, Solved, find_first_bound, first_threshold,
+    Cells, RootGoal, RootMove, RootMoves, RootPeers, Round, Solved, ask_in_rounds, first_threshold,
     settle_at,
 };
 use std::alloc::Global;
@@ -123,9 +123,9 @@ impl<'w, C: Cells, G: Gate> Worker<'w, C, G> {
             return;
         }
         let guess = self.guess();
-        let first = first_asked(guess.score);
-        let asked = find_first_bound(&mut self.moves, first, &mut self.cells, &mut self.peers);
-        self.guess = Some(Guess::of(-asked, guess.square));
+        let mut round = Round::first(first_asked(guess.score));
+        ask_in_rounds(&mut self.moves, &mut round, &mut self.cells, &mut self.peers);
+        self.guess = Some(Guess::of(-round.at, guess.square));
     }
 
     /// Searches the move at this place until its value is exact, or is known to give the root less than the floor.

@@ -97,8 +97,7 @@ impl<C: Cells> WithLocal<C> {
     pub fn into_cells(self) -> C
         ensures { result ≡ self.cells }
     {
-        let (cells, _) = self.into_parts();
-        cells
+        self.into_parts().0
     }
 
     /// The cells, and the local tables with what they keep.

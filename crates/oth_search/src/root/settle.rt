@@ -48,11 +48,8 @@ pub fn settle_moves<C: Cells, O: RootPeers<C>>(moves: &mut RootMoves, cells: &mu
     ensures root { moves.new ≡ moves.old }
     ensures fixed { C.fixed cells.new ≡ C.fixed cells.old }
 {
-    let goal = RootGoal {
-        start: first_threshold(moves, cells, peers),
-        tells_ties: true,
-    };
-    settle(moves, goal, cells, peers);
+    let mut round = Round::first(first_threshold(moves, cells, peers));
+    settle(moves, true, &mut round, cells, peers);
 }
 
 /// The threshold of the first null window: the best known bound if there is one, else a guess from 12 empty squares on,
@@ -76,24 +73,11 @@ pub fn first_threshold<C: Cells, O: RootPeers<C>>(
     lesser(63, guess(moves, 0, cells, peers))
 }
 
-/// Narrows the bounds of the boards after the moves until they answer `goal`: of the leader first, then of each other.
+/// Narrows the bounds of the boards after the moves, which are asked from this `round` on: of the leader first, then of
+/// each other. `tells_ties` as a `RootGoal` has it, whose start is the threshold of the first round.
 pub(crate) fn settle<C: Cells, O: RootPeers<C>>(
     moves: &mut RootMoves,
-    goal: RootGoal,
-    cells: &mut C,
-    peers: &mut O,
-)
-    ensures root { moves.new ≡ moves.old }
-    ensures fixed { C.fixed cells.new ≡ C.fixed cells.old }
-{
-    let mut round = Round::first(goal.start);
-    settle_on(moves, goal, &mut round, cells, peers);
-}
-
-/// As `settle`, from the `round` on that the moves were asked in: `goal` starts where its first one did.
-pub(crate) fn settle_on<C: Cells, O: RootPeers<C>>(
-    moves: &mut RootMoves,
-    goal: RootGoal,
+    tells_ties: bool,
     round: &mut Round,
     cells: &mut C,
     peers: &mut O,
@@ -101,7 +85,11 @@ pub(crate) fn settle_on<C: Cells, O: RootPeers<C>>(
     ensures root { moves.new ≡ moves.old }
     ensures fixed { C.fixed cells.new ≡ C.fixed cells.old }
 {
-    find_first_bound_from(moves, round, cells, peers);
+    ask_in_rounds(moves, round, cells, peers);
+    let goal = RootGoal {
+        start: round.first,
+        tells_ties,
+    };
     let leader = moves.leader();
     settle_at(moves, leader, goal, cells, peers);
     for place in 0..moves.len() {
@@ -109,27 +97,10 @@ pub(crate) fn settle_on<C: Cells, O: RootPeers<C>>(
     }
 }
 
-/// Asks the boards after the moves at the threshold `first`, and while all are above it at higher ones, until an upper
-/// bound below 64 is known of one or the search is over. Returns the threshold of that round, or after
-/// `FIRST_BOUND_ROUNDS` rounds the one that would come next.
-pub fn find_first_bound<C: Cells, O: RootPeers<C>>(
-    moves: &mut RootMoves,
-    first: i8,
-    cells: &mut C,
-    peers: &mut O,
-) -> i8
-    requires { IsThreshold first }
-    ensures threshold { IsThreshold result }
-    ensures root { moves.new ≡ moves.old }
-    ensures fixed { C.fixed cells.new ≡ C.fixed cells.old }
-{
-    let mut round = Round::first(first);
-    find_first_bound_from(moves, &mut round, cells, peers);
-    round.at
-}
-
-// As `find_first_bound`, from this round on. Leaves the round that ended it.
-fn find_first_bound_from<C: Cells, O: RootPeers<C>>(
+/// Asks the boards after the moves at the threshold of this round, and while all are above it in further rounds at
+/// higher ones, until an upper bound below 64 is known of one or the search is over. Leaves the round that ended it, or
+/// after `FIRST_BOUND_ROUNDS` rounds the one that would come next.
+pub fn ask_in_rounds<C: Cells, O: RootPeers<C>>(
     moves: &mut RootMoves,
     round: &mut Round,
     cells: &mut C,
@@ -139,11 +110,23 @@ fn find_first_bound_from<C: Cells, O: RootPeers<C>>(
     ensures fixed { C.fixed cells.new ≡ C.fixed cells.old }
 {
     for _ in 0..FIRST_BOUND_ROUNDS {
-        if ask_all(moves, round.at, cells, peers) {
+        for place in 0..moves.len() {
+            if is_bounded(moves, cells, peers) {
+                return;
+            }
+            heard(moves, place, cells, peers);
+            ask_at(moves, place, round.at, cells, peers);
+        }
+        if is_bounded(moves, cells, peers) {
             return;
         }
         *round = round.after(least_lower(moves));
     }
+}
+
+// Whether an upper bound below 64 is known of a board after a move, or the search is over.
+fn is_bounded<C: Cells, O: RootPeers<C>>(moves: &RootMoves, cells: &C, peers: &mut O) -> bool {
+    best(moves, peers) < 64 || peers.is_over(cells)
 }
 
 /// A round in which the boards after a root's moves are asked at one threshold.
@@ -190,28 +173,6 @@ fn threshold_above(least: i8, step: i8) -> i8
     ensures { IsThreshold result }
 {
     lesser(63, least + step)
-}
-
-// Asks of each board after a move whether it has at most `most`, until an upper bound below 64 is known of one or the
-// search is over. Returns whether that came.
-fn ask_all<C: Cells, O: RootPeers<C>>(
-    moves: &mut RootMoves,
-    most: i8,
-    cells: &mut C,
-    peers: &mut O,
-) -> bool
-    requires { IsThreshold most }
-    ensures root { moves.new ≡ moves.old }
-    ensures fixed { C.fixed cells.new ≡ C.fixed cells.old }
-{
-    for place in 0..moves.len() {
-        if best(moves, peers) < 64 || peers.is_over(cells) {
-            return true;
-        }
-        heard(moves, place, cells, peers);
-        ask_at(moves, place, most, cells, peers);
-    }
-    best(moves, peers) < 64 || peers.is_over(cells)
 }
 
 /// Asks whether the board after the move at `place` has at most `most`, unless it is known to have more. Returns
@@ -279,58 +240,78 @@ pub fn settle_at<C: Cells, O: RootPeers<C>>(
         return;
     }
     peers.before(&known);
-    settle_by_null_windows(moves, place, goal, cells, peers);
+    let mut course = Course::to(goal);
+    for _ in 0..MOST_QUESTIONS {
+        if !course.ask(moves, place, cells, peers) {
+            break;
+        }
+    }
     peers.after(&known, &*moves);
 }
 
-// Narrows the bounds of the board after the move at `place`, by one null window after the other, as `settle_at`
-// promises. Gives up after `MOST_FRUITLESS` null windows that told nothing new.
-fn settle_by_null_windows<C: Cells, O: RootPeers<C>>(
-    moves: &mut RootMoves,
-    place: usize,
+// The null windows by which a board after a move is settled.
+#[derive(Drop)]
+struct Course {
     goal: RootGoal,
-    cells: &mut C,
-    peers: &mut O,
-)
-    ensures root { moves.new ≡ moves.old }
-    ensures fixed { C.fixed cells.new ≡ C.fixed cells.old }
-{
-    let mut pace = Pace::new();
+    pace: Pace,
     // The best upper bound of the others when the board was last compared with it. Steps widen only below it.
-    let mut others_best = 65;
-    let mut fruitless = 0u8;
-    for _ in 0..MOST_QUESTIONS {
+    others_best: i8,
+    // How many of them told nothing new.
+    fruitless: u8,
+}
+
+impl Course {
+    // The course to this goal, at its start.
+    fn to(goal: RootGoal) -> Course {
+        Course {
+            goal,
+            pace: Pace::new(),
+            others_best: 65,
+            fruitless: 0,
+        }
+    }
+
+    // Narrows the bounds of the board after the move at `place` by the next null window. Returns whether another one
+    // may follow: none does where the board is settled, the search is over, or `MOST_FRUITLESS` told nothing new.
+    fn ask<C: Cells, O: RootPeers<C>>(
+        &mut self,
+        moves: &mut RootMoves,
+        place: usize,
+        cells: &mut C,
+        peers: &mut O,
+    ) -> bool
+        ensures root { moves.new ≡ moves.old }
+        ensures fixed { C.fixed cells.new ≡ C.fixed cells.old }
+    {
         let Some(known) = moves.get(place) else {
-            return;
+            return false;
         };
         let bounds = known.child.interval;
         let best = best(moves, peers);
-        let threshold = goal.threshold(best);
-        if fruitless == MOST_FRUITLESS
+        let threshold = self.goal.threshold(best);
+        if self.fruitless == MOST_FRUITLESS
             || known.child.is_settled(threshold)
             || peers.is_done(known.square)
         {
-            return;
+            return false;
         }
         let is_behind = bounds.upper > best;
         let alpha = if is_behind {
             threshold
         } else {
-            peers.next(bounds, goal.start, pace)
+            peers.next(bounds, self.goal.start, self.pace)
         };
         let found = peers.decide(&known, alpha, cells);
         moves.narrow(place, &found);
-        if peers.is_over(cells) {
-            return;
-        }
         if is_behind {
-            others_best = best;
-        } else if bounds.upper < others_best {
-            pace = pace.after(leads_on(bounds, found.interval));
+            self.others_best = best;
+        } else if bounds.upper < self.others_best {
+            self.pace = self.pace.after(leads_on(bounds, found.interval));
         }
         if found.interval == bounds {
-            fruitless = fruitless.saturating_add(1);
+            self.fruitless = self.fruitless.saturating_add(1);
         }
+        !peers.is_over(cells)
     }
 }
 

@@ -6,7 +6,7 @@ ghost use Rattle.oth_search.specs.Bounds.Interval.{IsThreshold};
 use super::guess::guess;
 use super::moves::RootMoves;
 use super::root_peers::RootPeers;
-use super::settle::{RootGoal, first_threshold, settle};
+use super::settle::{Round, first_threshold, settle};
 use crate::bounds::{Cells, Interval, Solved, backed_up_from, greater, lesser};
 use crate::tuning::SIBLING_START_MAX_EMPTIES;
 
@@ -27,11 +27,8 @@ pub fn value_of<C: Cells, O: RootPeers<C>>(
 {
     let mut moves = RootMoves::of(&known.awake(), &[]);
     let likely = likely_score(known, sibling);
-    let goal = RootGoal {
-        start: first_asked(&mut moves, likely, cells, peers),
-        tells_ties: false,
-    };
-    settle(&mut moves, goal, cells, peers);
+    let mut round = Round::first(first_asked(&mut moves, likely, cells, peers));
+    settle(&mut moves, false, &mut round, cells, peers);
     let told = backed_up_from(known.board, 0, &[moves.backed_up()], known.scoring);
     known.joined(&told).exact(cells)
 }

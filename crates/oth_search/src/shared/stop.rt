@@ -11,8 +11,8 @@ use super::seen::{Begun, Seen};
 use super::tree_peers::TreePeers;
 use crate::bounds::{Answer, Cells, Entry, Interval, Kind, NullWindow, Solved};
 use crate::root::{
-    Pace, RootGoal, RootMove, RootMoves, RootPeers, Round, before_pass, best_moves, ended,
-    first_threshold, settle_on,
+    Pace, RootMove, RootMoves, RootPeers, Round, before_pass, best_moves, ended, first_threshold,
+    settle,
 };
 use crate::tuning::STOP_MIN_EMPTIES;
 use arrayvec::ArrayVec;
@@ -57,8 +57,7 @@ impl<C: Cells> Limited<C> {
     pub fn into_cells(self) -> C
         ensures { result ≡ self.cells }
     {
-        let (cells, _) = self.into_parts();
-        cells
+        self.into_parts().0
     }
 
     /// The cells, and what the search had come to.
@@ -284,11 +283,7 @@ fn solve_moves_until<C: Cells>(
         mut moves,
         mut round,
     } = begun;
-    let goal = RootGoal {
-        start: round.first,
-        tells_ties: true,
-    };
-    settle_on(&mut moves, goal, &mut round, cells, &mut driver);
+    settle(&mut moves, true, &mut round, cells, &mut driver);
     let is_guessed = !driver.is_ended;
     cells.seen = driver.into_seen();
     if cells.left == 0 {
