@@ -159,20 +159,10 @@ impl Round {
     {
         Round {
             first: self.first,
-            at: threshold_above(least, self.pace.step - 1),
+            at: lesser(63, least + (self.pace.step - 1)),
             pace: self.pace.after(true),
         }
     }
-}
-
-// The threshold `step` above this score, at most 63.
-fn threshold_above(least: i8, step: i8) -> i8
-    requires least { IsScore least }
-    requires shortest { pos 0 ≤ℤ step }
-    requires longest { step ≤ℤ pos 63 }
-    ensures { IsThreshold result }
-{
-    lesser(63, least + step)
 }
 
 /// Asks whether the board after the move at `place` has at most `most`, unless it is known to have more. Returns
