@@ -31,39 +31,54 @@ pub extern "C" fn oth_read_board(text: &[u8], position: &mut OthPosition, place:
     ensures shown { (p : PositionShown) → reading text.now ≡ Ok p → position.new ≡ words_of p }
     ensures kept { (f : FaultOfLine) → reading text.now ≡ Err f → position.new ≡ position.old }
 {
-    match read_board(text) {
+    written(read_board(text).map_err(line_fault), position, place)
+}
+
+// What C is told of a fault of a text: its number, and the place of the faulty byte or pair, or else 0.
+#[derive(Drop)]
+struct TextFault {
+    code: u32,
+    place: u8,
+}
+
+impl TextFault {
+    // A fault that is told with no place.
+    fn of(code: u32) -> TextFault
+        ensures { result ≡ record { code = code; place = 0 } }
+    {
+        TextFault { code, place: 0 }
+    }
+}
+
+// What C is told of a fault of a board line, with the place of a bad cell.
+fn line_fault(fault: LineFault) -> TextFault
+    ensures code { result.code ≡ line_code (Err fault) }
+    ensures place { result.place ≡ line_place (Err fault) }
+{
+    match fault {
+        LineFault::Length => TextFault::of(11),
+        LineFault::BadCell(place) => TextFault { code: 12, place },
+        LineFault::Space => TextFault::of(13),
+        LineFault::Mover => TextFault::of(14),
+        LineFault::Empties(_) => TextFault::of(Refusal::Empties.code()),
+    }
+}
+
+// Writes the position that was read, or the place of its fault, and gives the number of what it was.
+fn written(read: Result<Position, TextFault>, position: &mut OthPosition, place: &mut u8) -> u32
+    ensures ok { IfOk read (λ p. (result ≡ DONE) × (place.new ≡ 0) × (position.new ≡ words_of p)) }
+    ensures err { IfErr read (λ f. (result ≡ f.code) × (place.new ≡ f.place) × (position.new ≡ position.old)) }
+{
+    match read {
         Ok(read) => {
             *position = OthPosition::of(&read);
             *place = 0;
             DONE
         }
         Err(fault) => {
-            *place = line_place(fault);
-            line_code(fault)
+            *place = fault.place;
+            fault.code
         }
-    }
-}
-
-// The number by which C knows a fault of a board line.
-fn line_code(fault: LineFault) -> u32
-    ensures { result ≡ line_code (Err fault) }
-{
-    match fault {
-        LineFault::Length => 11,
-        LineFault::BadCell(_) => 12,
-        LineFault::Space => 13,
-        LineFault::Mover => 14,
-        LineFault::Empties(_) => Refusal::Empties.code(),
-    }
-}
-
-// The place of a bad cell, and else 0.
-fn line_place(fault: LineFault) -> u8
-    ensures { result ≡ line_place (Err fault) }
-{
-    match fault {
-        LineFault::BadCell(place) => place,
-        _ => 0,
     }
 }
 
@@ -81,7 +96,11 @@ pub extern "C" fn oth_read_transcript(
     ensures shown { (p : PositionShown) → transcript_reading text.now ≡ Ok p → position.new ≡ words_of p }
     ensures kept { (f : FaultOfTranscript) → transcript_reading text.now ≡ Err f → position.new ≡ position.old }
 {
-    written(read_transcript(text), position, place)
+    written(
+        read_transcript(text).map_err(transcript_fault),
+        position,
+        place,
+    )
 }
 
 /// Writes the position that a transcript leads to from another one, whose mover moves first, or passes where it must.
@@ -100,60 +119,33 @@ pub extern "C" fn oth_play_game(
         → next.new ≡ words_of p }
     ensures kept { result ≢ DONE → next.new ≡ next.old }
 {
-    match position.position() {
-        Ok(from) => written(play_transcript(from, text), next, place),
-        Err(refusal) => {
-            *place = 0;
-            refusal.code()
-        }
-    }
+    written(game_read(position, text), next, place)
 }
 
-// Writes the position of a reading, and the place of its fault.
-fn written(
-    reading: Result<Position, TranscriptFault>,
-    position: &mut OthPosition,
-    place: &mut u8,
-) -> u32
-    ensures code { result ≡ transcript_code reading }
-    ensures place { place.new ≡ transcript_place reading }
-    ensures shown { (p : PositionShown) → reading ≡ Ok p → position.new ≡ words_of p }
-    ensures kept { (f : FaultOfTranscript) → reading ≡ Err f → position.new ≡ position.old }
+// The position that a transcript leads to from another one, or the fault of that one or of the moves.
+fn game_read(position: OthPosition, text: &[u8]) -> Result<Position, TextFault>
+    ensures ok { IfOk result (λ p. (game_code position text.now ≡ DONE) × (game_place position text.now ≡ 0)
+        × (game_reading position text.now ≡ Ok p)) }
+    ensures err { IfErr result (λ f. (f.code ≡ game_code position text.now) × (f.place ≡ game_place position text.now)
+        × (f.code ≢ DONE)) }
 {
-    match reading {
-        Ok(read) => {
-            *position = OthPosition::of(&read);
-            *place = 0;
-            DONE
-        }
-        Err(fault) => {
-            *place = transcript_place(fault);
-            transcript_code(fault)
-        }
-    }
+    let from = position
+        .position()
+        .map_err(|refusal| TextFault::of(refusal.code()))?;
+    play_transcript(from, text).map_err(transcript_fault)
 }
 
-// The number by which C knows a fault of a transcript.
-fn transcript_code(fault: TranscriptFault) -> u32
-    ensures { result ≡ transcript_code (Err fault) }
+// What C is told of a fault of a transcript, with the number of the faulty pair.
+fn transcript_fault(fault: TranscriptFault) -> TextFault
+    ensures code { result.code ≡ transcript_code (Err fault) }
+    ensures place { result.place ≡ transcript_place (Err fault) }
+    ensures some { result.code ≢ DONE }
 {
     match fault {
-        TranscriptFault::OddLength => 21,
-        TranscriptFault::BadPair(_) => 22,
-        TranscriptFault::Illegal(_) => 23,
-        TranscriptFault::Over(_) => 24,
-    }
-}
-
-// The number of the faulty pair, and else 0.
-fn transcript_place(fault: TranscriptFault) -> u8
-    ensures { result ≡ transcript_place (Err fault) }
-{
-    match fault {
-        TranscriptFault::OddLength => 0,
-        TranscriptFault::BadPair(pair) => pair,
-        TranscriptFault::Illegal(pair) => pair,
-        TranscriptFault::Over(pair) => pair,
+        TranscriptFault::OddLength => TextFault::of(21),
+        TranscriptFault::BadPair(place) => TextFault { code: 22, place },
+        TranscriptFault::Illegal(place) => TextFault { code: 23, place },
+        TranscriptFault::Over(place) => TextFault { code: 24, place },
     }
 }
 
