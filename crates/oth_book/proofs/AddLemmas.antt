@@ -270,6 +270,3 @@ is_put old new i e r a b c d = record { inserted = a; full = b; room = c; unchan
 
 pub bounds_holds : (g : Scoring) (s : Solved) (e : Claim) → s.scoring ≡ g → empty_count s.board ≤ 30 → e ≡ bounds_entry s → (IsExact e → ⊥) → IsBookEntry g e
 bounds_holds g s e by few is inexact = rw is (bounds_true g s by few (rw is at inexact))
-
-pub askable : (g : Scoring) (old : List Claim) (s : Solved) → s.scoring ≡ g → empty_count s.board ≤ 30 → IsAskable (book_of g old) s
-askable g old s by few = record { scoring = by; empties = few }

@@ -162,12 +162,7 @@ impl Book {
         ensures kept { Keeps self.old self.new }
         ensures book { IsTrueBook self.new }
     {
-        if !agree(solved.scoring, self.scoring) {
-            return Err(AddError::Scoring);
-        }
-        if !has_few_empties(&solved.board) {
-            return Err(AddError::Empties);
-        }
+        self.check_askable(solved)?;
         let entry = bounds_of(solved);
         match position(self.entries.as_slice(), self.scoring, &entry.board) {
             Ok(place) => {
@@ -189,6 +184,21 @@ impl Book {
                 put_in(&mut self.entries, place, entry)
             }
         }
+    }
+
+    // Refuses what is tested before the book is looked into: bounds under the other scoring, or of a board with more
+    // than 30 empty squares.
+    fn check_askable(&self, solved: &Solved) -> Result<(), AddError>
+        ensures ok { OnOk result (IsAskable self.now solved.now) }
+        ensures err { IfErr result (AreRefused self.now solved.now) }
+    {
+        if !agree(solved.scoring, self.scoring) {
+            return Err(AddError::Scoring);
+        }
+        if !has_few_empties(&solved.board) {
+            return Err(AddError::Empties);
+        }
+        Ok(())
     }
 }
 

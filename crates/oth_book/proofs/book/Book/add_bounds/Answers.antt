@@ -1,11 +1,12 @@
-use Rattle.std.proofs.Common.{◌≡◌, refl, true, false}
-use Rattle.oth_book.proofs.AddLemmas.{closer_set, bounds_holds, put_true, is_put, askable, bounds_one_new, bounds_sharper, bounds_new, bounds_refused}
+use Rattle.std.proofs.Common.{◌≡◌, ◌∙◌, refl, sym, ap, true, false}
+use Rattle.oth_book.specs.Contents.{Contents}
+use Rattle.oth_book.proofs.AddLemmas.{closer_set, bounds_holds, put_true, is_put, bounds_one_new, bounds_sharper, bounds_new, bounds_refused}
 use Rattle.oth_book.proofs.KeepLemmas.{closer_keeps, put_keeps}
 use Rattle.oth_book.proofs.book.Book.add_bounds.Goals as goal
 
 pub invariant_of-self : goal.invariant_of-self
 invariant_of-self c =
-    let by = c.if-not-agree.ensures.0 refl in
+    let by = c.in_ok-check_askable.ensures.ok.scoring ∙ sym (ap (λ (b : Contents). b.scoring) c.self.view_is) in
     let at = rw c.as_slice.ensures.value at c.in-Ok.ensures.found in
     closer_set c.self.inside.scoring c.self.inside.entries.items c.in-Ok.place _ c.bounds_of-entry.result c.closer_of-closer.result c.args.solved.now c.self.invariant by
     c.bounds_of-entry.ensures at c.index.ensures c.closer_of-closer.ensures
@@ -13,8 +14,8 @@ invariant_of-self c =
 
 pub invariant_of-self-in-Err : goal.invariant_of-self-in-Err
 invariant_of-self-in-Err c =
-    let by = c.if-not-agree.ensures.0 refl in
-    let few = c.if-not-has_few_empties.ensures.0 refl in
+    let by = c.in_ok-check_askable.ensures.ok.scoring ∙ sym (ap (λ (b : Contents). b.scoring) c.self.view_is) in
+    let few = c.in_ok-check_askable.ensures.ok.empties in
     let gap = rw c.as_slice.ensures.value at c.in-Err.ensures.absent in
     let entry = bounds_holds c.self.inside.scoring c.args.solved.now c.bounds_of-entry.result by few c.bounds_of-entry.ensures (λ h. let no : false ≡ true = c.if-is_exact-2.ensures.1 h in cc) in
     put_true c.self.inside.scoring c.self.inside.entries.items _ c.in-Err.place c.bounds_of-entry.result c.put_in.result c.self.invariant entry gap
@@ -24,7 +25,7 @@ pub returns-then-is_exact-2-clause-refused : goal.returns-then-is_exact-2-clause
 returns-then-is_exact-2-clause-refused c =
     let gap = rw c.as_slice.ensures.value at c.in-Err.ensures.absent in
     rw (← c.self.view_is) (bounds_one_new c.self.inside.scoring c.self.inside.entries.items c.in-Err.place c.bounds_of-entry.result c.args.solved.now
-    (askable c.self.inside.scoring c.self.inside.entries.items c.args.solved.now (c.if-not-agree.ensures.0 refl) (c.if-not-has_few_empties.ensures.0 refl)) c.bounds_of-entry.ensures gap
+    (rw c.self.view_is c.in_ok-check_askable.ensures.ok) c.bounds_of-entry.ensures gap
     (c.if-is_exact-2.ensures.0 refl))
 
 pub returns-else-is_exact-clause-added : goal.returns-else-is_exact-clause-added
@@ -46,7 +47,7 @@ pub returns-else-is_exact-2-clause-refused : goal.returns-else-is_exact-2-clause
 returns-else-is_exact-2-clause-refused c =
     let gap = rw c.as_slice.ensures.value at c.in-Err.ensures.absent in
     rw (← c.self.view_is) (bounds_refused c.self.inside.scoring c.self.inside.entries.items _ c.in-Err.place c.bounds_of-entry.result c.args.solved.now c.put_in.result
-    (askable c.self.inside.scoring c.self.inside.entries.items c.args.solved.now (c.if-not-agree.ensures.0 refl) (c.if-not-has_few_empties.ensures.0 refl)) c.bounds_of-entry.ensures
+    (rw c.self.view_is c.in_ok-check_askable.ensures.ok) c.bounds_of-entry.ensures
     (λ h. let no : false ≡ true = c.if-is_exact-2.ensures.1 h in cc) gap
     (is_put _ _ _ _ _ c.put_in.ensures.new c.put_in.ensures.full c.put_in.ensures.room c.put_in.ensures.unchanged))
 
@@ -58,7 +59,7 @@ returns-else-is_exact-clause-kept c =
 
 pub returns-else-is_exact-clause-book : goal.returns-else-is_exact-clause-book
 returns-else-is_exact-clause-book c =
-    let by = c.if-not-agree.ensures.0 refl in
+    let by = c.in_ok-check_askable.ensures.ok.scoring ∙ sym (ap (λ (b : Contents). b.scoring) c.self.view_is) in
     let at = rw c.as_slice.ensures.value at c.in-Ok.ensures.found in
     closer_set c.self.inside.scoring c.self.inside.entries.items c.in-Ok.place _ c.bounds_of-entry.result c.closer_of-closer.result c.args.solved.now c.self.invariant by
     c.bounds_of-entry.ensures at c.index.ensures c.closer_of-closer.ensures
@@ -71,8 +72,8 @@ returns-else-is_exact-2-clause-kept c =
 
 pub returns-else-is_exact-2-clause-book : goal.returns-else-is_exact-2-clause-book
 returns-else-is_exact-2-clause-book c =
-    let by = c.if-not-agree.ensures.0 refl in
-    let few = c.if-not-has_few_empties.ensures.0 refl in
+    let by = c.in_ok-check_askable.ensures.ok.scoring ∙ sym (ap (λ (b : Contents). b.scoring) c.self.view_is) in
+    let few = c.in_ok-check_askable.ensures.ok.empties in
     let gap = rw c.as_slice.ensures.value at c.in-Err.ensures.absent in
     let entry = bounds_holds c.self.inside.scoring c.args.solved.now c.bounds_of-entry.result by few c.bounds_of-entry.ensures (λ h. let no : false ≡ true = c.if-is_exact-2.ensures.1 h in cc) in
     put_true c.self.inside.scoring c.self.inside.entries.items _ c.in-Err.place c.bounds_of-entry.result c.put_in.result c.self.invariant entry gap
