@@ -95,8 +95,13 @@ fn ask_down_to<C: Cells, P: RootPeers<C>>(
 {
     for above in [0, 2, 6, 14, 30, 62] {
         let most = threshold_above(higher.first, above);
-        if most >= known || ask_each(&mut higher.moves, most, cells, peers) {
+        if most >= known {
             return;
+        }
+        for place in 0..higher.moves.len() {
+            if ask_at(&mut higher.moves, place, most, cells, peers) {
+                return;
+            }
         }
     }
 }
@@ -113,23 +118,4 @@ fn threshold_above(first: i8, above: i8) -> i8
     } else {
         at
     }
-}
-
-// Asks each board after a move whether it has at most `most`, until one has. Returns whether one has.
-fn ask_each<C: Cells, P: RootPeers<C>>(
-    moves: &mut RootMoves,
-    most: i8,
-    cells: &mut C,
-    peers: &mut P,
-) -> bool
-    requires { IsThreshold most }
-    ensures root { moves.new ≡ moves.old }
-    ensures fixed { C.fixed cells.new ≡ C.fixed cells.old }
-{
-    for place in 0..moves.len() {
-        if ask_at(moves, place, most, cells, peers) {
-            return true;
-        }
-    }
-    false
 }
