@@ -28,6 +28,7 @@ mod at_once;
 mod book_lookup;
 mod draw_order;
 mod higher;
+mod means;
 mod queue;
 pub mod run;
 mod scoring_moves;

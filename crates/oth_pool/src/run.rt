@@ -7,6 +7,7 @@ ghost use Rattle.oth_walk.specs.Lending.{LendsFloor, LendsTable};
 ghost use Rattle.oth_pool.specs.Working.{HasLists, AreGathered};
 
 use crate::draw_order::ranks;
+use crate::means::Means;
 use crate::work::{
     collect_replies, duties_of, found_by_workers, hands_in, run_duties, told_by_all,
 };
@@ -26,15 +27,6 @@ use std::thread::Threads;
 pub struct Gathered {
     pub drawn: Drawn,
     pub replies: Vec<Reply>,
-}
-
-/// What a search is made with: the threads, the memory, the gate that hears of each item, and the number of workers.
-#[derive(Clone, Copy)]
-pub(crate) struct Means<'m, R, G> {
-    pub rt: &'m R,
-    pub alloc: Global,
-    pub gate: &'m G,
-    pub workers: u8,
 }
 
 /// What workers share besides the table.
@@ -109,7 +101,6 @@ pub(crate) fn run<'w, 't, R: Threads + Sync, G: Gate>(
     seat: &mut FloorSeat,
     table: &mut Option<TableCells<'t>>,
 ) -> (Gathered, Vec<RootMove>)
-    requires crew { IsCrew means.now.workers }
     requires seat { IsSeatOf links.floor.now seat.old }
     ensures seat { LendsFloor seat.old seat.new }
     ensures table { LendsTable table.old table.new }

@@ -8,10 +8,9 @@ ghost use Rattle.oth_rules.specs.Move.{can_move};
 ghost use Rattle.oth_pool.specs.Solving.{IsSolvable, Refuses, Accepts};
 ghost use Rattle.oth_search.specs.Bounds.Full.{IsFullMinimax};
 ghost use Rattle.oth_search.specs.Root.Scores.{AreScores};
-ghost use Rattle.oth_pieces.specs.Hands.{IsCrew};
 
+use crate::means::Means;
 use crate::queue::Queue;
-use crate::run::Means;
 use crate::solving::{SolveError, accepted, crew, solve};
 use crate::tuning::cells_for;
 use crate::valuing::{valued_apart, valued_together};
@@ -72,8 +71,7 @@ fn valued_children<R: Threads + Sync, G: Gate>(
     scoring: Scoring,
     cells: u32,
 ) -> ArrayVec<Solved, 64>
-    requires few { IsSolvable board.now }
-    requires crew { IsCrew means.now.workers }
+    requires { IsSolvable board.now }
 {
     let cells = cells_for(cells, board.empties(), means.workers);
     match SharedTable::new(means.alloc, cells, scoring) {
@@ -94,13 +92,14 @@ fn replies_over<'t, R: Threads + Sync, G: Gate>(
     scoring: Scoring,
     access: &mut Option<TableCells<'t>>,
 ) -> ArrayVec<Solved, 64>
-    requires few { IsSolvable board.now }
-    requires crew { IsCrew means.now.workers }
+    requires { IsSolvable board.now }
 {
     let queue = Queue::of(board, book, scoring);
     let crewed = Means {
+        rt: means.rt,
+        alloc: means.alloc,
+        gate: means.gate,
         workers: crew(means.workers, board.empties().saturating_sub(1)),
-        ..*means
     };
     if queue.len() < crewed.workers as usize {
         return valued_together(&crewed, &queue, access);

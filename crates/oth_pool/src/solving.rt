@@ -10,7 +10,8 @@ ghost use Rattle.oth_pieces.specs.Watch.{IsSeatOf};
 
 use crate::book_lookup::{answer_in, bounds_in, moves_by_book};
 use crate::higher::{ask_higher, may_be_higher, seems_higher};
-use crate::run::{Gathered, Links, Means, bounds_for, hints_for, run};
+use crate::means::Means;
+use crate::run::{Gathered, Links, bounds_for, hints_for, run};
 use crate::tuning::{CREW_MIN_EMPTIES, cells_for};
 use crate::work::room_for;
 use oth_book::Book;
@@ -115,7 +116,6 @@ fn answer<R: Threads + Sync, G: Gate>(
     cells: u32,
 ) -> Answer
     requires few { IsSolvable by_book.now.board }
-    requires crew { IsCrew means.now.workers }
     ensures board { result.board ≡ by_book.now.board }
     ensures scoring { result.scoring ≡ by_book.now.scoring }
 {
@@ -144,7 +144,6 @@ fn answer_moves<R: Threads + Sync, G: Gate>(
 ) -> Answer
     requires some { can_move by_book.now.board ≡ true }
     requires few { IsSolvable by_book.now.board }
-    requires crew { IsCrew means.now.workers }
     ensures board { result.board ≡ by_book.now.board }
     ensures scoring { result.scoring ≡ by_book.now.scoring }
 {
@@ -174,7 +173,6 @@ pub(crate) fn answer_over<'t, R: Threads + Sync, G: Gate>(
 ) -> Answer
     requires some { can_move by_book.now.board ≡ true }
     requires few { IsSolvable by_book.now.board }
-    requires crew { IsCrew means.now.workers }
     ensures board { result.board ≡ by_book.now.board }
     ensures scoring { result.scoring ≡ by_book.now.scoring }
 {
@@ -225,7 +223,6 @@ fn answer_together<'t, R: Threads + Sync, G: Gate>(
 ) -> Option<Answer>
     requires some { can_move by_book.now.board ≡ true }
     requires few { IsSolvable by_book.now.board }
-    requires crew { IsCrew means.now.workers }
     ensures board { IfSome result (λ a. a.board ≡ by_book.now.board) }
     ensures scoring { IfSome result (λ a. a.scoring ≡ by_book.now.scoring) }
 {

@@ -1,11 +1,10 @@
 //! Values the boards of a queue: each by one worker, or each by all workers.
 ghost use Rattle.std.specs.Prelude.{◌≡◌};
 ghost use Rattle.oth_pool.specs.Solving.{IsSolvable};
-ghost use Rattle.oth_pieces.specs.Hands.{IsCrew};
 
 use crate::at_once::for_each_at_once;
+use crate::means::Means;
 use crate::queue::Queue;
-use crate::run::Means;
 use crate::solving::answer_over;
 use crate::work::room_for;
 use arrayvec::ArrayVec;
@@ -49,9 +48,7 @@ pub(crate) fn valued_together<'t, R: Threads + Sync, G: Gate>(
     means: &Means<R, G>,
     queue: &Queue,
     access: &mut Option<TableCells<'t>>,
-) -> ArrayVec<Solved, 64>
-    requires { IsCrew means.now.workers }
-{
+) -> ArrayVec<Solved, 64> {
     let mut valued = ArrayVec::new();
     for _ in 0..queue.len() {
         let Some(by_book) = queue.take() else {
@@ -157,8 +154,7 @@ fn value_together<'t, R: Threads + Sync, G: Gate>(
     by_book: &Solved,
     access: &mut Option<TableCells<'t>>,
 ) -> Solved
-    requires few { IsSolvable by_book.now.board }
-    requires crew { IsCrew means.now.workers }
+    requires { IsSolvable by_book.now.board }
 {
     if by_book.interval.is_exact() {
         return *by_book;

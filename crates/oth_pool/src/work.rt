@@ -6,7 +6,7 @@ ghost use Rattle.oth_pieces.specs.Hands.{AreAllHands};
 ghost use Rattle.oth_pieces.specs.Dealing.{times};
 ghost use Rattle.oth_pool.specs.Working.{Holds, IsReplyOf, numbers_of, times_by};
 
-use crate::run::Means;
+use crate::means::Means;
 use crate::workers::work_all;
 use oth_pieces::{Hand, Reply, Tasks};
 use oth_search::{Cells, RootMove};

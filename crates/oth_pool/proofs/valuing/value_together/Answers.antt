@@ -19,7 +19,7 @@ answer_over-answer-requires-clause-some g c = λ κs within.
     ap can_move c.passed.ensures.board ∙ (pass-must c.args.by_book.now.board (sym c.in-Pass.is ∙ c.of.ensures)).1
 
 pub answer_over-answer-requires-clause-few : goal.answer_over-answer-requires-clause-few
-answer_over-answer-requires-clause-few g c = omega (arith, c.requires.few, ap empty_count c.passed.ensures.board, empty_count-pass c.args.by_book.now.board)
+answer_over-answer-requires-clause-few g c = omega (arith, c.requires, ap empty_count c.passed.ensures.board, empty_count-pass c.args.by_book.now.board)
 
 pub before_pass-requires-clause-none : goal.before_pass-requires-clause-none
 before_pass-requires-clause-none g c = (pass-must c.args.by_book.now.board (sym c.in-Pass.is ∙ c.of.ensures)).0
