@@ -8,12 +8,15 @@ ghost use Rattle.oth_search.specs.Bounds.Interval.{IsThreshold};
 
 use crate::tuning::{HIGHER_BY, HIGHER_MIN_EMPTIES};
 use arrayvec::ArrayVec;
-use oth_search::{Cells, RootMoves, RootPeers, Solved, ask_at, first_threshold};
+use oth_search::{Cells, NoPeers, RootMoves, RootPeers, Solved, ask_at, first_threshold};
+use oth_table::TableCells;
+use oth_walk::{Sharing, worker_cells};
+use std::alloc::Global;
 
-/// The moves of a root of which is known only that some give no more than this, and the threshold of the guess.
+// The moves of a root of which is known only that some give no more than this, and the threshold of the guess.
 #[derive(Drop)]
-pub(crate) struct Higher {
-    pub moves: RootMoves,
+struct Higher {
+    moves: RootMoves,
     first: i8,
     ghost threshold: { IsThreshold first },
 }
@@ -39,15 +42,36 @@ pub(crate) fn ask_higher<C: Cells, P: RootPeers<C>>(
     moves.take_in(higher.moves.as_slice());
 }
 
-/// Whether a guess may pay: the moves are known to reach some score, and enough squares are empty that the guess is a
-/// small part of the search.
-pub(crate) fn may_be_higher(moves: &RootMoves) -> bool {
+/// Returns the moves from which several workers begin: these, or where the score seems to be higher than they are known
+/// to reach, those of which is known that they give no more.
+#[inline(never)]
+pub(crate) fn start_of_several<'t>(
+    alloc: Global,
+    moves: &RootMoves,
+    access: &mut Option<TableCells<'t>>,
+) -> RootMoves
+    ensures { result ≡ moves.now }
+{
+    if !may_be_higher(moves) {
+        return moves.another();
+    }
+    let empties = moves.root().board.empties();
+    let mut cells = worker_cells(alloc, empties, Sharing::of_several(access), access);
+    match seems_higher(moves, &mut cells, &mut NoPeers) {
+        Some(higher) => higher.moves,
+        None => moves.another(),
+    }
+}
+
+// Whether a guess may pay: the moves are known to reach some score, and enough squares are empty that the guess is a
+// small part of the search.
+fn may_be_higher(moves: &RootMoves) -> bool {
     moves.root().board.empties() >= HIGHER_MIN_EMPTIES && moves.best() > -64
 }
 
-/// Where the score seems to be higher than the moves are known to reach, these moves with what is known of the most
-/// that each gives.
-pub(crate) fn seems_higher<C: Cells, P: RootPeers<C>>(
+// Where the score seems to be higher than the moves are known to reach, these moves with what is known of the most
+// that each gives.
+fn seems_higher<C: Cells, P: RootPeers<C>>(
     moves: &RootMoves,
     cells: &mut C,
     peers: &mut P,

@@ -9,7 +9,7 @@ ghost use Rattle.oth_pieces.specs.History.{floor_after};
 ghost use Rattle.oth_pieces.specs.Watch.{IsSeatOf};
 
 use crate::book_lookup::{answer_in, bounds_in, moves_by_book};
-use crate::higher::{ask_higher, may_be_higher, seems_higher};
+use crate::higher::{ask_higher, start_of_several};
 use crate::means::Means;
 use crate::run::{Gathered, Links, bounds_for, hints_for, run};
 use crate::tuning::{CREW_MIN_EMPTIES, cells_for};
@@ -290,27 +290,6 @@ fn raised_floor(alloc: Global, by_book: &Solved) -> Option<(Floor, FloorSeat)>
     let (floor, mut seat) = Floor::new(alloc, &by_book.board, by_book.scoring).ok()?;
     floor.raise(&mut seat, by_book).ok()?;
     Some((floor, seat))
-}
-
-// Returns the moves from which several workers begin: these, or where the score seems to be higher than they are known
-// to reach, those of which is known that they give no more.
-#[inline(never)]
-fn start_of_several<'t>(
-    alloc: Global,
-    moves: &RootMoves,
-    access: &mut Option<TableCells<'t>>,
-) -> RootMoves
-    ensures { result ≡ moves.now }
-{
-    if !may_be_higher(moves) {
-        return moves.another();
-    }
-    let empties = moves.root().board.empties();
-    let mut cells = worker_cells(alloc, empties, Sharing::of_several(access), access);
-    match seems_higher(moves, &mut cells, &mut NoPeers) {
-        Some(higher) => higher.moves,
-        None => moves.another(),
-    }
 }
 
 // Returns what the workers found of the items, and the caller of those that none took, as far as there is room for it.
