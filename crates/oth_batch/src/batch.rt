@@ -1,14 +1,15 @@
 //! What the boards of a batch are solved with, and all answers of a batch.
 
-ghost use Rattle.std.specs.Prelude.{◌≡◌, All, Contains, IfSome};
+ghost use Rattle.std.specs.Prelude.{◌≡◌, All, Contains, IfErr, IfOk, IfSome};
 ghost use Rattle.std.specs.Thread.{IsSync};
+ghost use Rattle.oth_pool.specs.Solving.{Refuses};
 
 use crate::asked::{Asked, Found};
 use crate::boards::Boards;
 use crate::games::known_by;
 use crate::jobs::Jobs;
 use oth_book::Book;
-use oth_pool::{Gate, scores, solve};
+use oth_pool::{Gate, SolveError, scores, solve};
 use oth_rules::{Board, Scoring};
 use oth_search::{Answer, Scores};
 use oth_text::Turn;
@@ -68,33 +69,30 @@ impl<'b, R: Threads + Sync, G: Gate> Batch<'b, R, G> {
         answers
     }
 
-    // The answer of the board by one worker and this book, if it has at most 30 empty squares and the cells are a
-    // lawful number.
-    fn answer_by_one(&self, board: &Board, book: Option<&Book>) -> Option<Answer>
-        ensures board { IfSome result (λ a. a.board ≡ board.now) }
-        ensures scoring { IfSome result (λ a. a.scoring ≡ self.now.scoring) }
+    /// The answer of the board by `workers` workers, who ask `book` first, or the refusal of [`oth_pool::solve`].
+    pub fn solve(
+        &self,
+        board: &Board,
+        workers: u8,
+        book: Option<&Book>,
+    ) -> Result<Answer, SolveError>
+        ensures board { IfOk result (λ a. a.board ≡ board.now) }
+        ensures scoring { IfOk result (λ a. a.scoring ≡ self.now.scoring) }
+        ensures err { IfErr result (Refuses board.now workers self.now.cells) }
     {
-        let solved = solve(
-            self.rt,
-            self.alloc,
-            board,
-            1,
-            self.cells,
-            self.gate,
-            book,
-            self.scoring,
-        );
-        solved.ok()
+        let (rt, alloc, cells, scoring) = (self.rt, self.alloc, self.cells, self.scoring);
+        solve(rt, alloc, board, workers, cells, self.gate, book, scoring)
     }
 
-    // The scores of the board's moves by one worker, as for its answer.
-    fn scores_of(&self, board: &Board) -> Option<Scores>
-        ensures board { IfSome result (λ s. s.answer.board ≡ board.now) }
-        ensures scoring { IfSome result (λ s. s.answer.scoring ≡ self.now.scoring) }
+    /// The scores of the board's moves by `workers` workers, or the refusal of [`oth_pool::scores`].
+    pub fn scores(&self, board: &Board, workers: u8) -> Result<Scores, SolveError>
+        ensures board { IfOk result (λ s. s.answer.board ≡ board.now) }
+        ensures scoring { IfOk result (λ s. s.answer.scoring ≡ self.now.scoring) }
+        ensures err { IfErr result (Refuses board.now workers self.now.cells) }
     {
-        let (rt, alloc) = (self.rt, self.alloc);
+        let (rt, alloc, gate) = (self.rt, self.alloc, self.gate);
         let (cells, book, scoring) = (self.cells, self.book, self.scoring);
-        scores(rt, alloc, board, 1, cells, self.gate, book, scoring).ok()
+        scores(rt, alloc, board, workers, cells, gate, book, scoring)
     }
 
     // The answers of the boards of these turns, by one worker.
@@ -105,15 +103,15 @@ impl<'b, R: Threads + Sync, G: Gate> Batch<'b, R, G> {
             turns,
             |board: &Board, known: &Book| -> Option<Answer>
                 requires { IsSync R.row × IsSync G.row }
-            { self.answer_by_one(board, Some(known)) },
+            { self.solve(board, 1, Some(known)).ok() },
         )
     }
 
     // What is asked of the board, by one worker; of a game, whose turns these are, of all of its boards.
     pub(crate) fn find(&self, asked: Asked, board: &Board, turns: &[Turn]) -> Option<Found> {
         match asked {
-            Asked::Answer => Some(Found::Answer(self.answer_by_one(board, self.book)?)),
-            Asked::Scores => Some(Found::Scores(self.scores_of(board)?)),
+            Asked::Answer => Some(Found::Answer(self.solve(board, 1, self.book).ok()?)),
+            Asked::Scores => Some(Found::Scores(self.scores(board, 1).ok()?)),
             Asked::Game => Some(Found::Known(self.known_of(turns))),
         }
     }

@@ -15,7 +15,7 @@ use crate::boards::Boards;
 use crate::found::answer_among;
 use crate::tuning::ALL_WORKERS_MIN_EMPTIES;
 use oth_book::{Book, Claim, Claims, Wrong, verify_knowing};
-use oth_pool::{Gate, solve};
+use oth_pool::Gate;
 use oth_rules::Board;
 use oth_search::Answer;
 use std::alloc::Global;
@@ -83,17 +83,7 @@ impl<'b, R: Threads + Sync, G: Gate> ClaimSolver<'b, R, G> {
             return None;
         }
         let batch = &self.batch;
-        let solved = solve(
-            batch.rt,
-            batch.alloc,
-            board,
-            batch.workers,
-            batch.cells,
-            batch.gate,
-            batch.book,
-            batch.scoring,
-        );
-        solved.ok()
+        batch.solve(board, batch.workers, batch.book).ok()
     }
 
     // Solves the boards of the first claims, as many as make a batch, if there is memory for them.

@@ -1,5 +1,5 @@
 use Rattle.std.proofs.Common.{rules}
-use Rattle.oth_batch.proofs.batch.Batch.answer_by_one.Goals as goal
+use Rattle.oth_batch.proofs.batch.Batch.solve.Goals as goal
 
 pub returns-clause-board : goal.returns-clause-board
 returns-clause-board g c = search rules

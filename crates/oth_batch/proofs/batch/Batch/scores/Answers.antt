@@ -1,5 +1,5 @@
 use Rattle.std.proofs.Common.{rules}
-use Rattle.oth_batch.proofs.batch.Batch.scores_of.Goals as goal
+use Rattle.oth_batch.proofs.batch.Batch.scores.Goals as goal
 
 pub returns-clause-scoring : goal.returns-clause-scoring
 returns-clause-scoring g c = search rules
