@@ -22,7 +22,7 @@ use oth_pool::Gate;
 use oth_search::TooManyEmpties;
 use oth_text::{
     BoardReader, Failed, GameReader, LineFault, Sink, TranscriptReader, fault_line,
-    game_fault_line, moves_line, report_line, transcript_fault_line, write_board,
+    game_fault_line, moves_line, transcript_fault_line, write_board,
 };
 use oth_words::Command;
 use std::sync::Wait;
@@ -187,7 +187,7 @@ fn tell_answer<T: Wait + Threads + Sync, W: Sink, G: Gate>(
         Err(fault) => return waiting.push_text(writer, fault_line(&fault).as_slice()),
     };
     match solver.awaited_answer_of(jobs, &position.board) {
-        Ok(answer) => waiting.push_text(writer, report_line(&answer).as_slice()),
+        Ok(answer) => waiting.push_report_line(writer, &answer),
         Err(many) => {
             waiting.push_text(
                 writer,

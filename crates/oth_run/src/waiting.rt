@@ -1,11 +1,13 @@
 //! Bytes that wait to be written, so that a sink is called a few times for many lines.
 
 ghost use Rattle.std.specs.Prelude.{◌≡◌, ◌≤◌, [], ◌∷◌, ◌++◌, length, true, OnOk, OnErr};
+ghost use Rattle.oth_text.specs.Report.{report_line_of};
 ghost use Rattle.oth_run.specs.Gathered.{Gathers, KeepsGathered, StopsInText, StopsInWaiting, WritesOut};
 
 use crate::tuning::WAITING_LEN;
 use arrayvec::ArrayVec;
-use oth_text::{Failed, Sink, write_all};
+use oth_search::Answer;
+use oth_text::{Failed, REPORT_LINE_LEN, Sink, push_report_line, write_all};
 
 /// Bytes that wait to be written.
 #[derive(Drop)]
@@ -37,6 +39,26 @@ impl Waiting {
             self.write_to(writer)?;
         }
         self.bytes.try_extend_from_slice(text).unwrap();
+        Ok(())
+    }
+
+    /// Adds the report line of the answer, as `push_text` does.
+    pub fn push_report_line<W: Sink>(
+        &mut self,
+        writer: &mut W,
+        answer: &Answer,
+    ) -> Result<(), Failed>
+        ensures ok { OnOk result (Gathers (W.contents writer.old) (W.contents writer.new)
+            self.old.bytes.items self.new.bytes.items (report_line_of answer.now.scoring answer.now.board)) }
+        ensures err { OnErr result
+            (StopsInWaiting (W.contents writer.old) (W.contents writer.new) self.old.bytes.items) }
+        ensures works { OnOk result (W.failed writer.new ≡ W.failed writer.old) }
+        ensures fails { OnErr result (W.failed writer.new ≡ true) }
+    {
+        if self.bytes.remaining_capacity() < REPORT_LINE_LEN {
+            self.write_to(writer)?;
+        }
+        push_report_line(&mut self.bytes, answer);
         Ok(())
     }
 

@@ -147,3 +147,31 @@ fn boards_of_few_empty_squares_are_found_in_turn(rt: HostRuntime) -> Result<(), 
     assert!(rt; jobs.found(first).is_none());
     Ok(())
 }
+
+// Thirteen of each: the small ones are a whole run and the beginning of another.
+#[test]
+fn boards_of_few_and_of_many_empty_squares_are_found_among_each_other(
+    rt: HostRuntime,
+) -> Result<(), Fail> {
+    let (Some(few), Some(many)) = (images(rt.alloc(), 8), images(rt.alloc(), 10)) else {
+        panic!(rt; "no boards")
+    };
+    let mut boards = Vec::new(rt.alloc());
+    for place in 0..13 {
+        if let (Some(small), Some(large)) = (few.as_slice().get(place), many.as_slice().get(place))
+        {
+            boards.push(*small)?;
+            boards.push(*large)?;
+        }
+    }
+    assert!(rt; boards.len() == 26);
+    let batch = batch(&rt, 4, 64, Scoring::Discs);
+    let Some(jobs) = Jobs::of(&batch, Asked::Answer, boards.as_slice()) else {
+        panic!(rt; "no jobs")
+    };
+    jobs.do_all();
+    for board in boards.as_slice() {
+        assert!(rt; jobs.found(board) == solve_alone(board, Scoring::Discs).ok());
+    }
+    Ok(())
+}

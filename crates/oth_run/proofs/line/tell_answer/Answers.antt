@@ -20,17 +20,16 @@ returns-in-Err-clause-err g c = on_err_weaker c.push_text.result (λ stops. λ l
     stops_in _ _ _ (board_reply (report_line_of c.args.solver.now.settings.scoring) (solvable_reading line)) stops) c.push_text.ensures.err
 
 pub returns-in-Ok-awaited_answer_of-clause-ok : goal.returns-in-Ok-awaited_answer_of-clause-ok
-returns-in-Ok-awaited_answer_of-clause-ok g c = on_ok_weaker c.push_text-in-Ok-awaited_answer_of.result (λ gathers. λ line kept. gathers_as _ _ _ _ _ _
-    (c.as_slice-in-Ok-awaited_answer_of.ensures.value ∙ c.report_line.ensures.text
-    ∙ ap (λ b. report_line_of c.in-Ok-awaited_answer_of.answer.scoring b) c.in-Ok-awaited_answer_of.ensures.board
+returns-in-Ok-awaited_answer_of-clause-ok g c = on_ok_weaker c.push_report_line.result (λ gathers. λ line kept. gathers_as _ _ _ _ _ _
+    (ap (λ b. report_line_of c.in-Ok-awaited_answer_of.answer.scoring b) c.in-Ok-awaited_answer_of.ensures.board
     ∙ ap (λ s. report_line_of s c.in-Ok.position.board) c.in-Ok-awaited_answer_of.ensures.scoring
     ∙ sym (reply-few (report_line_of c.args.solver.now.settings.scoring) line c.in-Ok.position (sym (c.read.ensures line kept) ∙ c.in-Ok.is)
     (λ many. true≢false (sym (c.in-Ok-awaited_answer_of.ensures.refused.1 many)))))
-    gathers) c.push_text-in-Ok-awaited_answer_of.ensures.ok
+    gathers) c.push_report_line.ensures.ok
 
 pub returns-in-Ok-awaited_answer_of-clause-err : goal.returns-in-Ok-awaited_answer_of-clause-err
-returns-in-Ok-awaited_answer_of-clause-err g c = on_err_weaker c.push_text-in-Ok-awaited_answer_of.result (λ stops. λ line kept.
-    stops_in _ _ _ (board_reply (report_line_of c.args.solver.now.settings.scoring) (solvable_reading line)) stops) c.push_text-in-Ok-awaited_answer_of.ensures.err
+returns-in-Ok-awaited_answer_of-clause-err g c = on_err_weaker c.push_report_line.result (λ stops. λ line kept.
+    stops_in _ _ _ (board_reply (report_line_of c.args.solver.now.settings.scoring) (solvable_reading line)) stops) c.push_report_line.ensures.err
 
 pub returns-in-Err-awaited_answer_of-clause-ok : goal.returns-in-Err-awaited_answer_of-clause-ok
 returns-in-Err-awaited_answer_of-clause-ok g c = on_ok_weaker c.push_text-in-Err-awaited_answer_of.result (λ gathers. λ line kept. gathers_as _ _ _ _ _ _
