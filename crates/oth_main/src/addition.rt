@@ -19,7 +19,6 @@ ghost use Rattle.oth_run.specs.declared.fault.RunFault.TheVariants.{Write};
 
 use crate::message::Message;
 use crate::progress::Progress;
-use oth_batch::{Asked, Recent};
 use oth_book::{AddError, Book, write};
 use oth_pool::Gate;
 use oth_run::{Ahead, Lawful, RunFault, Solver, split_line};
@@ -54,14 +53,8 @@ impl<'p> Conditions<'p> {
     fn solver<'s, T: Threads + Sync>(&'s self, rt: &'s T, book: &'s Book) -> Solver<'s, T, Progress>
         ensures scoring { result.settings.scoring ≡ book.now.scoring }
     {
-        Solver {
-            rt,
-            alloc: self.alloc,
-            gate: self.progress,
-            book: Some(book),
-            settings: self.settings.to_solve_by(book.scoring()),
-            recent: Recent::new(self.alloc, Asked::Answer),
-        }
+        let settings = self.settings.to_solve_by(book.scoring());
+        Solver::of(rt, self.alloc, self.progress, Some(book), settings)
     }
 }
 
@@ -246,7 +239,6 @@ impl<'p> Addition<'p> {
     {
         let position = self.line.read()?;
         let board = &position.board;
-        self.conditions.progress.awaits(board);
         let found = self
             .ahead
             .find_answer(&self.conditions.solver(rt, &self.book), board);

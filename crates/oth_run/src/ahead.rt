@@ -6,10 +6,10 @@ ghost use Rattle.oth_rules.specs.Position.{empty_count};
 use crate::lines::split_line;
 use crate::solver::Solver;
 use crate::tuning::MOST_JOBS;
-use oth_batch::{Asked, Batch, Boards, Jobs, ONE_WORKER_MAX_EMPTIES, Recent, answer_among};
+use oth_batch::{Asked, Boards, Jobs, ONE_WORKER_MAX_EMPTIES, Recent, answer_among};
 use oth_pool::Gate;
 use oth_rules::Board;
-use oth_search::{Answer, MOST_EMPTIES, TooManyEmpties};
+use oth_search::{Answer, TooManyEmpties};
 use oth_text::{AnalysisReader, Turn, read_solvable};
 use oth_words::Command;
 use std::alloc::Global;
@@ -43,14 +43,10 @@ impl Ahead {
         ensures board { IfOk result (λ a. a.board ≡ board.now) }
         ensures scoring { IfOk result (λ a. a.scoring ≡ solver.now.settings.scoring) }
     {
-        let empties = board.empties();
-        if empties > MOST_EMPTIES {
-            return Err(TooManyEmpties { empties });
-        }
-        let scoring = solver.settings.get().scoring;
-        match answer_among(self.answers.as_slice(), board, scoring) {
+        solver.awaits(board)?;
+        match answer_among(self.answers.as_slice(), board, solver.batch.scoring) {
             Some(answer) => Ok(answer),
-            None => solver.answer_of(board),
+            None => Ok(solver.answer_by(board, solver.batch.book)),
         }
     }
 
@@ -70,11 +66,11 @@ impl Ahead {
 
     // Solves the boards of the first lines in `bytes`, as many as make a batch, if there is memory for them.
     fn look<T: Threads + Sync, G: Gate>(&mut self, solver: &Solver<'_, T, G>, bytes: &[u8]) {
-        let Ok(mut boards) = Boards::new(solver.alloc) else {
+        let Ok(mut boards) = Boards::new(solver.batch.alloc) else {
             return;
         };
         self.lines = fill_with_lines(&mut boards, &solver.recent, bytes);
-        self.answers = solver.batch().answers(&boards);
+        self.answers = solver.batch.answers(&boards);
     }
 }
 
@@ -87,60 +83,40 @@ pub(crate) fn asked_by(command: Command) -> Option<Asked> {
     }
 }
 
-/// Nothing was found yet of what the command asks.
-pub(crate) fn recent_for(alloc: Global, command: Command) -> Recent {
-    match asked_by(command) {
-        Some(asked) => Recent::new(alloc, asked),
-        None => Recent::new(alloc, Asked::Answer),
-    }
-}
-
 /// Makes jobs of the boards, or of the games, of the whole lines in `bytes`, up to `MOST_JOBS`, but of those of which
 /// something was found lately. There are none where the command asks for no search, one worker is asked for or enough,
 /// or there is no memory.
 pub(crate) fn jobs_of_lines<'b, T: Threads + Sync, G: Gate>(
-    batch: &'b Batch<'b, T, G>,
-    recent: &Recent,
-    command: Command,
+    solver: &'b Solver<'b, T, G>,
     bytes: &[u8],
 ) -> Jobs<'b, T, G> {
-    let jobs = match command {
-        _ if batch.workers < 2 => None,
-        Command::Analyse(last) => jobs_of_games(batch, recent, last, bytes),
-        _ => jobs_of_boards(batch, recent, command, bytes),
-    };
-    match jobs {
+    match jobs_beside(solver, bytes) {
         Some(jobs) => jobs,
-        None => Jobs::none(&*batch),
+        None => Jobs::none(&solver.batch),
     }
 }
 
-// Jobs of the boards of the whole lines in these bytes, as `jobs_of_lines`.
-fn jobs_of_boards<'b, T: Threads + Sync, G: Gate>(
-    batch: &'b Batch<'b, T, G>,
-    recent: &Recent,
-    command: Command,
+// As `jobs_of_lines`, if there are some.
+fn jobs_beside<'b, T: Threads + Sync, G: Gate>(
+    solver: &'b Solver<'b, T, G>,
     bytes: &[u8],
 ) -> Option<Jobs<'b, T, G>> {
+    let (alloc, recent) = (solver.batch.alloc, &solver.recent);
+    let command = solver.settings.get().command;
+    if solver.batch.workers < 2 {
+        return None;
+    }
+    if let Command::Analyse(last) = command {
+        let games = of_lines(alloc, bytes, |line: &[u8]| -> Option<Vec<Turn>> {
+            turns_of_line(alloc, recent, last, line)
+        });
+        return Jobs::of_games(&solver.batch, games);
+    }
     let asked = asked_by(command)?;
-    let boards = of_lines(batch.alloc, bytes, |line: &[u8]| -> Option<Board> {
+    let boards = of_lines(alloc, bytes, |line: &[u8]| -> Option<Board> {
         board_of_line(recent, line)
     });
-    Jobs::of(&*batch, asked, boards.as_slice())
-}
-
-// Jobs of the last turns of the games of the whole lines in these bytes, as `jobs_of_lines`.
-fn jobs_of_games<'b, T: Threads + Sync, G: Gate>(
-    batch: &'b Batch<'b, T, G>,
-    recent: &Recent,
-    last: u8,
-    bytes: &[u8],
-) -> Option<Jobs<'b, T, G>> {
-    let alloc = batch.alloc;
-    let games = of_lines(alloc, bytes, |line: &[u8]| -> Option<Vec<Turn>> {
-        turns_of_line(alloc, recent, last, line)
-    });
-    Jobs::of_games(&*batch, games)
+    Jobs::of(&solver.batch, asked, boards.as_slice())
 }
 
 // What is read of the whole lines in these bytes, up to `MOST_JOBS` of it, as far as there is memory.

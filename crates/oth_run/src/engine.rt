@@ -178,9 +178,7 @@ impl Engine {
         ensures works { OnOk result (W.failed writer.new ≡ W.failed writer.old) }
         ensures fails { OnErr result (W.failed writer.new ≡ true) }
     {
-        let batch = solver.batch();
-        let command = solver.settings.get().command;
-        let jobs = jobs_of_lines(&batch, &solver.recent, command, bytes);
+        let jobs = jobs_of_lines(solver, bytes);
         self.take_beside(solver, &jobs, writer, bytes)?;
         self.waiting.write_to(writer)?;
         Ok(())
@@ -205,10 +203,10 @@ impl Engine {
         ensures end { OnOk result (IsAtEnd (R.remaining reader.new)) }
         ensures devices { FailsBy result (R.failed reader.new) (W.failed writer.new) }
     {
-        let mut long = long_buffer(solver.alloc);
+        let mut long = long_buffer(solver.batch.alloc);
         let mut short = [0; STACK_CHUNK];
         let buffer = longer(long.as_mut_slice(), &mut short);
-        for _ in solver.rt.forever() {
+        for _ in solver.batch.rt.forever() {
             let Ok(count) = reader.read(buffer) else {
                 return Err(RunFault::Read);
             };
@@ -241,8 +239,7 @@ impl Engine {
         if self.line.is_empty() {
             return Ok(());
         }
-        let batch = solver.batch();
-        let jobs = Jobs::none(&batch);
+        let jobs = Jobs::none(&solver.batch);
         self.end_line(solver, &jobs, writer)
     }
 

@@ -1,6 +1,7 @@
 //! The line that has begun, and what a line is answered with.
 
-ghost use Rattle.std.specs.Prelude.{◌≡◌, ◌++◌, ℕ, List, [], true, OnOk, OnErr};
+ghost use Rattle.std.specs.Prelude.{◌≡◌, ◌≤◌, ◌++◌, ℕ, List, [], true, IfOk, OnOk, OnErr};
+ghost use Rattle.oth_rules.specs.Position.{empty_count};
 ghost use Rattle.oth_text.specs.BoardLine.{KeepsLine, reading, solvable_reading};
 ghost use Rattle.oth_text.specs.Game.{KeepsGame, game_reading};
 ghost use Rattle.oth_text.specs.Transcript.{StandsFor, is_nil, transcript_reading};
@@ -19,9 +20,8 @@ use crate::tuning::{HELD_ANSWER_MAX_EMPTIES, HELD_SCORES_MAX_EMPTIES};
 use crate::waiting::Waiting;
 use oth_batch::Jobs;
 use oth_pool::Gate;
-use oth_search::TooManyEmpties;
 use oth_text::{
-    BoardReader, Failed, GameReader, LineFault, Sink, TranscriptReader, fault_line,
+    BoardReader, Failed, GameReader, LineFault, Position, Sink, TranscriptReader, fault_line,
     game_fault_line, moves_line, transcript_fault_line, write_board,
 };
 use oth_words::Command;
@@ -163,6 +163,21 @@ fn has_more_empties(reader: &BoardReader, most: u8) -> bool {
     }
 }
 
+// The position of the line, of which the gate hears as awaited, or the line's fault.
+fn awaited_position<T: Threads + Sync, G: Gate>(
+    reader: &BoardReader,
+    solver: &Solver<'_, T, G>,
+) -> Result<Position, LineFault>
+    ensures few { IfOk result (λ p. empty_count p.board ≤ 30) }
+    ensures reading { (line : List ℕ) → KeepsLine reader.now line → result ≡ solvable_reading line }
+{
+    let position = reader.read()?;
+    match solver.awaits(&position.board) {
+        Ok(()) => Ok(position),
+        Err(many) => Err(LineFault::Empties(many.empties)),
+    }
+}
+
 // Adds the score and all best moves, or the line's fault. Never inlined, nor are those below: each clears room for its
 // own replies alone.
 #[inline(never)]
@@ -182,18 +197,12 @@ fn tell_answer<T: Wait + Threads + Sync, W: Sink, G: Gate>(
     ensures works { OnOk result (W.failed writer.new ≡ W.failed writer.old) }
     ensures fails { OnErr result (W.failed writer.new ≡ true) }
 {
-    let position = match reader.read() {
-        Ok(position) => position,
-        Err(fault) => return waiting.push_text(writer, fault_line(&fault).as_slice()),
-    };
-    match solver.awaited_answer_of(jobs, &position.board) {
-        Ok(answer) => waiting.push_report_line(writer, &answer),
-        Err(many) => {
-            waiting.push_text(
-                writer,
-                fault_line(&LineFault::Empties(many.empties)).as_slice(),
-            )
+    match awaited_position(reader, solver) {
+        Ok(position) => {
+            let answer = solver.awaited_answer(jobs, &position.board);
+            waiting.push_report_line(writer, &answer)
         }
+        Err(fault) => waiting.push_text(writer, fault_line(&fault).as_slice()),
     }
 }
 
@@ -215,15 +224,12 @@ fn tell_scores<T: Wait + Threads + Sync, W: Sink, G: Gate>(
     ensures works { OnOk result (W.failed writer.new ≡ W.failed writer.old) }
     ensures fails { OnErr result (W.failed writer.new ≡ true) }
 {
-    let position = match reader.read() {
-        Ok(position) => position,
-        Err(fault) => return waiting.push_text(writer, fault_line(&fault).as_slice()),
-    };
-    match solver.awaited_scores_line(jobs, &position.board) {
-        Ok(line) => waiting.push_text(writer, line.as_slice()),
-        Err(TooManyEmpties { empties }) => {
-            waiting.push_text(writer, fault_line(&LineFault::Empties(empties)).as_slice())
+    match awaited_position(reader, solver) {
+        Ok(position) => {
+            let line = solver.awaited_scores_line(jobs, &position.board);
+            waiting.push_text(writer, line.as_slice())
         }
+        Err(fault) => waiting.push_text(writer, fault_line(&fault).as_slice()),
     }
 }
 

@@ -5,7 +5,6 @@ ghost use Rattle.std.specs.Io.KnownBytes.{Appends, Consumes, IsAtEnd};
 ghost use Rattle.oth_run.specs.Reply.{reply};
 ghost use Rattle.oth_run.specs.Run.{FailsBy, Judges, OnRefusal, RefusesBy, Writes, ending};
 
-use crate::ahead::recent_for;
 use crate::checking::Lawful;
 use crate::engine::Engine;
 use crate::fault::RunFault;
@@ -78,14 +77,7 @@ pub fn run_judged<T: Wait + Threads + Sync, R: Source, W: Sink, G: Gate>(
     ensures untouched { OnRefusal (ending result) ((reader.new ≡ reader.old) × (writer.new ≡ writer.old)) }
 {
     let lawful = Lawful::of(settings)?;
-    let solver = Solver {
-        rt,
-        alloc,
-        gate,
-        book,
-        settings: lawful,
-        recent: recent_for(alloc, settings.command),
-    };
+    let solver = Solver::of(rt, alloc, gate, book, lawful);
     let mut engine = Engine::new(settings.command);
     engine.run_ended(&solver, reader, writer)?;
     match engine.finish(&solver, writer) {
