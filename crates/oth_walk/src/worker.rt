@@ -124,7 +124,12 @@ impl<'w, C: Cells, G: Gate> Worker<'w, C, G> {
         }
         let guess = self.guess();
         let mut round = Round::first(first_asked(guess.score));
-        ask_in_rounds(&mut self.moves, &mut round, &mut self.cells, &mut self.peers);
+        ask_in_rounds(
+            &mut self.moves,
+            &mut round,
+            &mut self.cells,
+            &mut self.peers,
+        );
         self.guess = Some(Guess::of(-round.at, guess.square));
     }
 

@@ -158,8 +158,10 @@ fn boards_of_few_and_of_many_empty_squares_are_found_among_each_other(
     };
     let mut boards = Vec::new(rt.alloc());
     for place in 0..13 {
-        if let (Some(small), Some(large)) = (few.as_slice().get(place), many.as_slice().get(place))
-        {
+        if let (Some(small), Some(large)) = (
+            few.as_slice().get(place),
+            many.as_slice().get(place),
+        ) {
             boards.push(*small)?;
             boards.push(*large)?;
         }
