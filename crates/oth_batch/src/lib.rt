@@ -17,8 +17,6 @@ mod boards;
 mod effort;
 mod found;
 mod games;
-mod job;
-mod job_list;
 mod jobs;
 mod recent;
 mod tuning;

@@ -43,9 +43,5 @@ pub(crate) const ALL_WORKERS_MIN_EMPTIES: u8 = 13;
 /// up takes as long as the search.
 pub(crate) const RECENT_MIN_EMPTIES: u8 = 9;
 
-/// Boards that are asked for in turn, in one job: a worker takes and leaves them at once, so that what that costs is
-/// shared by as many.
-pub(crate) const RUN_BOARDS: usize = 8;
-
 /// Boards of a run of which at least is kept what was found, the last ones: more than lines are read at once.
 pub(crate) const RECENT_BOARDS: usize = 4_096;

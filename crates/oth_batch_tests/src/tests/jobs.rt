@@ -148,7 +148,7 @@ fn boards_of_few_empty_squares_are_found_in_turn(rt: HostRuntime) -> Result<(), 
     Ok(())
 }
 
-// Thirteen of each: the small ones are a whole run and the beginning of another.
+// Thirteen of each, one after the other.
 #[test]
 fn boards_of_few_and_of_many_empty_squares_are_found_among_each_other(
     rt: HostRuntime,
