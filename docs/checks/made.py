@@ -11,7 +11,7 @@ VERSIONS = {
     "CHANGELOG.md": "\n## {version}\n",
     "README.md": "/pahkrin_{version}_amd64.deb",
     "crates/oth_c/specs/Texts.antt": 'version_text = codes "{version} (rattle logic {logic})"\n',
-    "crates/oth_c/src/version.rt": 'const LIBRARY_VERSION: &str = "{version} (rattle logic {logic})";\n',
+    "crates/oth_c/src/texts/version.rt": 'const LIBRARY_VERSION: &str = "{version} (rattle logic {logic})";\n',
     "crates/oth_words/src/commands.rt": 'const VERSION: &str = "{version} (rattle logic {logic})";\n',
     "docs/FORMATS.md": "`othsolve {version} (rattle logic {logic})`",
     "docs/othsolve.1": '"Pahkrin {version}"',

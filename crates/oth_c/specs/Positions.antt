@@ -8,7 +8,7 @@ use Rattle.oth_text.specs.declared.position.Side.{Side}
 use Rattle.oth_text.specs.declared.position.Side.TheVariants.{Black, White}
 use Rattle.oth_text.specs.declared.position.Position.{Position}
 use Rattle.oth_c.specs.declared.refusal.Refusal.TheVariants as refusal
-use Rattle.oth_c.specs.declared.position.OthPosition.{OthPosition}
+use Rattle.oth_c.specs.declared.texts.position.OthPosition.{OthPosition}
 use Rattle.oth_c.specs.Boards.{overlaps, position}
 use Rattle.oth_c.specs.Codes.{code_of}
 

@@ -16,7 +16,7 @@ use Rattle.oth_text.specs.declared.fault.TranscriptFault.TheVariants.{OddLength,
 use Rattle.oth_text.specs.Report.{moves_line_of}
 use Rattle.oth_text.specs.Transcript.{transcript_reading_from, with_forced_pass}
 use Rattle.oth_c.specs.declared.board.OthBoard.{OthBoard}
-use Rattle.oth_c.specs.declared.position.OthPosition.{OthPosition}
+use Rattle.oth_c.specs.declared.texts.position.OthPosition.{OthPosition}
 use Rattle.oth_c.specs.declared.refusal.Refusal.TheVariants as refusal
 use Rattle.oth_c.specs.Boards.{overlaps, position}
 use Rattle.oth_c.specs.Codes.{code_of}

@@ -1,5 +1,5 @@
 use Rattle.std.proofs.Common.{rules}
-use Rattle.oth_c.proofs.texts.line_fault.Goals as goal
+use Rattle.oth_c.proofs.texts.lines.line_fault.Goals as goal
 
 pub returns-in-Space-clause-code : goal.returns-in-Space-clause-code
 returns-in-Space-clause-code c = search rules

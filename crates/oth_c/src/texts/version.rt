@@ -4,8 +4,8 @@ ghost use Rattle.std.specs.Prelude.{◌≡◌, ◌≢◌, ◌++◌, drop, length
 ghost use Rattle.oth_c.specs.Codes.{code_of};
 ghost use Rattle.oth_c.specs.Texts.{version_code, version_text};
 
+use super::lines::put;
 use crate::refusal::{DONE, Refusal, deliver};
-use crate::texts::put;
 
 // The version, and the first 16 digits of the logic that its proofs are of, as `othsolve --version` prints them.
 const LIBRARY_VERSION: &str = "0.2.0 (rattle logic dac8208d650f15bf)";
