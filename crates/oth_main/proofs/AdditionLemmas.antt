@@ -18,8 +18,8 @@ use Rattle.oth_book.specs.declared.add.AddError.{AddError}
 use Rattle.oth_book.specs.declared.add.AddError.TheVariants as refused
 use Rattle.oth_book.proofs.KeepLemmas.{exact_stays, keeps_same, keeps_trans}
 use Rattle.oth_main.specs.Addition.{AnswersLine, FindsNoRoom, HasAdded, HasNoPlace, IsAdding, IsAnswered, IsRefusedLine, StopsBy, StopsReading}
-use Rattle.oth_main.specs.declared.addition.Stop.{Stop}
-use Rattle.oth_main.specs.declared.addition.Stop.TheVariants.{Run, Refused}
+use Rattle.oth_main.specs.declared.book.addition.Stop.{Stop}
+use Rattle.oth_main.specs.declared.book.addition.Stop.TheVariants.{Run, Refused}
 use Rattle.oth_run.specs.declared.fault.RunFault.TheVariants.{Read, Write, Workers, Cells}
 use Rattle.oth_run.specs.Report.{Cut, cut, last_line, lines_of}
 use Rattle.std.proofs.Common.{lit<}

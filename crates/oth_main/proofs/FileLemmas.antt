@@ -14,8 +14,8 @@ use Rattle.oth_book.specs.declared.wrong.Cause.TheVariants as cause
 use Rattle.oth_book.specs.declared.wrong.Wrong.TheVariants as wrongs
 use Rattle.oth_book.proofs.LawLemmas.{one_list}
 use Rattle.oth_book.proofs.OneFault.{no_fault}
-use Rattle.oth_main.specs.declared.book_file.BookRefusal.{BookRefusal}
-use Rattle.oth_main.specs.declared.book_file.BookRefusal.TheVariants.{Text, Claim}
+use Rattle.oth_main.specs.declared.book.book_file.BookRefusal.{BookRefusal}
+use Rattle.oth_main.specs.declared.book.book_file.BookRefusal.TheVariants.{Text, Claim}
 use Rattle.oth_main.specs.BookFile.{IsBookOf, IsForMemory, IsRefusal}
 
 only_memory : (file : List ℕ) (book : Contents) (f : BookFault) → IsText book file → IsBookFault file f → f ≡ faults.Memory

@@ -16,8 +16,8 @@ use Rattle.oth_book.specs.Add.{HasNoRoom, IsAbsent, Keeps}
 use Rattle.oth_book.specs.Book.{HasExact, IsTrueBook}
 use Rattle.oth_book.specs.Contents.{Contents, IsText, written}
 use Rattle.oth_book.specs.declared.add.AddError.{AddError}
-use Rattle.oth_main.specs.declared.addition.Stop.{Stop}
-use Rattle.oth_main.specs.declared.addition.Stop.TheVariants.{Run, Refused}
+use Rattle.oth_main.specs.declared.book.addition.Stop.{Stop}
+use Rattle.oth_main.specs.declared.book.addition.Stop.TheVariants.{Run, Refused}
 use Rattle.oth_run.specs.declared.fault.RunFault.TheVariants.{Read, Write, Workers, Cells}
 use Rattle.oth_main.specs.BookFile.{IsBookOf}
 use Rattle.oth_run.specs.Report.{cut, lines_of}

@@ -16,10 +16,10 @@ use Rattle.oth_book.specs.True.{IsWrong}
 use Rattle.oth_book.specs.declared.fault.BookFault.TheVariants as faults
 use Rattle.oth_book.specs.declared.wrong.Wrong.TheVariants as wrongs
 use Rattle.oth_main.specs.Messages.{book_ok}
-use Rattle.oth_main.specs.declared.book_file.BookRefusal.{BookRefusal}
-use Rattle.oth_main.specs.declared.book_file.BookRefusal.TheVariants.{Text, Claim}
-use Rattle.oth_main.specs.declared.reasons.Reason.{Reason}
-use Rattle.oth_main.specs.declared.reasons.Reason.TheVariants as reasons
+use Rattle.oth_main.specs.declared.book.book_file.BookRefusal.{BookRefusal}
+use Rattle.oth_main.specs.declared.book.book_file.BookRefusal.TheVariants.{Text, Claim}
+use Rattle.oth_main.specs.declared.book.reasons.Reason.{Reason}
+use Rattle.oth_main.specs.declared.book.reasons.Reason.TheVariants as reasons
 
 abbrev pub IsRefusal : List ℕ → BookRefusal → Type 0
 IsRefusal file (Text fault) = IsBookFault file fault

@@ -2,8 +2,8 @@
 --     IsFaultText fault text      the text is what a report tells of a line that has the fault
 --     EndsWithFault line fault      a line of a report ends with it
 use Rattle.std.specs.Prelude.{◌≡◌, ◌⊎◌, ◌++◌, ℕ, List}
-use Rattle.oth_main.specs.declared.explaining.ToldFault.{ToldFault}
-use Rattle.oth_main.specs.declared.explaining.ToldFault.TheVariants.{Board, Moves, Either}
+use Rattle.oth_main.specs.declared.hearing.explaining.ToldFault.{ToldFault}
+use Rattle.oth_main.specs.declared.hearing.explaining.ToldFault.TheVariants.{Board, Moves, Either}
 use Rattle.oth_text.specs.FaultLine.{fault_line_of, moves_fault_line_of, transcript_fault_line_of}
 
 abbrev pub IsFaultText : ToldFault → List ℕ → Type 0

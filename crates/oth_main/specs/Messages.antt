@@ -5,8 +5,8 @@
 --     awaited command      of a command whose lines are read from the terminal
 use Rattle.std.specs.Prelude.{ℕ, List, ◌++◌, Option, Some, None, codes, decimal}
 use Rattle.oth_book.specs.Numbers.{fault_line, fault_number, wrong_entry, wrong_number}
-use Rattle.oth_main.specs.declared.book_file.BookRefusal.{BookRefusal}
-use Rattle.oth_main.specs.declared.book_file.BookRefusal.TheVariants.{Text, Claim}
+use Rattle.oth_main.specs.declared.book.book_file.BookRefusal.{BookRefusal}
+use Rattle.oth_main.specs.declared.book.book_file.BookRefusal.TheVariants.{Text, Claim}
 use Rattle.oth_run.specs.Run.{number_of}
 use Rattle.oth_words.specs.declared.settings.Command.{Command}
 use Rattle.oth_words.specs.declared.settings.Command.TheVariants.{Solve, Scores, Moves, Transcript, Play, Analyse}

@@ -1,7 +1,12 @@
 //! What is heard of a report while it is written.
+//!
+//! `answered`: how many lines of the input it answers. `explaining`: the faults that its lines tell, for words beside
+//! it.
+mod answered;
+mod explaining;
 
-use crate::answered::Answered;
-use crate::explaining::Faults;
+pub use answered::Answered;
+pub use explaining::{Faults, FaultyLine, ToldFault};
 use oth_words::Command;
 
 /// What is heard of an output.

@@ -24,7 +24,7 @@ use Rattle.oth_main.specs.Addition.{AddsTo}
 use Rattle.oth_book.specs.declared.fault.BookFault.TheVariants.{Memory}
 use Rattle.oth_main.specs.BookFile.{TellsBook}
 use Rattle.oth_main.specs.Messages.{book_refusal, run_error}
-use Rattle.oth_main.specs.declared.book_file.BookRefusal.TheVariants.{Text}
+use Rattle.oth_main.specs.declared.book.book_file.BookRefusal.TheVariants.{Text}
 use Rattle.oth_run.specs.declared.fault.RunFault.TheVariants.{Read}
 
 abbrev pub IsDone : ℕ → Type 0

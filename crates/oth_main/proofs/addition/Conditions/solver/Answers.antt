@@ -1,5 +1,0 @@
-use Rattle.std.proofs.Common.{rules}
-use Rattle.oth_main.proofs.addition.Conditions.solver.Goals as goal
-
-pub returns : goal.returns
-returns g c = search rules
