@@ -2,21 +2,18 @@
 //! the root's moves, and while it searches below one of these. A node that another worker is at is deferred, as in
 //! ABDADA (Weill, The ABDADA distributed minimax-search algorithm, 1996).
 //!
-//! The root driver asks them as `RootPeers`. The table tells bounds of a board, the floor the best value, the bounds
-//! that workers tell each other which moves of the root are settled, and the hints which boards another worker is at
-//! and what those seem to have. What this worker finds goes into the table and to these bounds, and raises the floor.
-//! From 14 empty squares on workers over a table make the first guess together, and the first that is done tells it;
-//! below, that guess is a draw. Without a table each worker guesses by itself.
+//! The table tells bounds of a board, the floor the best value, the bounds that workers tell each other which moves of
+//! the root are settled, and the hints which boards another worker is at and what those seem to have. What this worker
+//! finds goes into the table and to these bounds, and raises the floor.
 //!
-//! The search below a move asks them as `TreePeers` (`tree_peers`).
+//! The root driver asks them as `RootPeers` (`root_peers`), and the search below a move as `TreePeers` (`tree_peers`).
 ghost use Rattle.std.specs.Prelude.{◌≡◌};
-ghost use Rattle.oth_rules.specs.Laws.{IsScore};
-ghost use Rattle.oth_search.specs.Bounds.Interval.{IsThreshold};
 
 mod path_node;
+mod root_peers;
 mod tree_peers;
 
-use crate::announcing::{Announcer, Gate};
+use crate::announcing::Announcer;
 use crate::hints::HintSeat;
 use crate::move_bounds::BoundsSeat;
 use crate::root_bound::RootBound;
@@ -25,10 +22,7 @@ use crate::tuning::{KEPT_ORDER_MIN_EMPTIES, SHARED_GUESS_MIN_EMPTIES, SMALL_NODE
 use arrayvec::ArrayVec;
 use oth_pieces::Frontier;
 use oth_rules::{Board, Scoring, Square};
-use oth_search::{
-    Cells, Interval, MoveOrder, NullWindow, Pace, RootMove, RootMoves, RootPeers, Solved, order,
-    put,
-};
+use oth_search::{Cells, MoveOrder, RootMove, Solved, order};
 use path_node::PathNode;
 use std::alloc::Global;
 
@@ -240,94 +234,4 @@ fn unknown_items(alloc: Global, frontier: &Frontier, scoring: Scoring) -> Vec<So
         }
     }
     items
-}
-
-impl<'w, G: Gate, C: Cells> RootPeers<C> for Peers<'w, G> {
-    fn before(&mut self, root_move: &RootMove) {
-        self.hints.begin(&root_move.child.board);
-    }
-
-    fn after(&mut self, root_move: &RootMove, _moves: &RootMoves) {
-        self.hints.end(&root_move.child.board);
-    }
-
-    fn hear(&mut self, known: &Solved, cells: &mut C) -> Solved {
-        known.joined(&Solved::looked_up(&known.board, cells, known.scoring))
-    }
-
-    fn best(&mut self, own: i8) -> i8 {
-        own.min(-self.root_bound.floor())
-    }
-
-    fn is_done(&mut self, square: Square) -> bool {
-        self.is_settled(square)
-    }
-
-    fn next(&mut self, bounds: Interval, start: i8, pace: Pace) -> i8 {
-        let pace = if self.guesses() {
-            Pace::by_bounds(bounds, start)
-        } else {
-            pace
-        };
-        pace.onward(bounds, start)
-    }
-
-    fn decide(&mut self, known: &RootMove, alpha: i8, cells: &mut C) -> Solved {
-        let RootMove { square, child } = *known;
-        if child.interval.decides(alpha, alpha + 1) {
-            return child;
-        }
-        let window = NullWindow::at(alpha + 1);
-        self.begin_below(known);
-        if let Some((number, known)) = self.announcer.begin_move(&child, cells) {
-            self.gate.known_before(number, &known);
-            self.gate.before(number);
-            self.announcer.tell(number);
-        }
-        let found = child.narrowed_by_abdada(window, cells, self);
-        if let Some(number) = self.announcer.end_move() {
-            self.gate.known_after(number, &found.awake());
-            self.gate.after(number);
-        }
-        let number = self.announcer.number_of_move();
-        self.keep(number, &found);
-        put(&found, cells);
-        self.raise_by(&RootMove {
-            square,
-            child: found,
-        });
-        found
-    }
-
-    fn seen(&mut self, board: &Board, alpha: i8) -> Option<i8> {
-        if !self.guesses() {
-            return None;
-        }
-        let is_above = self.hints.seen(board, alpha + 1)?;
-        Some(beside(alpha, is_above))
-    }
-
-    fn tell_seen(&mut self, board: &Board, alpha: i8, found: i8) {
-        self.hints.tell_seen(board, alpha + 1, found > alpha);
-    }
-
-    fn is_deferred(&mut self, board: &Board) -> bool {
-        self.guesses() && self.hints.is_searched(board)
-    }
-
-    fn begin(&mut self, board: &Board) {
-        self.hints.begin(board);
-    }
-
-    fn end(&mut self, board: &Board) {
-        self.hints.end(board);
-    }
-}
-
-// The bound of a value that seems to be above `alpha`, or not: `alpha + 1`, or `alpha`.
-fn beside(alpha: i8, is_above: bool) -> i8
-    requires { IsThreshold alpha }
-    ensures { IsScore result }
-{
-    if is_above { alpha + 1 } else { alpha }
 }
