@@ -2,7 +2,7 @@
 
 ghost use Rattle.std.specs.Prelude.{◌≡◌, IfSome};
 
-use crate::found::answer_by_image;
+use crate::found::{answer_by_image, matching_scores};
 use oth_book::Book;
 use oth_rules::{Board, Scoring};
 use oth_search::{Answer, Scores};
@@ -64,11 +64,7 @@ impl Found {
         let Found::Scores(scores) = self else {
             return None;
         };
-        if scores.answer.board == *board && scores.answer.scoring == scoring {
-            Some(scores)
-        } else {
-            None
-        }
+        matching_scores(scores, board, scoring)
     }
 
     /// The answers of the boards of a game's last turns, if those were asked.

@@ -40,6 +40,12 @@ pub(crate) fn is_worth_a_key(asked: Asked, board: &Board) -> bool {
     empties_to_search(asked, board) >= RECENT_MIN_EMPTIES
 }
 
+/// Whether what is found of the board is told in its turn, and not by a key. Each such board is asked for, since
+/// nothing that was found of it lately is kept.
+pub(crate) fn is_asked_in_turn(asked: Asked, board: &Board) -> bool {
+    asked != Asked::Game && !is_worth_a_key(asked, board)
+}
+
 /// The most empty squares of a board of which one worker finds what is asked.
 pub(crate) fn max_empties(asked: Asked) -> u8 {
     match asked {

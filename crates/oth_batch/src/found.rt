@@ -14,12 +14,40 @@ pub fn answer_among(answers: &[Answer], board: &Board, scoring: Scoring) -> Opti
     ensures none { IfNone result (All (λ a. a.board ≡ board.now → a.scoring ≢ scoring) answers.now) }
 {
     for place in 0..answers.len() {
-        let answer = &answers[place];
-        if answer.board == *board && answer.scoring == scoring {
-            return Some(*answer);
+        if let Some(answer) = matching_answer(&answers[place], board, scoring) {
+            return Some(answer);
         }
     }
     None
+}
+
+/// The answer, if it is the board's under the scoring.
+pub(crate) fn matching_answer(answer: &Answer, board: &Board, scoring: Scoring) -> Option<Answer>
+    ensures board { IfSome result (λ a. a.board ≡ board.now) }
+    ensures scoring { IfSome result (λ a. a.scoring ≡ scoring) }
+    ensures none { IfNone result (answer.now.board ≡ board.now → answer.now.scoring ≢ scoring) }
+{
+    if answer.board == *board && answer.scoring == scoring {
+        Some(*answer)
+    } else {
+        None
+    }
+}
+
+/// The scores, if they are those of the board's moves under the scoring.
+pub(crate) fn matching_scores<'s>(
+    scores: &'s Scores,
+    board: &Board,
+    scoring: Scoring,
+) -> Option<&'s Scores>
+    ensures board { IfSome result (λ s. s.now.answer.board ≡ board.now) }
+    ensures scoring { IfSome result (λ s. s.now.answer.scoring ≡ scoring) }
+{
+    if scores.answer.board == *board && scores.answer.scoring == scoring {
+        Some(scores)
+    } else {
+        None
+    }
 }
 
 /// The answer of the board by that of an image of it, as a book of that one answer finds it. None where the answer is

@@ -6,8 +6,8 @@
 //! true by its type, and so are `Scores`; which boards have them rests on no theorem. `boards` has those that wait:
 //! at most 1,024, of at most 18 empty squares each. `effort` decides by an estimate of each board's effort: there are
 //! no jobs where no two boards are small enough for a worker each, and a board that is worth more than a worker's
-//! share is left to all workers together. `recent` keeps what was found of the last boards of a run, for those that
-//! come again.
+//! share is left to all workers together. `jobs` has the jobs, of one board each or of several of few empty squares.
+//! `recent` keeps what was found of the last boards of an input, for those that come again.
 #![tactic(auto)]
 
 mod asked;

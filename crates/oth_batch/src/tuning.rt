@@ -22,8 +22,12 @@ pub(crate) const EFFORT_IN_PASSING: u64 = 1 << 15;
 /// Empty squares: the scores of all moves of a board take about as long as the answer of a board with this many more.
 pub(crate) const EMPTIES_FOR_SCORES: u8 = 2;
 
-/// Empty squares: from here on a board's search takes longer than to make a job of it and to find that job again.
-pub(crate) const JOB_MIN_EMPTIES: u8 = 5;
+/// Empty squares: from here on a board's search takes longer than its part of a job.
+pub(crate) const JOB_MIN_EMPTIES: u8 = 4;
+
+/// Boards of few empty squares in one job: to take a job and to leave what was found takes as long as the search of one
+/// board of 5.
+pub(crate) const BUNDLE_LEN: usize = 8;
 
 /// How long a board of `empties` empty squares takes, in units of some 40 nanoseconds: 5.7 times as long with two more,
 /// and nothing where a job doesn't pay.

@@ -148,7 +148,41 @@ fn boards_of_few_empty_squares_are_found_in_turn(rt: HostRuntime) -> Result<(), 
     Ok(())
 }
 
-// Thirteen of each, one after the other.
+#[test]
+fn boards_of_few_empty_squares_are_scored_in_turn(rt: HostRuntime) -> Result<(), Fail> {
+    let Some(few) = images(rt.alloc(), 6) else {
+        panic!(rt; "no boards")
+    };
+    let mut boards = Vec::new(rt.alloc());
+    for _ in 0..3 {
+        for board in few.as_slice() {
+            boards.push(*board)?;
+        }
+    }
+    let batch = batch(&rt, 4, 64, Scoring::Winner);
+    let Some(jobs) = Jobs::of(&batch, Asked::Scores, boards.as_slice()) else {
+        panic!(rt; "no jobs")
+    };
+    let mut work = || {
+        let mut right = 0u32;
+        for board in boards.as_slice() {
+            let alone = scores_with(*board, &mut NoCells, Scoring::Winner);
+            if let Some(scores) = jobs.scores_of(&rt, board) {
+                if scores.moves() == alone.moves() && scores.answer() == alone.answer() {
+                    right = right.saturating_add(1);
+                }
+            }
+        }
+        right
+    };
+    assert!(rt; jobs.beside(&mut work) == 48);
+    for board in few.as_slice() {
+        assert!(rt; jobs.scores_of(&rt, board).is_none());
+    }
+    Ok(())
+}
+
+// Thirteen of each, one after the other: the small ones are a whole bundle and the beginning of another.
 #[test]
 fn boards_of_few_and_of_many_empty_squares_are_found_among_each_other(
     rt: HostRuntime,
