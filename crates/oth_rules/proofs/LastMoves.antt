@@ -11,7 +11,8 @@ use Rattle.oth_rules.specs.Position.{is_theirs_cell, is_empty_cell, opposite_cel
 use Rattle.oth_rules.specs.Move.{outflanked, flipped_along, is_flipped, is_legal, after}
 use Rattle.oth_rules.specs.Line.{reversed}
 use Rattle.oth_rules.specs.LastMove.{IsLast, gathered}
-use Rattle.oth_rules.specs.declared.tables.line_tables.TheConstants.{LINE_COUNTS, LINE_FACTORS, LINE_MASKS}
+use Rattle.oth_rules.specs.declared.tables.line_counts.TheConstants.{LINE_COUNTS, LINE_FACTORS}
+use Rattle.oth_rules.specs.declared.tables.line_masks.TheConstants.{LINE_MASKS}
 use Rattle.oth_rules.proofs.Bits.{has-and, has-zero, has-pow, has-word_of, word_of-lt, is_word_of, word_of-same}
 use Rattle.oth_rules.proofs.Words.{or_word}
 use Rattle.oth_rules.proofs.Legal.{any_square, any_picks_square}

@@ -7,7 +7,7 @@ use Rattle.oth_rules.specs.Square.{Direction, Back, Stay, Forth, has, word_of, n
 use Rattle.oth_rules.specs.Position.{Position, IsBoard, is_theirs, is_empty}
 use Rattle.oth_rules.specs.Line.{reversed, is_next}
 use Rattle.oth_rules.specs.Stable.{AreStable, Adds, Reaches, IsReach, is_backed}
-use Rattle.oth_rules.specs.declared.tables.line_tables.TheConstants.{LINE_MASKS}
+use Rattle.oth_rules.specs.declared.tables.line_masks.TheConstants.{LINE_MASKS}
 use Rattle.oth_rules.proofs.Bits.{has-and, has-or, has-not, has-pow, has-zero, has-word_of, is_word_of}
 use Rattle.oth_rules.proofs.Lines.{is_next-same}
 use Rattle.oth_rules.proofs.Positions.{is_theirs-has}

@@ -1,12 +1,12 @@
 //! Flips of a move to the only empty square, counted along the four lines through it.
 //!
-//! A factor gathers the mover's discs of a line in eight bits, which pick the count (`line_tables`). The check
+//! A factor gathers the mover's discs of a line in eight bits, which pick the count (`line_counts`). The check
 //! computes for each square and all discs of each line that the count is the one of the definition.
 ghost use Rattle.std.specs.Prelude.{◌≡◌, ◌<◌, ◌≤◌, ◌↔◌, false, slice_index_or, [], count_by};
 ghost use Rattle.oth_rules.specs.Square.{squares};
 ghost use Rattle.oth_rules.specs.Move.{is_flipped, is_legal};
 ghost use Rattle.oth_rules.specs.LastMove.{IsLast, gathered};
-ghost use Rattle.oth_rules.specs.declared.tables.line_tables.TheConstants.{LINE_COUNTS};
+ghost use Rattle.oth_rules.specs.declared.tables.line_counts.TheConstants.{LINE_COUNTS};
 
 use crate::board::Board;
 use crate::square::Square;

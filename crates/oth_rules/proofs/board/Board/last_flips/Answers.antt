@@ -1,7 +1,7 @@
 use Rattle.std.proofs.Common.{◌≡◌, ℕ, ◌%◌, ◌/◌, [], ap}
 use Rattle.std.specs.Prelude.{bit_and, slice_index_or}
 use Rattle.oth_rules.specs.LastMove.{gathered}
-use Rattle.oth_rules.specs.declared.tables.line_tables.TheConstants.{LINE_COUNTS}
+use Rattle.oth_rules.specs.declared.tables.line_counts.TheConstants.{LINE_COUNTS}
 use Rattle.oth_rules.proofs.LastMoves.{last_flips, count_same, illegal_counts}
 use Rattle.oth_rules.proofs.board.Board.last_flips.Goals as goal
 
