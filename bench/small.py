@@ -5,10 +5,10 @@
 
 PROGRAM is a built `othsolve`, BOARDS a file of board lines, thousands of each number of empty squares, so that the start of a process
 counts for little, and each board once, since a reference may remember it. REFERENCE is a command that reads board lines and writes report
-lines. Each command is run RUNS times (5 if not given), all in turn, of which the least seconds count. It reads a file, since whoever fills
-a pipe takes a processor. Three tables are printed: `solve` by the number of empty squares; boards of all these numbers mixed, by `solve`,
-`scores`, `book-add` and `solve --book`; and one line at a time, each answered before the next is written, of which the median counts. The
-exit status is 1 where answers differ.
+lines. Each command is run RUNS times (5 if not given), all in turn, of which the least seconds count. It reads a file and writes one, since
+whoever fills or empties a pipe takes a processor. Three tables are printed: `solve` by the number of empty squares; boards of all these
+numbers mixed, by `solve`, `scores`, `book-add` and `solve --book`; and one line at a time, each answered before the next is written, of
+which the median counts. The exit status is 1 where answers differ.
 """
 import argparse
 import functools

@@ -2,6 +2,7 @@
 import argparse
 import resource
 import subprocess
+import tempfile
 import time
 from typing import NamedTuple
 
@@ -16,12 +17,18 @@ class Timed(NamedTuple):
 
 
 def timed(words, **how):
-    """Runs the words to their end, and gives what they wrote and took; `how` names their standard input, as of `subprocess.run`."""
-    before = resource.getrusage(resource.RUSAGE_CHILDREN)
-    began = time.monotonic()
-    wrote = subprocess.run(words, stdout=subprocess.PIPE, check=True, **how).stdout
-    clock = time.monotonic() - began
-    after = resource.getrusage(resource.RUSAGE_CHILDREN)
+    """Runs the words to their end, and gives what they wrote and took; `how` names their standard input, as of `subprocess.run`.
+
+    They write to a file, since whoever empties a pipe takes a processor, and lets them wait where it is full.
+    """
+    with tempfile.TemporaryFile() as written:
+        before = resource.getrusage(resource.RUSAGE_CHILDREN)
+        began = time.monotonic()
+        subprocess.run(words, stdout=written, check=True, **how)
+        clock = time.monotonic() - began
+        after = resource.getrusage(resource.RUSAGE_CHILDREN)
+        written.seek(0)
+        wrote = written.read()
     return Timed(wrote, clock, after.ru_utime - before.ru_utime, after.ru_stime - before.ru_stime)
 
 
