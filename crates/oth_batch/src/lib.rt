@@ -6,14 +6,16 @@
 //! true by its type, and so are `Scores`; which boards have them rests on no theorem. `boards` has those that wait:
 //! at most 1,024, of at most 18 empty squares each. `effort` decides by an estimate of each board's effort: there are
 //! no jobs where no two boards are small enough for a worker each, and a board that is worth more than a worker's
-//! share is left to all workers together. `jobs` has the jobs, of one board each or of several of few empty squares.
-//! `recent` keeps what was found of the last boards of an input, for those that come again.
+//! share is left to all workers together. `jobs` has the jobs, of one board each or of several of few empty squares,
+//! and `crew` the threads that do those of one batch after the other. `recent` keeps what was found of the last boards
+//! of an input, for those that come again.
 #![tactic(auto)]
 
 mod asked;
 mod batch;
 mod beside;
 mod boards;
+mod crew;
 mod effort;
 mod found;
 mod games;
@@ -25,6 +27,7 @@ mod verifying;
 pub use asked::Asked;
 pub use batch::Batch;
 pub use boards::Boards;
+pub use crew::Crew;
 pub use effort::workers_for;
 pub use found::answer_among;
 pub use games::known_by;

@@ -1,11 +1,11 @@
 -- Cutting an input byte by byte, from the left.
-use Rattle.std.proofs.Common.{◌≡◌, ◌==◌, ◌≢◌, ◌||◌, ℕ, List, [], ◌∷◌, ◌++◌, Bool, true, false, cond, Option, Err, refl, sym, ap, ◌∙◌, subst, append_assoc, append-nil}
+use Rattle.std.proofs.Common.{◌≡◌, ◌==◌, ◌≢◌, ◌||◌, ℕ, List, [], ◌∷◌, ◌++◌, Bool, true, false, cond, Option, Result, Err, refl, sym, ap, ◌∙◌, subst, append_assoc, append-nil}
 use Rattle.std.specs.Prelude.{All}
 use Rattle.std.specs.List.{AllByRecursion}
 use Rattle.std.proofs.lemmas.List.Elements.{recursion_from_All}
 use Rattle.std.proofs.lemmas.Bool.{ne_eqb}
-use Rattle.std.specs.Io.KnownBytes.{Appends}
-use Rattle.std.proofs.KnownBytes.{Appends-nil}
+use Rattle.std.specs.Io.KnownBytes.{Appends, Consumes}
+use Rattle.std.proofs.KnownBytes.{Appends-nil, Consumes-trans}
 use Rattle.oth_text.specs.Transcript.{is_nil}
 use Rattle.oth_text.specs.Device.{AppendsBeginning, IsBeginning}
 use Rattle.std.proofs.lemmas.List.Folds.{list_any-append}
@@ -19,7 +19,7 @@ use Rattle.oth_run.specs.Gathered.{IsGathered}
 use Rattle.oth_run.specs.Reply.{reply}
 use Rattle.oth_run.specs.Report.{Cut, after_end, cut, ended_report, last_line, last_report, line_number, lines_of, next_number, number_behind, onto_first, report, report_from, with_end}
 use Rattle.oth_run.specs.Faulty.{has_faulty, is_faulty}
-use Rattle.oth_run.specs.Halfway.{IsBehind, IsUpTo, WritesEnded}
+use Rattle.oth_run.specs.Halfway.{IsAt, IsBehind, IsUpTo, RunsOn, WritesEnded}
 use Rattle.oth_run.specs.Line.{Holds}
 use Rattle.oth_run.specs.Run.{AreLawful, RefusesBy, Writes}
 use Rattle.oth_run.proofs.GatherLemmas.{beginning_within}
@@ -253,9 +253,26 @@ refused_writes settings Workers unlawful by = (refl, refl)
 refused_writes settings Cells unlawful by = (refl, refl)
 
 -- what a run that failed wrote
-pub after_fault : (settings : Settings) (engine : Engine) (before b : Option (List ℕ)) (fault : RunFault) (input : List ℕ) → WritesEnded settings engine before b (Err fault) input
+pub after_fault : (settings : Settings) (kept : Line) (found : Bool) (before b : Option (List ℕ)) (fault : RunFault) (input : List ℕ) → WritesEnded settings kept found before b (Err fault) input
     → (written : List ℕ) × Appends before b written × Writes (reply settings) (Err fault) input written
-after_fault settings engine before b Read input done = (ended_report (reply settings) input, done, refl)
-after_fault settings engine before b Write input done = let part = ended_begins_report (reply settings) before b input done in (part.0, part.1, part.2)
-after_fault settings engine before b Workers input done = absurd done
-after_fault settings engine before b Cells input done = absurd done
+after_fault settings kept found before b Read input done = (ended_report (reply settings) input, done, refl)
+after_fault settings kept found before b Write input done = let part = ended_begins_report (reply settings) before b input done in (part.0, part.1, part.2)
+after_fault settings kept found before b Workers input done = absurd done
+after_fault settings kept found before b Cells input done = absurd done
+
+-- no report of no line is written
+pub none_written : (reply : ℕ → List ℕ → List ℕ) (a : Option (List ℕ)) → Appends a a (ended_report reply [])
+unfolding cut ended_report
+none_written reply a = Appends-nil a
+
+-- an engine at the start of an input
+pub at_start : (settings : Settings) (engine : Engine) (a : Option (List ℕ)) → Holds settings.command engine.line 1 [] → engine.is_faulty ≡ false
+    → engine.waiting.bytes.items ≡ [] → IsAt settings engine a a []
+at_start settings engine a held faulty waiting =
+    up_to_waiting _ _ _ _ _ _ waiting (up_to_none _ _ _ (record { held = held; faulty = faulty }))
+
+-- a run from the start of an input: over what is read first, and on
+pub runs_from_start : (settings : Settings) (old : Engine) (kept : Line) (found : Bool) (a b x y z : Option (List ℕ)) (result : Result (Unit {0}) RunFault) (first : List ℕ)
+    → IsAt settings old a a [] → Consumes x y first → (more : List ℕ) × Consumes y z more × RunsOn settings old kept found a b result (first ++ more)
+    → (input : List ℕ) × Consumes x z input × WritesEnded settings kept found a b result input
+runs_from_start settings old kept found a b x y z result first start begins on = (first ++ on.0, Consumes-trans x y z first on.0 begins on.1, on.2 a [] start)

@@ -1,5 +1,6 @@
 -- Bytes that are gathered, and beginnings of a text.
-use Rattle.std.proofs.Common.{ℕ, List, ◌++◌, Option, Result, Ok, Err, OnErr, OnOk, ◌≡◌, refl, subst, sym, ap, ◌∙◌, append_assoc}
+use Rattle.std.proofs.Common.{ℕ, List, [], ◌++◌, Option, Result, Ok, Err, OnErr, OnOk, ◌≡◌, refl, subst, sym, ap, ◌∙◌, append_assoc, append-nil}
+use Rattle.std.specs.Io.KnownBytes.{Appends}
 use Rattle.std.proofs.KnownBytes.{Appends-trans}
 use Rattle.oth_text.specs.Device.{AppendsBeginning, IsBeginning}
 use Rattle.oth_run.specs.Gathered.{Gathers, IsGathered, StopsInText, StopsInWaiting}
@@ -11,6 +12,10 @@ on_err_always (Err e) p = p
 pub on_ok_always : {T E P : Type 0} (r : Result T E) → P → OnOk r P
 on_ok_always (Ok x) p = p
 on_ok_always (Err e) p = tt
+
+-- all is written, since nothing waits
+pub gathered_all : (before now : Option (List ℕ)) (done : List ℕ) → IsGathered before now [] done → Appends before now done
+gathered_all before now done gathered = subst (Appends before now) (sym (gathered.2 ∙ append-nil gathered.0)) gathered.1
 
 -- a part of what waits is written
 pub gathered_part : (before now after : Option (List ℕ)) (waiting done : List ℕ) → IsGathered before now waiting done → AppendsBeginning now after waiting

@@ -4,6 +4,7 @@
 --     Takes, StopsWithin      what a call makes of further bytes of the input, and what is left where the sink fails
 --     Answers, Ends, StopsInside      what a call makes of the line that has begun, of which `told number line` is written
 --     WritesEnded      a run over the lines that a byte 10 ends, by how it ended
+--     RunsOn      a run from wherever the engine is, over further bytes of the input
 use Rattle.std.specs.Prelude.{◌≡◌, ℕ, Bool, List, [], ◌++◌, Option, Result, Ok, Err}
 use Rattle.std.specs.Io.KnownBytes.{Appends}
 use Rattle.oth_text.specs.Device.{AppendsBeginning}
@@ -54,10 +55,13 @@ module _ (told : ℕ → List ℕ → List ℕ) where
       → Holds settings.command old.line number line
       → IsGathered before sink old.waiting.bytes.items done → AppendsBeginning before sink' (done ++ told number line)
 
-abbrev pub WritesEnded : Settings → Engine → Option (List ℕ) → Option (List ℕ) → Result (Unit {0}) RunFault → List ℕ → Type 0
-WritesEnded settings engine before sink (Ok done) input =
-    IsUpTo (reply settings) (IsBehind settings engine.line engine.is_faulty) before sink [] input
-WritesEnded settings engine before sink (Err Read) input = Appends before sink (ended_report (reply settings) input)
-WritesEnded settings engine before sink (Err Write) input = AppendsBeginning before sink (ended_report (reply settings) input)
-WritesEnded settings engine before sink (Err Workers) input = ⊥
-WritesEnded settings engine before sink (Err Cells) input = ⊥
+abbrev pub WritesEnded : Settings → Line → Bool → Option (List ℕ) → Option (List ℕ) → Result (Unit {0}) RunFault → List ℕ → Type 0
+WritesEnded settings kept found before sink (Ok done) input = IsUpTo (reply settings) (IsBehind settings kept found) before sink [] input
+WritesEnded settings kept found before sink (Err Read) input = Appends before sink (ended_report (reply settings) input)
+WritesEnded settings kept found before sink (Err Write) input = AppendsBeginning before sink (ended_report (reply settings) input)
+WritesEnded settings kept found before sink (Err Workers) input = ⊥
+WritesEnded settings kept found before sink (Err Cells) input = ⊥
+
+abbrev pub RunsOn : Settings → Engine → Line → Bool → Option (List ℕ) → Option (List ℕ) → Result (Unit {0}) RunFault → List ℕ → Type 0
+RunsOn settings old kept found sink sink' result bytes = (before : Option (List ℕ)) (input : List ℕ)
+    → IsAt settings old before sink input → WritesEnded settings kept found before sink' result (input ++ bytes)

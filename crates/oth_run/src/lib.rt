@@ -10,11 +10,11 @@
 //! engine asks for more.
 //!
 //! `Solver` (`solver`) is what boards are solved with, and how. Where `solve` or `scores` has more than one worker,
-//! the boards of the whole lines in the chunk are the jobs of other workers (`ahead`) while the engine answers these
-//! lines in their order: by an answer, or scores, of just this board and scoring, as soon as it is there, else by
-//! `Solver`. For `book-add`, whose book is written at the end and changes on the way, `Ahead` has the boards of a
-//! chunk solved side by side before the first of its lines is answered. So the report's proof knows nothing of
-//! workers but that an `Answer` is true.
+//! the boards of the whole lines in the chunk are the jobs of other workers (`ahead`), who stay from chunk to chunk,
+//! while the engine answers these lines in their order: by an answer, or scores, of just this board and scoring, as
+//! soon as it is there, else by `Solver`. For `book-add`, whose book is written at the end and changes on the way,
+//! `Ahead` has the boards of a chunk solved side by side before the first of its lines is answered. So the report's
+//! proof knows nothing of workers but that an `Answer` is true.
 #![tactic(auto)]
 
 mod ahead;

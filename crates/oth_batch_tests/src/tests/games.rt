@@ -99,7 +99,10 @@ fn each_game_is_analysed_while_others_are(rt: HostRuntime) -> Result<(), Fail> {
                 None => false,
             })
         };
-        assert!(rt; jobs.beside(&mut work), "{workers} workers, {cells} cells");
+        assert!(rt;
+            jobs.beside(0, &mut work),
+            "{workers} workers, {cells} cells"
+        );
     }
     Ok(())
 }

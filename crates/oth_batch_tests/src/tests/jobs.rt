@@ -1,7 +1,7 @@
 //! Boards are answered for whoever asks, while other workers solve them.
 
 use super::{batch, images};
-use oth_batch::{Asked, Jobs};
+use oth_batch::{Asked, Crew, Jobs};
 use oth_rules::Scoring;
 use oth_search::{NoCells, scores_with, solve_alone};
 use std::test::Fail;
@@ -27,7 +27,7 @@ fn each_board_is_answered_while_others_solve(rt: HostRuntime) -> Result<(), Fail
             right
         };
         assert!(rt;
-            jobs.beside(&mut work) == 16,
+            jobs.beside(0, &mut work) == 16,
             "{workers} workers, {cells} cells"
         );
     }
@@ -57,7 +57,7 @@ fn the_moves_of_each_board_are_scored_while_others_score(rt: HostRuntime) -> Res
             right
         };
         assert!(rt;
-            jobs.beside(&mut work) == 16,
+            jobs.beside(0, &mut work) == 16,
             "{workers} workers, {cells} cells"
         );
         for board in boards.as_slice() {
@@ -114,7 +114,7 @@ fn no_jobs_have_no_answer(rt: HostRuntime) -> Result<(), Fail> {
     let batch = batch(&rt, 4, 64, Scoring::Winner);
     let jobs = Jobs::none(&batch);
     let mut work = || 7u8;
-    assert!(rt; jobs.beside(&mut work) == 7);
+    assert!(rt; jobs.beside(0, &mut work) == 7);
     for board in boards.as_slice() {
         assert!(rt; jobs.answer_of(&rt, board).is_none());
     }
@@ -175,7 +175,7 @@ fn boards_of_few_empty_squares_are_scored_in_turn(rt: HostRuntime) -> Result<(),
         }
         right
     };
-    assert!(rt; jobs.beside(&mut work) == 48);
+    assert!(rt; jobs.beside(0, &mut work) == 48);
     for board in few.as_slice() {
         assert!(rt; jobs.scores_of(&rt, board).is_none());
     }
@@ -208,6 +208,40 @@ fn boards_of_few_and_of_many_empty_squares_are_found_among_each_other(
     jobs.do_all();
     for board in boards.as_slice() {
         assert!(rt; jobs.found(board) == solve_alone(board, Scoring::Discs).ok());
+    }
+    Ok(())
+}
+
+#[test]
+fn a_crew_does_the_jobs_of_one_batch_after_the_other(rt: HostRuntime) -> Result<(), Fail> {
+    let (Some(few), Some(many)) = (images(rt.alloc(), 8), images(rt.alloc(), 10)) else {
+        panic!(rt; "no boards")
+    };
+    let mut small = Vec::new(rt.alloc());
+    for _ in 0..3 {
+        for board in few.as_slice() {
+            small.push(*board)?;
+        }
+    }
+    for workers in [2, 4, 16] {
+        let batch = batch(&rt, workers, 64, Scoring::Discs);
+        let crew = Crew::new(&batch);
+        let mut work = || {
+            let mut right = 0u32;
+            for boards in [many.as_slice(), small.as_slice(), many.as_slice()] {
+                if let Some(jobs) = Jobs::of(&batch, Asked::Answer, boards) {
+                    crew.give(&rt, jobs);
+                }
+                let jobs = crew.jobs(&rt);
+                for board in boards {
+                    if jobs.answer_of(&rt, board) == solve_alone(board, Scoring::Discs).ok() {
+                        right = right.saturating_add(1);
+                    }
+                }
+            }
+            right
+        };
+        assert!(rt; crew.beside(&rt, 3, &mut work) == 80, "{workers} workers");
     }
     Ok(())
 }

@@ -34,7 +34,7 @@ fn boards_that_others_solve_too(rt: HostRuntime) -> Result<(), Fail> {
         boards.as_slice().iter().all(|board| jobs.answer_of(&rt, board)
             == solve_alone(board, Scoring::Winner).ok())
     };
-    assert!(rt; jobs.beside(&mut work));
+    assert!(rt; jobs.beside(0, &mut work));
     Ok(())
 }
 
@@ -56,7 +56,7 @@ fn boards_whose_moves_others_score_too(rt: HostRuntime) -> Result<(), Fail> {
             }
         })
     };
-    assert!(rt; jobs.beside(&mut work));
+    assert!(rt; jobs.beside(0, &mut work));
     Ok(())
 }
 
@@ -86,6 +86,6 @@ fn games_that_others_analyse_too(rt: HostRuntime) -> Result<(), Fail> {
             None => turns.is_empty(),
         })
     };
-    assert!(rt; jobs.beside(&mut work));
+    assert!(rt; jobs.beside(0, &mut work));
     Ok(())
 }

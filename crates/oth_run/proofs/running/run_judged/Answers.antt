@@ -18,7 +18,7 @@ pub returns-in_err-run_ended-clause-bytes : goal.returns-in_err-run_ended-clause
 returns-in_err-run_ended-clause-bytes g c =
     let p = err_from_is_err_and c.from_residual-in_err-run_ended.result c.from_residual-in_err-run_ended.ensures.1 in
     let ended = c.in_err-run_ended.ensures.bytes in
-    let after = after_fault c.of-solver.result.settings c.run_ended.new.self _ _ c.in_err-run_ended.field-0.0 _ ended.2 in
+    let after = after_fault c.of-solver.result.settings c.run_ended.new.self.line c.run_ended.new.self.is_faulty _ _ c.in_err-run_ended.field-0.0 _ ended.2 in
     let P : Settings → Type 0 = λ settings. Writes (reply settings) (Err c.in_err-run_ended.field-0.0) ended.0 after.0 in
     (ended.0, after.0, ended.1, after.1, rw (p.1, p.2) (subst P (c.of-solver.ensures ∙ c.in_ok-lawful.ensures.same) after.2), rw p.1 tt)
 
