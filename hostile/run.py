@@ -6,7 +6,8 @@
 CRATES is the folder of the crates, `crates` if not given. Each step is a line, `ok` or `FAILED` and its name, and after a failure what is
 wrong. Where parts are named only their steps are run: `statuses`, `texts`, `flow`, `limits`, `seen`, `terminal`, `progress`,
 `differential`, `small_boards`, `recipes`, `refusals`, `c_library`, `installed`, `packed`. As many parts run at once as there are
-processors, and the lines come in the order of the parts. The last line is `N passed, M failed`; the exit status is 1 where a step failed.
+processors, but for `small_boards`, which compares times: it runs first, with nothing beside it. The lines come in the order of the parts.
+The last line is `N passed, M failed`; the exit status is 1 where a step failed.
 """
 import argparse
 import concurrent.futures
@@ -31,6 +32,9 @@ import small_boards
 import statuses
 import terminal
 import texts
+
+# The parts that compare times, which nothing may disturb.
+TIMED = ("small_boards",)
 
 
 def every_part(crates):
@@ -66,10 +70,12 @@ def steps_of(crates, part):
 
 
 def steps(crates, parts):
-    """Yields the steps of the parts, which run beside each other, one part after the other."""
+    """Yields the steps of the parts, one part after the other. They run beside each other, but for those that compare times."""
+    alone = {part: steps_of(crates, part) for part in parts if part in TIMED}
     with concurrent.futures.ProcessPoolExecutor() as pool:
-        for found in pool.map(functools.partial(steps_of, crates), parts):
-            yield from found
+        beside = pool.map(functools.partial(steps_of, crates), [part for part in parts if part not in alone])
+        for part in parts:
+            yield from alone[part] if part in alone else next(beside)
 
 
 def words():
