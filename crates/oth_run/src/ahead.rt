@@ -6,6 +6,7 @@ ghost use Rattle.oth_rules.specs.Position.{empty_count};
 use crate::lines::split_line;
 use crate::solver::Solver;
 use crate::tuning::MOST_JOBS;
+use memchr::memchr;
 use oth_batch::{Asked, Boards, Jobs, ONE_WORKER_MAX_EMPTIES, Recent, answer_among};
 use oth_pool::Gate;
 use oth_rules::Board;
@@ -113,6 +114,8 @@ fn jobs_beside<'b, T: Threads + Sync, G: Gate>(
         return Jobs::of_games(&solver.batch, games);
     }
     let asked = asked_by(command)?;
+    // Boards without an empty square, as of ended games, are answered sooner than they are read.
+    memchr(b'-', bytes)?;
     let boards = of_lines(alloc, bytes, |line: &[u8]| -> Option<Board> {
         board_of_line(recent, line)
     });
