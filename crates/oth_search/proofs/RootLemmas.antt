@@ -3,3 +3,4 @@ pub mod RootSearch
 pub mod Few
 pub mod Roots
 pub mod Scored
+pub mod Surest

@@ -26,6 +26,6 @@ pub use root::{
     MOST_EMPTIES, NoPeers, Pace, RootGoal, RootMove, RootMoves, RootPeers, Round, ScoredMove,
     Scores, TooManyEmpties, answer_by, ask_at, ask_in_rounds, before_pass, ended, first_threshold,
     is_few, scores_with, seeming_value, settle_at, settle_moves, solve_alone, solve_few,
-    solve_moves, solve_with, value_of,
+    solve_moves, solve_with, surest_of, value_of,
 };
 pub use shared::{Limited, Seen, StopFlag, Stopped, TreePeers, put, solve_until};

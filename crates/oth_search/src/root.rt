@@ -38,7 +38,7 @@ pub use best_moves::{
 };
 pub use few::{is_few, solve_few};
 pub use guess::seeming_value;
-pub use moves::{RootMove, RootMoves};
+pub use moves::{RootMove, RootMoves, surest_of};
 pub use root_peers::{NoPeers, RootPeers};
 pub use scores::{ScoredMove, Scores, answer_by, scores_with};
 pub(crate) use settle::settle;

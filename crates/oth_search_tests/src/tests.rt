@@ -2,6 +2,7 @@
 
 mod bounds;
 mod combining;
+mod hearing;
 mod keeping;
 mod limited;
 mod local_tables;

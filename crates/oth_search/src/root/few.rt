@@ -1,6 +1,6 @@
 //! The answer of a board of few empty squares, by one worker: no list of the root's moves, no cells, and nobody hears.
 //! There the boards after the moves are searched in less time than a list of them is made in.
-ghost use Rattle.std.specs.Prelude.{◌≡◌, ◌≤ℤ◌, ◌<ℤ◌, ◌+ℤ◌, negsuc, pos, true};
+ghost use Rattle.std.specs.Prelude.{◌≡◌, ◌≤◌, ◌↔◌, IsTrue, ◌≤ℤ◌, ◌<ℤ◌, ◌+ℤ◌, negsuc, pos, true};
 ghost use Rattle.oth_rules.specs.Move.{can_move};
 ghost use Rattle.oth_rules.specs.Laws.{IsScore};
 ghost use Rattle.oth_search.specs.Bounds.Interval.{Decides};
@@ -13,7 +13,9 @@ use crate::tuning::FEW_MAX_EMPTIES;
 use oth_rules::{Board, Scoring};
 
 /// Whether `solve_few` pays for a root of `empties` empty squares.
-pub fn is_few(empties: u8) -> bool {
+pub fn is_few(empties: u8) -> bool
+    ensures { IsTrue result ↔ (empties ≤ FEW_MAX_EMPTIES) }
+{
     empties <= FEW_MAX_EMPTIES
 }
 

@@ -1,8 +1,10 @@
 //! The moves of a root, each with its square, the board after it, and what is known of that.
-ghost use Rattle.std.specs.Prelude.{◌≡◌, ◌≤◌, ◌↔◌, IsSome, IfSome, length};
+ghost use Rattle.std.specs.Prelude.{◌≡◌, ◌≤◌, ◌↔◌, IsSome, IfSome, true, List, [], length};
+ghost use Rattle.std.specs.List.{push};
+ghost use Rattle.std.specs.Option.{MatchOption};
 ghost use Rattle.oth_rules.specs.Laws.{IsLegal, IsScore};
-ghost use Rattle.oth_rules.specs.Move.{after};
-ghost use Rattle.oth_search.specs.Root.Moves.{IsRootMove, AreRootMoves};
+ghost use Rattle.oth_rules.specs.Move.{after, can_move};
+ghost use Rattle.oth_search.specs.Root.Moves.{IsRootMove, AreRootMoves, IsSurest};
 
 use crate::bounds::{Interval, Solved, bounds_among, greater};
 use crate::ordering::order;
@@ -122,27 +124,21 @@ impl RootMoves {
         Solved::unknown(board, scoring)
     }
 
-    /// The square of a move that is known to give as much as any is known to give: of several the first one in the
-    /// order of these moves. There is none exactly if there is no move.
+    /// The square of the move that `surest_of` tells. There is none exactly if there is no move.
     pub fn surest(&self) -> Option<Square>
-        ensures { IfSome result (IsLegal self.now.board) }
+        ensures variant { IsSome result ↔ (can_move self.now.board ≡ true) }
+        ensures legal { IfSome result (IsLegal self.now.board) }
     {
-        let root_move = self.get(self.leader())?;
+        let root_move = surest_of(self.as_slice())?;
         Some(root_move.square)
     }
 
-    /// The place of the first move after which the board has the least upper bound, 0 if there is no move.
+    /// The place of that move, 0 if there is no move.
     pub(crate) fn leader(&self) -> usize {
-        let mut least = 65;
-        let mut leader = 0;
-        for (place, root_move) in self.list.as_slice().iter().enumerate() {
-            let upper = root_move.child.interval.upper;
-            if upper < least {
-                least = upper;
-                leader = place;
-            }
+        match self.surest() {
+            Some(square) => self.place_of(square),
+            None => 0,
         }
-        leader
     }
 
     /// The place of the move to this square, or the number of moves if it isn't legal: 0 to 64.
@@ -226,5 +222,31 @@ impl RootMoves {
         ensures { IsScore result }
     {
         self.backed_up().interval.lower
+    }
+}
+
+/// The first of these moves that are known to give the most, which are those after which the board has the least upper
+/// bound. There is none exactly if there is no move.
+pub fn surest_of(moves: &[RootMove]) -> Option<RootMove>
+    ensures { MatchOption result (moves.now ≡ []) (IsSurest moves.now) }
+{
+    let mut surest = None;
+    for root_move in moves {
+        surest = Some(surer(surest, *root_move));
+    }
+    surest
+}
+
+// The surest of some moves and the one behind them, by the surest of these moves.
+fn surer(surest: Option<RootMove>, next: RootMove) -> RootMove
+    ensures { (ms : List RootMove) → MatchOption surest (ms ≡ []) (IsSurest ms) → IsSurest (push ms next) result }
+{
+    let Some(root_move) = surest else {
+        return next;
+    };
+    if next.child.interval.upper < root_move.child.interval.upper {
+        next
+    } else {
+        root_move
     }
 }

@@ -1,6 +1,6 @@
 //! A search that may be stopped: it ends when its table look-ups are spent, or when another thread sets a flag. A
 //! further one takes up what it had come to (`Seen`).
-ghost use Rattle.std.specs.Prelude.{◌≡◌, ◌-◌, IfOk, IfErr, IfSome, true, false};
+ghost use Rattle.std.specs.Prelude.{◌≡◌, ◌-◌, ◌↔◌, IsTrue, IsFalse, IfOk, IfErr, IfSome, true, false};
 ghost use Rattle.oth_rules.specs.Position.{pass};
 ghost use Rattle.oth_rules.specs.Move.{can_move};
 ghost use Rattle.oth_rules.specs.Symmetry.{IsCanonical};
@@ -80,13 +80,21 @@ impl<C: Cells> Limited<C> {
         self.left = self.left.saturating_sub(1);
     }
 
-    // Whether nothing is left. Where the flag is set, it takes away what was.
-    fn is_ended(&mut self, stop: &StopFlag) -> bool
+    // Takes away what is left where the flag is set.
+    fn hear(&mut self, is_set: bool)
         ensures cells { self.new.cells ≡ self.old.cells }
+        ensures set { IsTrue is_set → self.new.left ≡ 0 }
+        ensures unset { IsFalse is_set → self.new.left ≡ self.old.left }
     {
-        if stop.is_set() {
+        if is_set {
             self.left = 0;
         }
+    }
+
+    // Whether nothing is left.
+    fn is_spent(&self) -> bool
+        ensures { IsTrue result ↔ (self.now.left ≡ 0) }
+    {
         self.left == 0
     }
 }
@@ -154,8 +162,12 @@ impl<'s, C: Cells> TreePeers<Limited<C>> for UntilEnded<'s> {
         STOP_MIN_EMPTIES
     }
 
-    fn gives_up(&mut self, _searched: &Board, cells: &mut Limited<C>) -> bool {
-        cells.is_ended(self.stop)
+    fn gives_up(&mut self, _searched: &Board, cells: &mut Limited<C>) -> bool
+        ensures fixed { C.fixed cells.new.cells ≡ C.fixed cells.old.cells }
+        ensures spent { IsTrue result ↔ (cells.new.left ≡ 0) }
+    {
+        cells.hear(self.stop.is_set());
+        cells.is_spent()
     }
 
     // As they were kept, since a search that goes on comes to the boards on its way once more.
@@ -189,13 +201,20 @@ impl<'s, C: Cells> RootPeers<Limited<C>> for UntilEnded<'s> {
         }
     }
 
-    fn ends_guess(&mut self, cells: &mut Limited<C>) -> bool {
-        self.is_ended = cells.is_ended(self.stop);
+    fn ends_guess(&mut self, cells: &mut Limited<C>) -> bool
+        ensures fixed { C.fixed cells.new.cells ≡ C.fixed cells.old.cells }
+        ensures spent { IsTrue result ↔ (cells.new.left ≡ 0) }
+        ensures told { self.new.is_ended ≡ result }
+    {
+        cells.hear(self.stop.is_set());
+        self.is_ended = cells.is_spent();
         self.is_ended
     }
 
-    fn is_over(&self, cells: &Limited<C>) -> bool {
-        cells.left == 0
+    fn is_over(&self, cells: &Limited<C>) -> bool
+        ensures spent { IsTrue result ↔ (cells.now.left ≡ 0) }
+    {
+        cells.is_spent()
     }
 }
 
@@ -209,8 +228,9 @@ pub struct Stopped {
 }
 
 /// The answer of a board by a search over the cells, or what is known of the board if the look-ups are spent before, or
-/// another thread sets the flag. The search stops at the next board of 11 and more empty squares, or at the next look
-/// of its first guess, so somewhat later.
+/// the flag is set, which ends at once each search that begins, unless the game is over. Else the search stops at the
+/// next board of 11 and more empty squares, or at the next look of its first guess, so somewhat later; one of fewer
+/// empty squares, which takes about a millisecond, hears no flag that is set meanwhile.
 pub fn solve_until<C: Cells>(
     board: &Board,
     cells: &mut Limited<C>,
@@ -270,6 +290,7 @@ fn solve_moves_until<C: Cells>(
     ensures spent { IfErr result (λ s. cells.new.left ≡ 0) }
     ensures fixed { C.fixed cells.new.cells ≡ C.fixed cells.old.cells }
 {
+    cells.hear(stop.is_set());
     let seen = replace(&mut cells.seen, Seen::none());
     let mut driver = UntilEnded {
         stop,
@@ -286,7 +307,7 @@ fn solve_moves_until<C: Cells>(
     settle(&mut moves, true, &mut round, cells, &mut driver);
     let is_guessed = !driver.is_ended;
     cells.seen = driver.into_seen();
-    if cells.left == 0 {
+    if cells.is_spent() {
         if is_guessed {
             let moves = moves.another();
             cells.seen.keep(Begun { moves, round });

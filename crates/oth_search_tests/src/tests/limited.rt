@@ -4,7 +4,7 @@ ghost use Rattle.std.specs.Prelude.{◌≡◌, IfSome};
 
 mod refused;
 
-use super::board_of;
+use super::{board_of, line_of};
 use oth_rules::{Board, Scoring};
 use oth_search::{
     Cells, Entry, Interval, Limited, LocalTable, NoCells, Seen, Solved, StopFlag, Stopped,
@@ -137,6 +137,35 @@ fn a_flag_that_is_set_ends_a_search(rt: HostRuntime) {
             assert!(rt; at <= asked && asked - at < 2_000, "{asked} boards");
         }
     }
+}
+
+// Whether a search of the board over as many look-ups as it likes is ended, by this flag.
+fn is_ended_by(board: &Board, stop: &StopFlag) -> bool {
+    let mut cells = Limited::of(NoCells, u64::MAX);
+    match solve_until(board, &mut cells, Scoring::Winner, stop) {
+        Ok(answer) => answer.board != *board,
+        Err(stopped) => stopped.known.board == *board && cells.left == 0,
+    }
+}
+
+#[test]
+fn a_flag_that_was_set_before_ends_a_search_of_few_empty_squares(rt: HostRuntime) {
+    let stop = StopFlag::new();
+    let passes = board_of(&rt, [0xffff_ffff_ffff_ff74, 0x8]);
+    for board in [line_of(&rt, 5), line_of(&rt, 10), passes] {
+        assert!(rt; board.can_move() || board.pass().can_move());
+        stop.clear();
+        assert!(rt; !is_ended_by(&board, &stop));
+        stop.set();
+        assert!(rt; is_ended_by(&board, &stop));
+    }
+}
+
+#[test]
+fn a_finished_game_is_answered_whatever_the_flag(rt: HostRuntime) {
+    let stop = StopFlag::new();
+    stop.set();
+    assert!(rt; !is_ended_by(&board_of(&rt, [0, u64::MAX]), &stop));
 }
 
 // Cells that keep the boards that a transposition table has, as far as there is memory, and count what they are asked

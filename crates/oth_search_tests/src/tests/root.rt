@@ -89,3 +89,16 @@ fn starts_from_a_guess(rt: HostRuntime) {
         Err(_) => panic!(rt; "not solved"),
     }
 }
+
+#[test]
+fn of_moves_known_to_give_as_much_the_first_is_the_surest(rt: HostRuntime) {
+    let board = board_of(&rt, [0xd470_0405_47e5_dd00, 0x0205_7a18_b81a_22fc]);
+    let mut moves = RootMoves::of(&Solved::unknown(board, Scoring::Winner), &[]);
+    let count = moves.len();
+    assert!(rt; count > 2);
+    for place in [0, count - 1, 1] {
+        let first = moves.get(place).expect(&rt, "a move");
+        moves.move_to_front(place);
+        assert!(rt; moves.surest() == Some(first.square));
+    }
+}

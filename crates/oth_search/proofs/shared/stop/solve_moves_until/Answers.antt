@@ -1,5 +1,5 @@
 use Rattle.std.proofs.Common.{rules}
 use Rattle.oth_search.proofs.shared.stop.solve_moves_until.Goals as goal
 
-pub returns-then-cells-eq0-clause-spent : goal.returns-then-cells-eq0-clause-spent
-returns-then-cells-eq0-clause-spent g c = search rules
+pub returns-then-is_spent-clause-spent : goal.returns-then-is_spent-clause-spent
+returns-then-is_spent-clause-spent g c = search rules
