@@ -1,6 +1,7 @@
 //! Runs workers over all items of a frontier.
-ghost use Rattle.std.specs.Prelude.{◌≡◌, IfSome, List, length, vec_len, []};
+ghost use Rattle.std.specs.Prelude.{◌≡◌, ◌≤ℤ◌, IfSome, List, length, vec_len, []};
 ghost use Rattle.oth_pieces.specs.Watch.{IsSeatOf};
+ghost use Rattle.oth_pieces.specs.History.{floor_after};
 ghost use Rattle.oth_pieces.specs.Hands.{IsCrew};
 ghost use Rattle.oth_pieces.specs.Drawn.{lists_of};
 ghost use Rattle.oth_walk.specs.Lending.{LendsFloor, LendsTable};
@@ -29,9 +30,10 @@ pub struct Gathered {
     pub replies: Vec<Reply>,
 }
 
-/// What workers share besides the table.
+/// What workers share besides the table, and what is known of the root before they start.
 #[derive(Clone, Copy)]
 pub(crate) struct Links<'s> {
+    pub root: &'s Solved,
     pub floor: &'s Floor,
     pub hints: &'s Option<Hints>,
     pub bounds: &'s Option<MoveBounds>,
@@ -72,6 +74,7 @@ pub fn run_workers<'t, R: Threads + Sync, G: Gate>(
     let bounds = bounds_for(&means, &root);
     let announced = Announced::of(&root.board, Some(frontier), gate);
     let links = Links {
+        root: &root,
         floor,
         hints: &hints,
         bounds: &bounds,
@@ -91,8 +94,8 @@ fn pass_over<G: Gate>(announced: &Announced, drawn: &Drawn, gate: &G) {
     }
 }
 
-/// As `run_workers`, for a prepared search by workers that share `links`. Returns also what they found of the root's
-/// moves.
+/// As `run_workers`, for a prepared search by workers that share `links`, with a floor as high as what is known of the
+/// root. Returns also what they found of the root's moves.
 #[inline(never)]
 pub(crate) fn run<'w, 't, R: Threads + Sync, G: Gate>(
     means: &Means<'w, R, G>,
@@ -102,6 +105,7 @@ pub(crate) fn run<'w, 't, R: Threads + Sync, G: Gate>(
     table: &mut Option<TableCells<'t>>,
 ) -> (Gathered, Vec<RootMove>)
     requires seat { IsSeatOf links.floor.now seat.old }
+    requires raised { links.root.now.interval.lower ≤ℤ floor_after seat.old.seen }
     ensures seat { LendsFloor seat.old seat.new }
     ensures table { LendsTable table.old table.new }
     ensures gathered { AreGathered search.now.frontier.now search.now.scoring result.0 }
@@ -198,7 +202,7 @@ fn workers_of<'w, 't, R, G: Gate>(
             root_bound,
             hints: HintSeat::of(links.hints),
             bounds: BoundsSeat::of(links.bounds),
-            announcer: Announcer::of(links.announced),
+            announcer: Announcer::of(alloc, links.announced),
         };
         let cells = worker_cells(alloc, empties, search.shape.sharing, table);
         workers.push_reserved(Worker::of(search, alloc, cells, seats, means.gate));

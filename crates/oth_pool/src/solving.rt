@@ -205,7 +205,7 @@ fn answer_alone<'t, R: Threads + Sync, G: Gate>(
         return solve_moves(moves, &mut cells, &mut NoPeers);
     }
     let announced = Announced::of(&by_book.board, None, means.gate);
-    let mut alone = Alone::of(means.gate, &announced);
+    let mut alone = Alone::of(means.alloc, means.gate, &announced);
     ask_higher(&mut moves, &mut cells, &mut alone);
     let answer = solve_moves(moves, &mut cells, &mut alone);
     announced.finish(means.gate);
@@ -232,11 +232,12 @@ fn answer_together<'t, R: Threads + Sync, G: Gate>(
     let start = start_of_several(alloc, &moves, access);
     let sharing = Sharing::of_several(access);
     let search = Search::of(&start, &frontier, sharing);
-    let (floor, mut seat) = raised_floor(alloc, &start.root())?;
+    let (floor, mut seat) = raised_floor(alloc, by_book)?;
     let hints = hints_for(means, &search);
     let bounds = bounds_for(means, by_book);
     let announced = Announced::of(&by_book.board, Some(&*frontier), means.gate);
     let links = Links {
+        root: by_book,
         floor: &floor,
         hints: &hints,
         bounds: &bounds,
@@ -255,7 +256,7 @@ fn answer_together<'t, R: Threads + Sync, G: Gate>(
         root_bound: RootBound::of(&floor, seat),
         hints: HintSeat::none(),
         bounds: BoundsSeat::none(),
-        announcer: Announcer::of(&announced),
+        announcer: Announcer::of(alloc, &announced),
     };
     let mut worker = Worker::of(&search, alloc, cells, seats, means.gate);
     for root_move in found.as_slice() {
@@ -266,7 +267,7 @@ fn answer_together<'t, R: Threads + Sync, G: Gate>(
     moves.narrow_root(&worker.root());
     let (mut cells, known) = worker.into_parts();
     moves.take_in(known.as_slice());
-    let mut alone = Alone::of(means.gate, &announced);
+    let mut alone = Alone::of(alloc, means.gate, &announced);
     let answer = solve_moves(moves, &mut cells, &mut alone);
     announced.finish(means.gate);
     Some(answer)

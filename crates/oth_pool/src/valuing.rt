@@ -132,7 +132,7 @@ fn value_alone<R, G: Gate, C: Cells>(
         return value_of(by_book, sibling, cells, &mut NoPeers);
     }
     let announced = Announced::of(&by_book.board, None, means.gate);
-    let mut alone = Alone::of(means.gate, &announced);
+    let mut alone = Alone::of(means.alloc, means.gate, &announced);
     let valued = value_of(by_book, sibling, cells, &mut alone);
     announced.finish(means.gate);
     valued

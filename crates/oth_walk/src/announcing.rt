@@ -2,10 +2,12 @@
 //!
 //! `gate`: the trait. `announced`: the items and the gate, which all who search the board share; whoever is about to
 //! search an item for the first time takes it out of one set (`item_set`), and announces it. `announcer`: one thread's
-//! way to that. `alone`: the only worker of a search, which announces as several do.
+//! way to that, with what it has found of each (`found_items`). `alone`: the only worker of a search, which announces
+//! as several do.
 mod alone;
 mod announced;
 mod announcer;
+mod found_items;
 mod gate;
 mod item_set;
 

@@ -20,8 +20,7 @@ use crate::root_bound::RootBound;
 use crate::shared::{Search, Seats, SharedNodes};
 use crate::tuning::{KEPT_ORDER_MIN_EMPTIES, SHARED_GUESS_MIN_EMPTIES, SMALL_NODE_MARGIN};
 use arrayvec::ArrayVec;
-use oth_pieces::Frontier;
-use oth_rules::{Board, Scoring, Square};
+use oth_rules::{Board, Square};
 use oth_search::{Cells, MoveOrder, RootMove, Solved, order};
 use path_node::PathNode;
 use std::alloc::Global;
@@ -36,8 +35,6 @@ pub(crate) struct Peers<'w, G> {
     bounds: BoundsSeat<'w>,
     pub announcer: Announcer<'w>,
     pub gate: &'w G,
-    // What this worker has found of each item, by their numbers; empty where there is no memory.
-    items: Vec<Solved>,
     // The root's moves that this worker has settled.
     settled: u64,
     // The board after the root's move that it searches below, and the floor at which that search began.
@@ -48,8 +45,8 @@ pub(crate) struct Peers<'w, G> {
 }
 
 impl<'w, G> Peers<'w, G> {
-    /// The peers of a worker of this search that has no search under way. Their lists take memory as they grow; if
-    /// there is none they keep less.
+    /// The peers of a worker of this search that has no search under way. Their list takes memory as it grows; if there
+    /// is none they keep less.
     pub fn of(alloc: Global, search: &Search, seats: Seats<'w>, gate: &'w G) -> Peers<'w, G> {
         let Seats {
             root_bound,
@@ -64,32 +61,10 @@ impl<'w, G> Peers<'w, G> {
             bounds,
             announcer,
             gate,
-            items: unknown_items(alloc, search.frontier, search.scoring),
             settled: 0,
             child: Board::default(),
             floor_before: -64,
             path: Vec::new(alloc),
-        }
-    }
-
-    /// What this worker has found of the item of this number, and `known`.
-    pub fn known_of_item(&self, number: u32, known: &Solved) -> Solved
-        ensures board { result.board ≡ known.now.board }
-        ensures scoring { result.scoring ≡ known.now.scoring }
-    {
-        match self.items.get(number as usize) {
-            Some(found) => known.joined(found),
-            None => *known,
-        }
-    }
-
-    /// Keeps what was found of the item of this number, if it is one.
-    pub fn keep(&mut self, number: Option<u32>, found: &Solved) {
-        if let Some(number) = number {
-            let place = number as usize;
-            if place < self.items.len() {
-                self.items[place] = self.items[place].joined(&found.awake());
-            }
         }
     }
 
@@ -221,17 +196,4 @@ impl<'w, G> Peers<'w, G> {
         }
         false
     }
-}
-
-// Every item of the frontier, with all scores as its bounds; none where there is no memory.
-fn unknown_items(alloc: Global, frontier: &Frontier, scoring: Scoring) -> Vec<Solved> {
-    let Ok(mut items) = Vec::with_capacity(alloc, frontier.len() as usize) else {
-        return Vec::new(alloc);
-    };
-    for number in 0..frontier.len() {
-        if let Some(board) = frontier.item(number) {
-            let _ = items.push(Solved::unknown(board, scoring));
-        }
-    }
-    items
 }

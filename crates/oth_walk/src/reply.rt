@@ -45,11 +45,7 @@ fn begin<G: Gate, C: Cells>(
     let peers = &mut worker.peers;
     peers.begin_below(root_move);
     peers.hints.begin(&item.board);
-    let known = peers.known_of_item(number, item);
-    if let Some((number, known)) = peers
-        .announcer
-        .begin_item(number, &known, &mut worker.cells)
-    {
+    if let Some((number, known)) = peers.announcer.begin_item(number, item, &mut worker.cells) {
         peers.gate.known_before(number, &known);
         peers.gate.before(number);
         peers.announcer.tell(number);
@@ -59,12 +55,11 @@ fn begin<G: Gate, C: Cells>(
 // That search has ended, and found these bounds.
 fn end<G: Gate, C: Cells>(number: u32, found: &Solved, worker: &mut Worker<C, G>) {
     let peers = &mut worker.peers;
-    if let Some(number) = peers.announcer.end_item() {
+    if let Some(number) = peers.announcer.end_item(number, found) {
         peers.gate.known_after(number, &found.awake());
         peers.gate.after(number);
     }
     peers.hints.end(&found.board);
-    peers.keep(Some(number), found);
 }
 
 // The score that the item is to be tested against: the one that root moves are tested against, or the greatest that

@@ -64,7 +64,7 @@ impl<'w, C: Cells, G: Gate> Worker<'w, C, G> {
         ensures board { result.board ≡ known.now.board }
         ensures scoring { result.scoring ≡ known.now.scoring }
     {
-        self.peers.known_of_item(number, known)
+        self.peers.announcer.known_of_item(number, known)
     }
 
     /// The move at this place, if there is one, with what this worker, the others and the table know of the board after

@@ -3,7 +3,9 @@
 mod announcing;
 mod drawing;
 mod fixtures;
+mod meeting;
 mod noting;
+mod telling;
 mod together;
 mod view;
 mod ways;

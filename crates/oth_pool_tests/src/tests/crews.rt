@@ -2,10 +2,12 @@
 
 use super::fixtures::{answer_of, board_of};
 use super::rows::ROWS;
-use super::solved;
-use oth_pool::{Open, solve};
-use oth_rules::Scoring;
+use super::{A, B, CORNERS, solved_heard};
+use oth_pool::{Gate, Open, solve};
+use oth_rules::samples::least_moves_from;
+use oth_rules::{Board, Scoring};
 use std::process::Abort;
+use std::sync::atomic::{AtomicU64, Ordering};
 use std::thread::Threads;
 
 // Boards of games, of 14 empty squares.
@@ -71,11 +73,13 @@ fn crews_agree_with_one_over_a_table(rt: HostRuntime) {
     check_boards(&rt, 65_536, Scoring::Discs);
 }
 
+// `solve` starts two of the sixteen for boards of so few empty squares, since a gate hears of their items; sixteen that
+// start share a cell in `oth_workers_tests`.
 #[test]
 fn sixteen_workers_share_one_cell(rt: HostRuntime) {
     for _ in 0..100 {
         for (words, score, best, kind) in &ROWS[4..] {
-            let found = solved(&rt, rt.alloc(), *words, 16, 1, Scoring::Winner);
+            let found = solved_heard(&rt, rt.alloc(), *words, 16, 1, Scoring::Winner);
             assert!(rt;
                 found == Some((*score, *best, *kind)),
                 "the board of {}",
@@ -89,5 +93,49 @@ fn sixteen_workers_share_one_cell(rt: HostRuntime) {
 fn crews_share_one_cell_where_they_search_together(rt: HostRuntime) {
     for _ in 0..20 {
         check_board(&rt, BOARDS[0], 1, Scoring::Winner);
+    }
+}
+
+// Says that it hears nothing, so that one worker tells it of no item. Several workers do: it counts those.
+#[derive(Drop)]
+struct Deaf {
+    told: AtomicU64,
+}
+
+impl Gate for Deaf {
+    fn before(&self, _task: u32) {
+        self.told.fetch_add(1, Ordering::SeqCst);
+    }
+
+    fn after(&self, _task: u32) {}
+
+    fn hears(&self) -> bool {
+        false
+    }
+}
+
+// Of how many items two workers tell such a gate, as they come to the answer of one.
+fn told_by_two<R: Threads + Sync + AllocGlobal + Abort>(rt: &R, root: &Board) -> u64 {
+    let alone = answer_of(rt, root, Scoring::Winner);
+    let gate = Deaf {
+        told: AtomicU64::new(0),
+    };
+    let found = solve(rt, rt.alloc(), root, 2, 64, &gate, None, Scoring::Winner);
+    assert!(rt; found == Ok(alone));
+    gate.told.load(Ordering::SeqCst)
+}
+
+// Boards of few empty squares of which nobody hears have one worker, all others two.
+#[test]
+fn boards_of_seven_and_more_empty_squares_have_two_workers(rt: HostRuntime) {
+    for empties in 7..=13 {
+        let Some(root) = least_moves_from(board_of(&rt, BOARDS[0]), empties) else {
+            panic!(rt; "no line")
+        };
+        assert!(rt; root.empties() == empties && root.can_move());
+        assert!(rt; told_by_two(&rt, &root) > 0, "{empties} empty squares");
+    }
+    for words in [A, B, CORNERS] {
+        assert!(rt; told_by_two(&rt, &board_of(&rt, words)) == 0);
     }
 }

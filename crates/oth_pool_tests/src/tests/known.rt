@@ -46,7 +46,7 @@ fn book_below(alloc: Global, root: &Board, left_out: u8, scoring: Scoring) -> Op
     Some(book)
 }
 
-// The board is answered alike by these workers and cells with this book.
+// The board is answered alike by these workers and cells with this book, whether a gate hears of its items or not.
 fn check_with<R: Threads + Sync + AllocGlobal + Abort>(
     rt: &R,
     alone: &Answer,
@@ -54,17 +54,13 @@ fn check_with<R: Threads + Sync + AllocGlobal + Abort>(
     workers: u8,
     cells: u32,
 ) {
-    let found = solve(
-        rt,
-        rt.alloc(),
-        &alone.board,
-        workers,
-        cells,
-        &Open,
-        Some(book),
-        alone.scoring,
-    );
+    let (alloc, board, scoring) = (rt.alloc(), &alone.board, alone.scoring);
+    let book = Some(book);
+    let found = solve(rt, alloc, board, workers, cells, &Open, book, scoring);
     assert!(rt; found == Ok(*alone), "{workers} workers, {cells} cells");
+    let gate = Hearing::new();
+    let heard = solve(rt, alloc, board, workers, cells, &gate, book, scoring);
+    assert!(rt; heard == found, "heard, {workers} workers, {cells} cells");
 }
 
 // The root is answered alike with books of all boards after its moves, and of all but some.

@@ -6,14 +6,16 @@ use super::fixtures::{answer_of, board_of};
 use super::gate::Hearing;
 use super::rows::ROWS;
 use super::scoring::check_scores;
-use super::{A, CORNERS, solved};
+use super::{A, CORNERS, solved, solved_heard};
 use oth_pool::{Open, solve};
 use oth_rules::{Board, Scoring, Square};
+use oth_search::Kind;
 use oth_table::{SharedTable, TableError};
 use std::process::Abort;
 use std::thread::Threads;
 
-// The rows with an empty square or two, by two workers.
+// The rows with an empty square or two, by two workers, whose items a gate hears or not. Where it doesn't, no memory is
+// asked for.
 fn check_rows<R: Threads + Sync + AllocGlobal + Abort>(rt: &R, cells: u32) {
     for (words, score, best, kind) in &ROWS[..9] {
         let found = solved(rt, rt.alloc(), *words, 2, cells, Scoring::Winner);
@@ -22,6 +24,8 @@ fn check_rows<R: Threads + Sync + AllocGlobal + Abort>(rt: &R, cells: u32) {
             "the board of {}",
             words[0]
         );
+        let heard = solved_heard(rt, rt.alloc(), *words, 2, cells, Scoring::Winner);
+        assert!(rt; heard == found, "the board of {}, heard", words[0]);
     }
 }
 
@@ -41,10 +45,12 @@ fn rows_over_64_cells(rt: HostRuntime) {
 }
 
 fn check_a<R: Threads + Sync + AllocGlobal + Abort>(rt: &R, cells: u32) {
-    let found = solved(rt, rt.alloc(), A, 2, cells, Scoring::Winner);
-    assert!(rt; found.is_some_and(|(score, best, _)| score == -50 && best == 0x80));
+    let found = solved_heard(rt, rt.alloc(), A, 2, cells, Scoring::Winner);
+    assert!(rt; found == Some((-50, 0x80, Kind::Move)));
 }
 
+// `hostile/refusals.py` compares how many requests this test, the next one and `a_table_of_64_cells` make, as it does
+// with the two tests of workers together.
 #[test]
 fn a_without_cells(rt: HostRuntime) {
     check_a(&rt, 0);
@@ -86,7 +92,6 @@ fn check_together<R: Threads + Sync + AllocGlobal + Abort>(rt: &R, cells: u32) {
     assert!(rt; found == Ok(alone));
 }
 
-// `hostile/refusals.py` compares how many requests this test, the next one and `a_table_of_64_cells` make.
 #[test]
 fn workers_together_without_cells(rt: HostRuntime) {
     check_together(&rt, 0);

@@ -1,6 +1,6 @@
 //! The worked boards by every crew and table, and the refusals of `solve`.
 
-use super::{A, B, C, CORNERS, answered, solved};
+use super::{A, B, C, CORNERS, answered, solved, solved_heard};
 use oth_pool::SolveError;
 use oth_rules::{Board, Scoring};
 use oth_search::Kind;
@@ -46,7 +46,8 @@ const ROWS_BY_DISCS: [Row; 7] = [
     (B, 64, 0x0100, Kind::Move),
 ];
 
-// Each row by each number of workers, over a table of `cells` cells.
+// Each row by each number of workers, over a table of `cells` cells where a gate hears of its items, and without one
+// where none does.
 fn check_rows<R: Threads + Sync + AllocGlobal + Abort>(
     rt: &R,
     rows: &[Row],
@@ -59,6 +60,12 @@ fn check_rows<R: Threads + Sync + AllocGlobal + Abort>(
             assert!(rt;
                 found == Some((*score, *best, *kind)),
                 "the board of {}, {workers} workers",
+                words[0]
+            );
+            let heard = solved_heard(rt, rt.alloc(), *words, workers, cells, scoring);
+            assert!(rt;
+                heard == found,
+                "the board of {}, heard, {workers} workers",
                 words[0]
             );
         }
@@ -83,11 +90,14 @@ fn all_crews_give_the_rows_over_the_largest_table(rt: HostRuntime) {
     check_rows(&rt, ROWS_BY_DISCS.as_slice(), 262_144, Scoring::Discs);
 }
 
+// Nothing is searched, so no table is made, and no gate hears of anything.
 #[test]
 fn finished_boards_are_answered_by_all_tables(rt: HostRuntime) {
     for cells in [0, 1, 262_144] {
         let full = solved(&rt, rt.alloc(), [u64::MAX, 0], 2, cells, Scoring::Winner);
         assert!(rt; full == Some((64, 0, Kind::End)));
+        let heard = solved_heard(&rt, rt.alloc(), [u64::MAX, 0], 2, cells, Scoring::Winner);
+        assert!(rt; heard == full);
         let limit = [0xffff_ffff_c000_0000, 0];
         let winner = solved(&rt, rt.alloc(), limit, 16, cells, Scoring::Winner);
         assert!(rt; winner == Some((64, 0, Kind::End)));

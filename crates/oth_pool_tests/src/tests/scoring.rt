@@ -22,6 +22,7 @@ const PASSES: [u64; 2] = [0xffff_ffff_ffff_ff74, 8];
 const FULL: [u64; 2] = [u64::MAX, 0];
 
 // Each move is there once with the score that one thread alone gives the board after it; the answer is that of `solve`.
+// All is the same where a gate hears of the items, so that boards of few empty squares are searched as others are.
 pub(super) fn check_scores<R: Threads + Sync + AllocGlobal + Abort>(
     rt: &R,
     root: &Board,
@@ -32,6 +33,11 @@ pub(super) fn check_scores<R: Threads + Sync + AllocGlobal + Abort>(
     let Ok(found) = scores(rt, rt.alloc(), root, workers, cells, &Open, None, scoring) else {
         panic!(rt; "no scores")
     };
+    let gate = Counting::new();
+    let Ok(heard) = scores(rt, rt.alloc(), root, workers, cells, &gate, None, scoring) else {
+        panic!(rt; "no scores")
+    };
+    assert!(rt; heard.answer() == found.answer() && heard.moves() == found.moves());
     let answer = answered(rt, rt.alloc(), root, workers, cells, scoring);
     assert!(rt; answer == Ok(found.answer()));
     assert!(rt; found.moves().len() == root.moves().count_ones() as usize);

@@ -6,6 +6,7 @@ use super::announced::Announced;
 use super::announcer::Announcer;
 use super::gate::Gate;
 use oth_search::{Cells, Hearer, RootMove, RootMoves, RootPeers, Solved};
+use std::alloc::Global;
 
 /// The only worker of a search, which tells a gate of the items that it searches, and how far it is.
 #[derive(Drop)]
@@ -16,10 +17,10 @@ pub struct Alone<'g, G> {
 
 impl<'g, G: Gate> Alone<'g, G> {
     /// The only worker of a search of the board of these items.
-    pub fn of(gate: &'g G, announced: &'g Announced) -> Alone<'g, G> {
+    pub fn of(alloc: Global, gate: &'g G, announced: &'g Announced) -> Alone<'g, G> {
         Alone {
             gate,
-            announcer: Announcer::of(announced),
+            announcer: Announcer::of(alloc, announced),
         }
     }
 }
@@ -56,7 +57,7 @@ impl<'g, G: Gate, C: Cells> RootPeers<C> for Alone<'g, G> {
             self.announcer.tell(number);
         }
         let found = child.decided_with(alpha, cells, self);
-        if let Some(number) = self.announcer.end_move() {
+        if let Some(number) = self.announcer.end_move(&found) {
             self.gate.known_after(number, &found.awake());
             self.gate.after(number);
         }
@@ -74,7 +75,7 @@ impl<'g, G: Gate, C: Cells> Hearer<C> for Alone<'g, G> {
     }
 
     fn end(&mut self, found: &Solved) {
-        if let Some(number) = self.announcer.end(&found.board) {
+        if let Some(number) = self.announcer.end(found) {
             self.gate.known_after(number, &found.awake());
             self.gate.after(number);
         }

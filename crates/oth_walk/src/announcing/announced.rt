@@ -83,6 +83,11 @@ impl Announced {
         }
     }
 
+    /// How many items there are.
+    pub(crate) fn count(&self) -> u32 {
+        self.items
+    }
+
     /// The number of the board after the root's move to this square, where it is an item.
     pub(crate) fn number_of_move(&self, square: Square) -> Option<u32> {
         let below = self.below_move(square)?;

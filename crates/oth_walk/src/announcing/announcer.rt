@@ -1,9 +1,11 @@
-//! One thread's announcing of the items that it is about to search.
+//! One thread's announcing of the items that it is about to search, and what it has found of each.
 ghost use Rattle.std.specs.Prelude.{◌≡◌};
 
 use super::announced::Announced;
+use super::found_items::FoundItems;
 use oth_rules::{Board, Square};
 use oth_search::{Cells, Solved};
+use std::alloc::Global;
 
 /// What a thread that searches a board announces: it tells where it begins to search a board and where that ends, and
 /// hears which item it has to tell the gate of.
@@ -14,15 +16,18 @@ pub struct Announcer<'a> {
     square: Square,
     // The item that it has announced and is searching.
     open: Option<u32>,
+    found: FoundItems,
 }
 
 impl<'a> Announcer<'a> {
-    /// An announcer that is searching nothing.
-    pub fn of(announced: &'a Announced) -> Announcer<'a> {
+    /// An announcer that is searching nothing, and has found nothing. Where there is no memory it keeps nothing of what
+    /// it finds.
+    pub fn of(alloc: Global, announced: &'a Announced) -> Announcer<'a> {
         Announcer {
             announced,
             square: Square::numbered(0),
             open: None,
+            found: FoundItems::of(alloc, announced.count()),
         }
     }
 
@@ -36,14 +41,12 @@ impl<'a> Announcer<'a> {
         self.square
     }
 
-    /// The number of the board after that move, where it is an item.
-    pub(crate) fn number_of_move(&self) -> Option<u32> {
-        self.announced.number_of_move(self.square)
-    }
-
-    /// The number of this board after that move and a reply, where it is an item.
-    pub(crate) fn number_of(&self, board: &Board) -> Option<u32> {
-        self.announced.number_of(self.square, board)
+    /// What the thread has found of the item of this number, and `known`.
+    pub(crate) fn known_of_item(&self, number: u32, known: &Solved) -> Solved
+        ensures board { result.board ≡ known.now.board }
+        ensures scoring { result.scoring ≡ known.now.scoring }
+    {
+        self.found.known_of(number, known)
     }
 
     /// The number of this board after the root's move to the square and a reply, where it is an item.
@@ -65,7 +68,7 @@ impl<'a> Announcer<'a> {
     ) -> Option<(u32, Solved)>
         ensures fixed { C.fixed cells.new ≡ C.fixed cells.old }
     {
-        match self.number_of_move() {
+        match self.announced.number_of_move(self.square) {
             Some(number) => self.begin_item(number, known, cells),
             None => None,
         }
@@ -75,7 +78,7 @@ impl<'a> Announcer<'a> {
     pub(crate) fn begin<C: Cells>(&mut self, known: &Solved, cells: &mut C) -> Option<(u32, Solved)>
         ensures fixed { C.fixed cells.new ≡ C.fixed cells.old }
     {
-        match self.number_of(&known.board) {
+        match self.announced.number_of(self.square, &known.board) {
             Some(number) => self.begin_item(number, known, cells),
             None => None,
         }
@@ -94,8 +97,9 @@ impl<'a> Announcer<'a> {
             return None;
         }
         self.open = Some(number);
+        let known = known.awake();
         let told = Solved::looked_up(&known.board, cells, known.scoring);
-        Some((number, known.joined(&told).awake()))
+        Some((number, self.known_of_item(number, &known).joined(&told)))
     }
 
     /// The gate has heard that the search of the item begins.
@@ -103,25 +107,26 @@ impl<'a> Announcer<'a> {
         self.announced.tell(number);
     }
 
-    /// The search of the board after the root's move has ended. Returns its number, where it is an item that the caller
-    /// announced.
-    pub(crate) fn end_move(&mut self) -> Option<u32> {
+    /// The search of the board after the root's move has ended, and found these bounds. Returns its number, where it is
+    /// an item that the caller announced.
+    pub(crate) fn end_move(&mut self, found: &Solved) -> Option<u32> {
         match self.announced.number_of_move(self.square) {
-            Some(_) => self.open.take(),
+            Some(number) => self.end_item(number, found),
             None => None,
         }
     }
 
     /// As `end_move`, of a board below the move.
-    pub(crate) fn end(&mut self, board: &Board) -> Option<u32> {
-        match self.announced.number_of(self.square, board) {
-            Some(_) => self.open.take(),
+    pub(crate) fn end(&mut self, found: &Solved) -> Option<u32> {
+        match self.announced.number_of(self.square, &found.board) {
+            Some(number) => self.end_item(number, found),
             None => None,
         }
     }
 
-    /// The search of the item has ended. Returns its number, where the caller announced it.
-    pub(crate) fn end_item(&mut self) -> Option<u32> {
+    /// As `end_move`, of the item of this number.
+    pub(crate) fn end_item(&mut self, number: u32, found: &Solved) -> Option<u32> {
+        self.found.keep(number, found);
         self.open.take()
     }
 }

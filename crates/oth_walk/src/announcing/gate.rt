@@ -33,7 +33,8 @@ pub trait Gate: Sync {
     }
 
     /// The table, and what the calling thread has found itself, give these bounds of the item's board, after a forced
-    /// pass where there is one. The `before` of the item follows, and its first search.
+    /// pass where there is one. The `before` of the item follows, and its first search. That the board is the item's is
+    /// tested, and no clause says so.
     fn known_before(&self, _task: u32, _known: &Solved) {}
 
     /// That search has found these bounds of the item's board: all scores where it was given up. The `after` of the

@@ -55,12 +55,10 @@ impl<'w, G: Gate, C: Cells> RootPeers<C> for Peers<'w, G> {
             self.announcer.tell(number);
         }
         let found = child.narrowed_by_abdada(window, cells, self);
-        if let Some(number) = self.announcer.end_move() {
+        if let Some(number) = self.announcer.end_move(&found) {
             self.gate.known_after(number, &found.awake());
             self.gate.after(number);
         }
-        let number = self.announcer.number_of_move();
-        self.keep(number, &found);
         put(&found, cells);
         self.raise_by(&RootMove {
             square,

@@ -44,13 +44,11 @@ impl<'w, G: Gate, C: Cells> TreePeers<C> for Peers<'w, G> {
     }
 
     fn end(&mut self, found: &Solved) {
-        if let Some(number) = self.announcer.end(&found.board) {
+        if let Some(number) = self.announcer.end(found) {
             self.gate.known_after(number, &found.awake());
             self.gate.after(number);
         }
         self.hints.end(&found.board);
-        let number = self.announcer.number_of(&found.board);
-        self.keep(number, found);
     }
 
     fn enter(&mut self, board: &Board, window: NullWindow) -> usize {

@@ -68,7 +68,7 @@ fn check_settled_beside<R: AllocGlobal + Abort>(
         root_bound: RootBound::of(&floor, seat),
         hints: HintSeat::of(hints),
         bounds: BoundsSeat::of(bounds),
-        announcer: Announcer::of(&announced),
+        announcer: Announcer::of(rt.alloc(), &announced),
     };
     let mut worker = Worker::of(&shared, rt.alloc(), NoCells, seats, &Open);
     if sharing.is_over_table() {
@@ -164,7 +164,7 @@ fn a_move_that_may_be_as_good_as_the_floor_is_not_settled(rt: HostRuntime) {
         root_bound: RootBound::of(&floor, seat),
         hints: HintSeat::of(&hints),
         bounds: BoundsSeat::of(&bounds),
-        announcer: Announcer::of(&announced),
+        announcer: Announcer::of(rt.alloc(), &announced),
     };
     let search = Search::of(&moves, &frontier, Sharing::Apart);
     let mut worker = Worker::of(&search, rt.alloc(), NoCells, seats, &Open);

@@ -3,7 +3,7 @@
 use super::announcing::image;
 use oth_pieces::{Frontier, awake};
 use oth_rules::{Board, Scoring};
-use oth_search::{Cells, Entry, Solved};
+use oth_search::{Cells, Entry, Interval, Solved};
 use oth_walk::{Gate, ItemSet};
 use std::process::Abort;
 use std::sync::atomic::{AtomicU64, Ordering};
@@ -102,11 +102,13 @@ impl Tally {
     }
 }
 
-// Looks at each call whether something was found of the item.
+// Looks at each call whether something was found of the item, and counts the items whose search is told to have found
+// nothing.
 #[derive(Drop)]
 pub(super) struct Noticing<'n> {
     found: &'n ItemSet,
     tally: Tally,
+    given_up: AtomicU64,
 }
 
 impl<'n> Noticing<'n> {
@@ -114,6 +116,7 @@ impl<'n> Noticing<'n> {
         Noticing {
             found,
             tally: Tally::new(),
+            given_up: AtomicU64::new(0),
         }
     }
 
@@ -126,10 +129,11 @@ impl<'n> Noticing<'n> {
     }
 
     // As `check`, where nobody else ends the search of an item: those of which nothing was found came last, since no
-    // search needed them.
+    // search needed them, and of each other one the gate was told what its search found.
     pub(super) fn check_alone(&self, rt: &impl Abort, items: u32) -> Counts {
         let counts = self.check(rt, items);
         assert!(rt; counts.left == 0, "{counts:?}");
+        assert!(rt; self.given_up.load(Ordering::SeqCst) == 0);
         counts
     }
 }
@@ -141,6 +145,12 @@ impl<'n> Gate for Noticing<'n> {
 
     fn after(&self, task: u32) {
         self.tally.end(task, self.found.has(task));
+    }
+
+    fn known_after(&self, _task: u32, found: &Solved) {
+        if found.interval == Interval::all() {
+            self.given_up.fetch_add(1, Ordering::SeqCst);
+        }
     }
 }
 

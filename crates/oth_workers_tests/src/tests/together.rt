@@ -7,7 +7,7 @@ use oth_pieces::{Floor, Frontier};
 use oth_pool::run_workers;
 use oth_rules::samples::board;
 use oth_rules::{Board, Scoring};
-use oth_search::{Answer, Kind, solve_with};
+use oth_search::{Answer, Kind, NoPeers, RootMoves, Solved, solve_moves};
 use oth_table::{SharedTable, TableCells};
 use oth_walk::{Gate, Open, Sharing, worker_cells};
 use std::alloc::Global;
@@ -135,9 +135,12 @@ const ROWS: [([u64; 2], i8, u64); 5] = [
 ];
 
 // The floor of the board of these discs, when sixteen workers over one cell have searched all its items, and the answer
-// by the caller over what they left in that cell.
+// by the caller's search of all its moves over what they left in that cell.
 fn by_sixteen<R: Threads + Sync>(rt: &R, alloc: Global, words: [u64; 2]) -> Option<(i8, Answer)> {
     let root = board(words)?;
+    if !root.can_move() {
+        return None;
+    }
     let frontier = Frontier::of(&root, 2);
     let Ok((floor, mut seat)) = Floor::new(alloc, &root, Scoring::Winner) else {
         return None;
@@ -160,7 +163,8 @@ fn by_sixteen<R: Threads + Sync>(rt: &R, alloc: Global, words: [u64; 2]) -> Opti
         return None;
     }
     let mut cells = worker_cells(alloc, 0, Sharing::Apart, &mut access);
-    let answer = solve_with(root, &mut cells, Scoring::Winner);
+    let moves = RootMoves::of(&Solved::unknown(root, Scoring::Winner), &[]);
+    let answer = solve_moves(moves, &mut cells, &mut NoPeers);
     Some((floor.read(&mut seat), answer))
 }
 

@@ -13,15 +13,34 @@ use super::{BOARDS, WITH_PASSES};
 use oth_pieces::Frontier;
 use oth_pieces::floor::Root;
 use oth_rules::{Board, Scoring, Square};
-use oth_search::{RootMoves, Solved, solve_moves, value_of};
+use oth_search::{Answer, Cells, RootMoves, Solved, solve_moves, value_of};
 use oth_walk::{
-    Alone, Announced, Announcer, BoundsSeat, HintSeat, Hints, ItemSet, MoveBounds, RootBound,
+    Alone, Announced, Announcer, BoundsSeat, Gate, HintSeat, Hints, ItemSet, MoveBounds, RootBound,
     Search, Seats, Sharing, Worker, search_item, settle_all,
 };
 use std::alloc::Global;
 use std::process::Abort;
 use std::sync::atomic::{AtomicU64, Ordering};
 use std::thread::{Threads, join};
+
+// The answer of the board by the only worker of a search, which announces its items to the gate.
+pub(super) fn by_only_worker<R: AllocGlobal + Abort, C: Cells + Drop, G: Gate>(
+    rt: &R,
+    root: &Board,
+    mut cells: C,
+    gate: &G,
+) -> Answer
+    requires few { empty_count root.now ≤ 30 }
+    requires some { can_move root.now ≡ true }
+{
+    let alloc = rt.alloc();
+    let announced = Announced::of(root, None, gate);
+    let mut alone = Alone::of(alloc, gate, &announced);
+    let moves = RootMoves::of(&Solved::unknown(*root, Scoring::Winner), &[]);
+    let answer = solve_moves(moves, &mut cells, &mut alone);
+    announced.finish(gate);
+    answer
+}
 
 // The only worker of a search answers the board, and announces each item before it finds anything of it.
 fn check_alone<R: AllocGlobal + Abort>(rt: &R, root: &Board) -> Counts
@@ -31,14 +50,42 @@ fn check_alone<R: AllocGlobal + Abort>(rt: &R, root: &Board) -> Counts
     let frontier = Frontier::of(root, 2);
     let found = ItemSet::new();
     let gate = Noticing::of(&found);
-    let announced = Announced::of(root, None, &gate);
-    let mut cells = Noting::of(&frontier, &found, root.empties());
-    let mut alone = Alone::of(&gate, &announced);
-    let moves = RootMoves::of(&Solved::unknown(*root, Scoring::Winner), &[]);
-    let answer = solve_moves(moves, &mut cells, &mut alone);
-    announced.finish(&gate);
+    let cells = Noting::of(&frontier, &found, root.empties());
+    let answer = by_only_worker(rt, root, cells, &gate);
     assert!(rt; answer == answer_of(rt, root, Scoring::Winner));
     gate.check_alone(rt, frontier.len())
+}
+
+// The floor that one of several workers comes to, who is left alone with all items, and announces them to the gate.
+pub(super) fn by_one_of_several<R: AllocGlobal + Abort, C: Cells + Drop, G: Gate>(
+    rt: &R,
+    root: &Board,
+    sharing: Sharing,
+    cells: C,
+    gate: &G,
+) -> i8
+    requires few { empty_count root.now ≤ 30 }
+{
+    let frontier = Frontier::of(root, 2);
+    let announced = Announced::of(root, Some(&frontier), gate);
+    let moves = RootMoves::of(&Solved::unknown(*root, Scoring::Winner), &[]);
+    let search = Search::of(&moves, &frontier, sharing);
+    let (floor, seat) = floor_of(rt, root);
+    let seats = Seats {
+        root_bound: RootBound::of(&floor, seat),
+        hints: HintSeat::none(),
+        bounds: BoundsSeat::none(),
+        announcer: Announcer::of(rt.alloc(), &announced),
+    };
+    let mut worker = Worker::of(&search, rt.alloc(), cells, seats, gate);
+    for number in 0..frontier.len() {
+        if let Some(item) = frontier.entry(number) {
+            search_item(&search, number, &item, &mut worker);
+        }
+    }
+    settle_all(&mut worker);
+    announced.finish(gate);
+    worker.floor()
 }
 
 // One of several workers, who is left alone, settles each move, and announces each item before it finds anything of it.
@@ -48,26 +95,9 @@ fn check_worker<R: AllocGlobal + Abort>(rt: &R, root: &Board, sharing: Sharing)
     let frontier = Frontier::of(root, 2);
     let found = ItemSet::new();
     let gate = Noticing::of(&found);
-    let announced = Announced::of(root, Some(&frontier), &gate);
-    let moves = RootMoves::of(&Solved::unknown(*root, Scoring::Winner), &[]);
-    let search = Search::of(&moves, &frontier, sharing);
-    let (floor, seat) = floor_of(rt, root);
-    let seats = Seats {
-        root_bound: RootBound::of(&floor, seat),
-        hints: HintSeat::none(),
-        bounds: BoundsSeat::none(),
-        announcer: Announcer::of(&announced),
-    };
     let cells = Noting::of(&frontier, &found, root.empties());
-    let mut worker = Worker::of(&search, rt.alloc(), cells, seats, &gate);
-    for number in 0..frontier.len() {
-        if let Some(item) = frontier.entry(number) {
-            search_item(&search, number, &item, &mut worker);
-        }
-    }
-    settle_all(&mut worker);
-    announced.finish(&gate);
-    assert!(rt; worker.floor() == answer_of(rt, root, Scoring::Winner).score);
+    let floor = by_one_of_several(rt, root, sharing, cells, &gate);
+    assert!(rt; floor == answer_of(rt, root, Scoring::Winner).score);
     gate.check_alone(rt, frontier.len());
 }
 
@@ -91,7 +121,7 @@ fn work(shared: &Shared, alloc: Global, root_bound: RootBound) -> i8 {
         root_bound,
         hints: HintSeat::of(shared.hints),
         bounds: BoundsSeat::of(shared.bounds),
-        announcer: Announcer::of(shared.announced),
+        announcer: Announcer::of(alloc, shared.announced),
     };
     let empties = shared.search.moves.root().board.empties();
     let cells = Noting::of(frontier, shared.found, empties);
@@ -165,7 +195,7 @@ fn check_valued<R: AllocGlobal + Abort>(rt: &R, child: &Board, sibling: &Option<
     let gate = Noticing::of(&found);
     let announced = Announced::of(child, None, &gate);
     let mut cells = Noting::of(&frontier, &found, child.empties());
-    let mut alone = Alone::of(&gate, &announced);
+    let mut alone = Alone::of(rt.alloc(), &gate, &announced);
     let known = Solved::unknown(*child, Scoring::Winner);
     let valued = value_of(&known, sibling.as_ref(), &mut cells, &mut alone);
     announced.finish(&gate);

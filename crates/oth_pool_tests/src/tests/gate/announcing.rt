@@ -7,17 +7,22 @@ use super::knowing::Knowing;
 use oth_pieces::Frontier;
 use oth_pool::solve;
 use oth_rules::samples::least_moves_from;
-use oth_rules::{Board, Scoring};
-use oth_search::{Answer, Solved};
+use oth_rules::{Board, Scoring, Square};
+use oth_search::{Answer, Interval, Solved};
 use oth_walk::{Gate, ItemSet};
 use std::process::Abort;
 use std::sync::atomic::{AtomicU64, Ordering};
 use std::thread::Threads;
 
+// A board of 9 empty squares, where c3 ends the game and three other moves don't.
+const ENDING: [u64; 2] = [0xfffd_6ff5_fbdb_d9ff, 0x0400_0400];
+
 // Hears of each item, and counts the calls that came a second time or without the one before. Of an item that is
-// searched it hears what is known, right before each call.
+// searched it hears what is known, right before each call: it counts too what is of another board, and a finished board
+// of which nothing was found.
 #[derive(Drop)]
 struct Once {
+    root: Board,
     begun: ItemSet,
     ended: ItemSet,
     items: AtomicU64,
@@ -26,8 +31,9 @@ struct Once {
 }
 
 impl Once {
-    fn new() -> Once {
+    fn of(root: &Board) -> Once {
         Once {
+            root: *root,
             begun: ItemSet::new(),
             ended: ItemSet::new(),
             items: AtomicU64::new(0),
@@ -39,6 +45,11 @@ impl Once {
     // Whether it has heard once of each of `items`.
     fn heard(&self, items: u64) -> bool {
         self.wrong.load(Ordering::SeqCst) == 0 && self.items.load(Ordering::SeqCst) == items
+    }
+
+    // Whether this is the board of the item of this number.
+    fn is_item(&self, task: u32, board: &Board) -> bool {
+        self.root.empties() <= 30 && Frontier::of(&self.root, 2).item(task) == Some(*board)
     }
 
     // Counts this call, if it is one too many.
@@ -60,12 +71,14 @@ impl Gate for Once {
     }
 
     fn known_before(&self, task: u32, known: &Solved) {
-        self.count_wrong(self.begun.has(task));
+        self.count_wrong(self.begun.has(task) || !self.is_item(task, &known.board));
         self.known.begin(known);
     }
 
     fn known_after(&self, task: u32, found: &Solved) {
         self.count_wrong(!self.begun.has(task) || self.ended.has(task));
+        self.count_wrong(!self.is_item(task, &found.board));
+        self.count_wrong(found.board.is_over() && found.interval == Interval::all());
         self.known.end(found);
     }
 }
@@ -78,7 +91,7 @@ fn check_heard_by<R: Threads + Sync + AllocGlobal + Abort>(
     workers: u8,
     cells: u32,
 ) {
-    let gate = Once::new();
+    let gate = Once::of(&alone.board);
     let alloc = rt.alloc();
     let found = solve(
         rt,
@@ -111,6 +124,19 @@ fn passes_below(root: &Board) -> bool {
     false
 }
 
+// Whether a move ends the game, so that the board after it is an item itself.
+fn ends_by_a_move(root: &Board) -> bool {
+    for number in 0..64 {
+        if root
+            .play(Square::numbered(number))
+            .is_some_and(|child| child.is_over())
+        {
+            return true;
+        }
+    }
+    false
+}
+
 // It does so by each number of workers and over each table.
 fn check_heard_once<R: Threads + Sync + AllocGlobal + Abort>(rt: &R, root: &Board) {
     let alone = answer_of(rt, root, Scoring::Winner);
@@ -135,6 +161,9 @@ fn each_crew_announces_each_item_once(rt: HostRuntime) {
         assert!(rt; root.can_move() && passes_below(&root));
         check_heard_once(&rt, &root);
     }
+    let ending = board_of(&rt, ENDING);
+    assert!(rt; ends_by_a_move(&ending));
+    check_heard_once(&rt, &ending);
     let passing = board_of(&rt, WITH_PASSES[0]).pass();
     assert!(rt; !passing.can_move());
     check_heard_once(&rt, &passing);

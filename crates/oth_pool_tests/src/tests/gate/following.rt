@@ -103,7 +103,7 @@ fn workers_tell_how_far_they_are(rt: HostRuntime) {
         let gate = Following::new();
         let score = followed(&rt, &board, 4, cells, &gate);
         assert!(rt; gate.at_first.load(Ordering::SeqCst) == 0);
-        assert!(rt; gate.settled.load(Ordering::SeqCst) <= moves);
+        assert!(rt; gate.settled.load(Ordering::SeqCst) == moves);
         assert!(rt; gate.lower.load(Ordering::SeqCst) == score);
         assert!(rt; gate.upper.load(Ordering::SeqCst) >= score);
     }
