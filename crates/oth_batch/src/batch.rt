@@ -27,7 +27,7 @@ pub struct Batch<'b, R, G> {
     pub gate: &'b G,
     /// Is asked for each board before it is searched.
     pub book: Option<&'b Book>,
-    /// The most workers that solve boards at once. Who asks for an answer meanwhile may solve that board itself.
+    /// The most workers that do jobs at once. Who asks for an answer meanwhile may solve that board itself.
     pub workers: u8,
     /// The most cells of each worker's table.
     pub cells: u32,

@@ -25,7 +25,7 @@ pub struct Crew<'b, R, G> {
     jobs: RwLock<Jobs<'b, R, G>>,
     given: Mutex<Given>,
     changed: Condvar,
-    // How many threads there are.
+    // How many threads were asked for.
     helpers: AtomicU64,
 }
 
@@ -60,7 +60,7 @@ impl<'b, R: Wait + Threads + Sync, G: Gate> Crew<'b, R, G> {
         self.jobs.read(rt)
     }
 
-    /// How many threads do the jobs.
+    /// How many threads were asked for. Where some could not be made, fewer do the jobs, of later batches too.
     pub fn helpers(&self) -> usize {
         self.helpers.load(Ordering::SeqCst) as usize
     }

@@ -1,6 +1,7 @@
 //! How boards are shared out among workers, by how long they take to solve.
 
-ghost use Rattle.std.specs.Prelude.{◌≤◌};
+ghost use Rattle.std.specs.Prelude.{◌≡◌, ◌≤◌};
+ghost use Rattle.oth_rules.specs.Position.{empty_count};
 
 use crate::asked::Asked;
 use crate::tuning::{
@@ -14,11 +15,12 @@ pub fn effort(asked: Asked, board: &Board) -> u64 {
     effort_of(empties_to_search(asked, board))
 }
 
-/// Returns how many of `workers` workers pay for a board that no batch has: all of them, or one where its search takes
-/// less time than the start of a further thread.
+/// Returns how many of `workers` workers pay for a board that no batch has: all of them from `ALL_WORKERS_MIN_EMPTIES`
+/// empty squares on, and one where its search takes less time than the start of a further thread.
 pub fn workers_for(asked: Asked, board: &Board, workers: u8) -> u8
     ensures few { result ≤ workers }
     ensures some { 1 ≤ workers → 1 ≤ result }
+    ensures all { ALL_WORKERS_MIN_EMPTIES ≤ empty_count board.now → result ≡ workers }
 {
     if empties_to_search(asked, board) < ALL_WORKERS_MIN_EMPTIES {
         workers.min(1)
@@ -28,7 +30,9 @@ pub fn workers_for(asked: Asked, board: &Board, workers: u8) -> u8
 }
 
 /// The empty squares of a board whose answer takes as long as what is asked of this one.
-pub(crate) fn empties_to_search(asked: Asked, board: &Board) -> u8 {
+pub(crate) fn empties_to_search(asked: Asked, board: &Board) -> u8
+    ensures { empty_count board.now ≤ result }
+{
     match asked {
         Asked::Answer | Asked::Game => board.empties(),
         Asked::Scores => board.empties() + EMPTIES_FOR_SCORES,

@@ -1,6 +1,7 @@
 //! Boards that wait together are answered as one worker alone answers them.
 
 mod games;
+mod helping;
 mod jobs;
 mod recent;
 mod refused;

@@ -1,11 +1,11 @@
 //! Games are analysed for whoever asks, while other workers analyse others.
 
 use super::batch;
-use oth_batch::Jobs;
+use oth_batch::{Jobs, known_by};
 use oth_book::Book;
 use oth_rules::samples::{after_least_moves, least_moves_from};
 use oth_rules::{Board, Scoring, Square};
-use oth_search::solve_alone;
+use oth_search::{Answer, solve_alone};
 use oth_text::{Position, Side, Turn};
 use std::alloc::Global;
 use std::test::Fail;
@@ -104,6 +104,33 @@ fn each_game_is_analysed_while_others_are(rt: HostRuntime) -> Result<(), Fail> {
             "{workers} workers, {cells} cells"
         );
     }
+    Ok(())
+}
+
+// So no board that is asked for has fewer empty squares than the one before it.
+#[test]
+fn a_game_is_solved_from_its_last_turn_on(rt: HostRuntime) -> Result<(), Fail> {
+    let Some(turns) = turns_from(
+        rt.alloc(),
+        after_least_moves(8).unwrap_or(Position::start().board),
+    ) else {
+        panic!(rt; "no game")
+    };
+    let (mut asked, mut empties, mut falls) = (0usize, 0u8, false);
+    let nothing = Book::new(rt.alloc(), Scoring::Winner);
+    let known = known_by(
+        nothing,
+        turns.as_slice(),
+        |board: &Board, _: &Book| -> Option<Answer> {
+            asked = asked.saturating_add(1);
+            falls |= board.empties() < empties;
+            empties = board.empties();
+            solve_alone(board, Scoring::Winner).ok()
+        },
+    );
+    assert!(rt; turns.len() >= 4 && asked == turns.len() + turns.len());
+    assert!(rt; empties == 8 && !falls);
+    assert!(rt; right_answers(&known, turns.as_slice(), Scoring::Winner) == Some(asked));
     Ok(())
 }
 

@@ -1,10 +1,12 @@
 //! Boards are answered for whoever asks, while other workers solve them.
 
+use super::helping::few;
 use super::{batch, images};
 use oth_batch::{Asked, Crew, Jobs};
-use oth_rules::Scoring;
+use oth_rules::{Board, Scoring};
 use oth_search::{NoCells, scores_with, solve_alone};
 use std::test::Fail;
+use std::thread::Threads;
 
 #[test]
 fn each_board_is_answered_while_others_solve(rt: HostRuntime) -> Result<(), Fail> {
@@ -86,23 +88,29 @@ fn nobody_is_waited_for_where_nobody_helps(rt: HostRuntime) -> Result<(), Fail> 
     Ok(())
 }
 
-#[test]
-fn no_job_is_begun_after_a_stop(rt: HostRuntime) -> Result<(), Fail> {
-    let Some(boards) = images(rt.alloc(), 10) else {
-        panic!(rt; "no boards")
-    };
-    let batch = batch(&rt, 4, 64, Scoring::Winner);
-    let Some(jobs) = Jobs::of(&batch, Asked::Answer, boards.as_slice()) else {
-        panic!(rt; "no jobs")
+// Whether there are jobs of these boards, and none is begun after a stop.
+fn none_is_begun_after_a_stop<T: Threads + Sync + AllocGlobal>(rt: &T, boards: &[Board]) -> bool {
+    let batch = batch(rt, 4, 64, Scoring::Winner);
+    let Some(jobs) = Jobs::of(&batch, Asked::Answer, boards) else {
+        return false;
     };
     jobs.stop();
     jobs.do_all();
-    assert!(rt;
-        boards
-            .as_slice()
-            .iter()
-            .all(|board| jobs.found(board).is_none())
-    );
+    for board in boards {
+        if jobs.found(board).is_some() {
+            return false;
+        }
+    }
+    true
+}
+
+#[test]
+fn no_job_is_begun_after_a_stop(rt: HostRuntime) -> Result<(), Fail> {
+    let (Some(few), Some(many)) = (few(rt.alloc()), images(rt.alloc(), 10)) else {
+        panic!(rt; "no boards")
+    };
+    assert!(rt; none_is_begun_after_a_stop(&rt, many.as_slice()));
+    assert!(rt; none_is_begun_after_a_stop(&rt, few.as_slice()));
     Ok(())
 }
 

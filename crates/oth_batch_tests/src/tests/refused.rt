@@ -12,7 +12,7 @@ use std::test::Fail;
 
 #[test]
 fn a_batch(rt: HostRuntime) -> Result<(), Fail> {
-    let Some(boards) = images(rt.alloc(), 8) else {
+    let Some(boards) = images(rt.alloc(), 10) else {
         return Ok(());
     };
     let answers = batch(&rt, 2, 64, Scoring::Discs).answers(&boards);
@@ -23,16 +23,24 @@ fn a_batch(rt: HostRuntime) -> Result<(), Fail> {
 
 #[test]
 fn boards_that_others_solve_too(rt: HostRuntime) -> Result<(), Fail> {
-    let Some(boards) = images(rt.alloc(), 8) else {
+    let Some(boards) = images(rt.alloc(), 10) else {
         return Ok(());
     };
     let batch = batch(&rt, 2, 64, Scoring::Winner);
     let Some(jobs) = Jobs::of(&batch, Asked::Answer, boards.as_slice()) else {
         return Ok(());
     };
+    // One request at the most is refused, so the eight images of one board at the most have no answer.
     let mut work = || {
-        boards.as_slice().iter().all(|board| jobs.answer_of(&rt, board)
-            == solve_alone(board, Scoring::Winner).ok())
+        let mut unanswered = 0usize;
+        for board in boards.as_slice() {
+            match jobs.answer_of(&rt, board) {
+                Some(answer) if solve_alone(board, Scoring::Winner).ok() == Some(answer) => {}
+                Some(_) => return false,
+                None => unanswered = unanswered.saturating_add(1),
+            }
+        }
+        unanswered <= 8
     };
     assert!(rt; jobs.beside(0, &mut work));
     Ok(())
