@@ -15,7 +15,6 @@ use Rattle.oth_book.specs.Add.{HasNoRoom, IsAbsent, Keeps}
 use Rattle.oth_book.specs.Book.{IsTrueBook}
 use Rattle.oth_book.specs.Contents.{Contents}
 use Rattle.oth_book.specs.declared.add.AddError.{AddError}
-use Rattle.oth_book.specs.declared.add.AddError.TheVariants as refused
 use Rattle.oth_book.proofs.KeepLemmas.{exact_stays, keeps_same, keeps_trans}
 use Rattle.oth_main.specs.Addition.{AnswersLine, FindsNoRoom, HasAdded, HasNoPlace, IsAdding, IsAnswered, IsRefusedLine, StopsBy, StopsReading}
 use Rattle.oth_main.specs.declared.book.addition.Stop.{Stop}

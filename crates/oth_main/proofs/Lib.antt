@@ -1,4 +1,5 @@
 pub mod AdditionLemmas
 pub mod ApartLemmas
 pub mod FileLemmas
+pub mod HeardLemmas
 pub mod JoinedLemmas

@@ -1,6 +1,7 @@
 //! Sources that are read one after the other.
 
-ghost use Rattle.std.specs.Prelude.{◌≡◌, ◌++◌, ◌∷◌, ℕ, List, [], Some, false, map, option_map, IsFalse, IsTrue, OnOk};
+ghost use Rattle.std.specs.Prelude.{◌≡◌, ◌++◌, ◌∷◌, ℕ, List, [], Some, false, map, option_map};
+ghost use Rattle.std.specs.Prelude.{IsFalse, IsTrue, OnErr, OnOk};
 ghost use Rattle.std.specs.List.{flat_map};
 ghost use Rattle.oth_main.specs.Joined.{ended, joined};
 ghost use Rattle.oth_run.specs.Report.{lines_of, report};
@@ -39,10 +40,12 @@ impl<R: Source + Drop> Joined<R> {
         }
     }
 
-    /// Puts a source behind all others, if there is memory for it.
+    /// Puts a source behind all others, if there is memory for it; else the others stay as they are.
     pub fn add(&mut self, source: R) -> Result<(), AllocError>
         ensures source { self.new.source ≡ self.old.source }
+        ensures place { self.new.place ≡ self.old.place }
         ensures later { OnOk result (self.new.later.items ≡ self.old.later.items ++ source ∷ []) }
+        ensures refused { OnErr result (self.new.later.items ≡ self.old.later.items) }
         ensures begun { self.new.is_begun ≡ self.old.is_begun }
         ensures works { ⟦<Joined<R> as Source>⟧.failed self.new ≡ ⟦<Joined<R> as Source>⟧.failed self.old }
     {

@@ -1,7 +1,7 @@
 //! The engine over bytes: it reads lines, and writes a report of each. Workers, tables, a book and the sizes of
 //! `tuning` affect speed only: the report depends on the command, the scoring and the input alone.
 //!
-//! `running` has the run over all of an input: `Engine` (`engine`) goes through it in chunks of at most 65,536 bytes
+//! `running` has the run over all of an input: `Engine` (`engine`) goes through it in chunks of at most 262,144 bytes
 //! (`buffer`), with the line that has begun (`line`: a line of any length in fixed space, read in parts by the readers
 //! of `oth_text`, and its reply) and the bytes that wait to be written (`waiting`, at most 16,384). What waits is
 //! written before each read, and before and after each line whose answer may take time. `lines` cuts bytes into lines.

@@ -17,8 +17,9 @@ use std::rt::Files;
 pub const STANDARD_INPUT: &str = "-";
 
 /// Standard input, where the words name no file to report the lines of; else those files in their order, each of which
-/// is opened by itself, also where it is named twice, and `-` is standard input. The settings are tested before a file
-/// is opened. Where they are refused or a file can't be opened, that is told, and the result is the status: 2 or 1.
+/// is opened by itself, also where it is named twice, and `-` is standard input. No clause can say which file an input
+/// is, only how many there are. The settings are tested before a file is opened. Where they are refused or a file can't
+/// be opened, that is told, and the result is the status: 2 or 1.
 pub fn inputs_of<T: Files + AllocGlobal, I: Read + Copy + Drop, E: Sink>(
     rt: &T,
     stdin: I,

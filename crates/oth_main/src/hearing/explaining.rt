@@ -1,7 +1,7 @@
 //! The faults that a report tells, in words.
 
-ghost use Rattle.std.specs.Prelude.{◌≡◌, ◌≢◌, ◌≤◌, IfSome, IsNone, length};
-ghost use Rattle.oth_main.specs.Explained.{EndsWithFault, IsFaultText};
+ghost use Rattle.std.specs.Prelude.{◌≡◌, ◌≢◌, ◌≤◌, ◌<◌, ◌+◌, ◌-◌, ◌^◌, ◌++◌, ◌∷◌, [], IfSome, IsNone, length, take};
+ghost use Rattle.oth_main.specs.Explained.{EndsWithFault, IsFaultText, IsNumberedBy};
 ghost use Rattle.oth_text.specs.FaultLine.{fault_line_of, moves_fault_line_of, transcript_fault_line_of};
 
 use arrayvec::ArrayVec;
@@ -10,6 +10,7 @@ use oth_text::{
 };
 use oth_words::Command;
 use std::fmt;
+use std::marker::Model;
 
 // The most bytes of a report's line that are kept: a fault has fewer, with the number of its line before it.
 const HEARD_LEN: usize = 64;
@@ -55,9 +56,21 @@ pub struct Faults {
     number: u64,
 }
 
+impl Model for Faults {
+    ghost use Rattle.oth_main.specs.Explained.{Heard};
+
+    ghost Value = { Heard };
+
+    ghost view = { λ f. record { command = f.command; line = f.line.items; number = f.number } };
+}
+
 impl Faults {
     /// Nothing was heard of the command's report.
-    pub fn of(command: Command) -> Faults {
+    pub fn of(command: Command) -> Faults
+        ensures command { result.command ≡ command }
+        ensures line { result.line ≡ [] }
+        ensures number { result.number ≡ 1 }
+    {
         Faults {
             command,
             line: ArrayVec::new(),
@@ -66,38 +79,50 @@ impl Faults {
     }
 
     /// Takes the next byte of the report. At the end of a line it returns the fault with which the line ends, if it is
-    /// one that the command has. The number is that of the line of the input.
+    /// one that the command has. The number is that of the line of the input. Of a line the first 64 bytes are kept.
     pub fn hear(&mut self, byte: u8) -> Option<FaultyLine>
+        ensures command { self.new.command ≡ self.old.command }
         ensures within { byte ≢ 10 → IsNone result }
-        ensures told { IfSome result (λ told. EndsWithFault self.old.line.items told.fault) }
+        ensures line { byte ≢ 10 → self.new.line ≡ take 64 (self.old.line ++ byte ∷ []) }
+        ensures same { byte ≢ 10 → self.new.number ≡ self.old.number }
+        ensures ended { byte ≡ 10 → self.new.line ≡ [] }
+        ensures next { byte ≡ 10 → self.old.number + 1 < 2 ^ 64 → self.new.number ≡ self.old.number + 1 }
+        ensures told { IfSome result (λ told. EndsWithFault self.old.line told.fault) }
+        ensures number { IfSome result (λ told. IsNumberedBy self.old.command self.old.number told.number) }
     {
         if byte != b'\n' {
-            let _ = self.line.try_push(byte);
+            keep(&mut self.line, byte);
             return None;
         }
-        let told = self.told();
+        let told = told(self.command, self.line.as_slice(), self.number);
         self.line.clear();
         self.number = self.number.saturating_add(1);
         told
     }
+}
 
-    // The fault with which the line ends.
-    fn told(&self) -> Option<FaultyLine>
-        ensures { IfSome result (λ told. EndsWithFault self.now.line.items told.fault) }
-    {
-        let line = self.line.as_slice();
-        if let Command::Analyse(_) = self.command {
-            let start = start_of_text(line);
-            let fault = game_fault(&line[start..])?;
-            let number = first_number(line);
-            return Some(FaultyLine { number, fault });
-        }
-        let fault = fault_in(self.command, line)?;
-        Some(FaultyLine {
-            number: self.number,
-            fault,
-        })
+// Puts the byte behind what is kept of a line, if there is room for it.
+fn keep(line: &mut ArrayVec<u8, HEARD_LEN>, byte: u8)
+    ensures { line.new.items ≡ take 64 (line.old.items ++ byte ∷ []) }
+{
+    if line.len() < HEARD_LEN {
+        line.push(byte);
     }
+}
+
+// The fault with which a line of the command's report ends, which is the line of this number.
+fn told(command: Command, line: &[u8], number: u64) -> Option<FaultyLine>
+    ensures told { IfSome result (λ told. EndsWithFault line.now told.fault) }
+    ensures number { IfSome result (λ told. IsNumberedBy command number told.number) }
+{
+    if let Command::Analyse(_) = command {
+        let start = start_of_text(line);
+        let fault = game_fault(&line[start..])?;
+        let number = first_number(line);
+        return Some(FaultyLine { number, fault });
+    }
+    let fault = fault_in(command, line)?;
+    Some(FaultyLine { number, fault })
 }
 
 // The fault that is told of a line by a command whose reports have one line for each.

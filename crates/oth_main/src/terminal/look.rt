@@ -132,8 +132,8 @@ fn write_awaited<W: fmt::Write>(f: &mut fmt::Formatter<W>, awaited: &Awaited) ->
     if let Some(search) = &awaited.search {
         let moves = search.root.board.moves().count_ones();
         write!(f, ", {} of {moves} moves settled", search.settled)?;
-        if let Some(known) = search.known_of(board) {
-            write_bounds(f, known.interval)?;
+        if let Some(known) = search.bounds_of(board) {
+            write_bounds(f, known)?;
         }
     } else if let Some((square, search)) = &awaited.after_move {
         write_move(f, board, *square, search)?;

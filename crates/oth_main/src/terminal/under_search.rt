@@ -31,6 +31,14 @@ impl UnderSearch {
         Some(self.root.before_pass(board))
     }
 
+    /// What the mover's score lies between, where the board is the root, or the root comes after its forced pass.
+    pub fn bounds_of(&self, board: &Board) -> Option<Interval>
+        ensures encloses { IfSome result (λ known. Encloses known.lower known.upper
+            (value (score_of self.now.root.scoring) board.now)) }
+    {
+        Some(self.known_of(board)?.interval)
+    }
+
     /// What is known of the board after a move, where the root is that one, or comes after a forced pass there.
     pub fn known_after(&self, board: &Board, square: Square) -> Option<Solved>
         ensures legal { IfSome result (λ s. IsTrue (is_legal board.now square)) }

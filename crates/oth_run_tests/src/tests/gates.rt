@@ -3,6 +3,7 @@
 mod at_once;
 mod counting;
 mod crews;
+mod games;
 
 use super::{NO_FAILURE, settings};
 use counting::{Counting, Heard, searches_of};

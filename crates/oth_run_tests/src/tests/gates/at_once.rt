@@ -75,7 +75,7 @@ fn two_boards_of_a_batch_are_searched_at_once(rt: HostRuntime) -> Result<(), Fai
 }
 
 // A line for each board with its first legal move behind it.
-fn games(alloc: Global, boards: &[Board]) -> Result<Vec<u8>, Fail> {
+pub(super) fn games(alloc: Global, boards: &[Board]) -> Result<Vec<u8>, Fail> {
     let mut input = Vec::new(alloc);
     for board in boards {
         let position = Position {

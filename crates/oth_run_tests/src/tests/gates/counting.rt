@@ -90,6 +90,11 @@ impl Counting {
             && self.left.load(Ordering::SeqCst) == 0
     }
 
+    // Whether this number of searches of boards was begun.
+    pub(super) fn has_begun(&self, boards: u64) -> bool {
+        self.boards.load(Ordering::SeqCst) == boards
+    }
+
     // Whether each of these items was announced once, and its search ended once, and no others.
     pub(super) fn has_heard(&self, all: Heard) -> bool {
         self.boards.load(Ordering::SeqCst) == all.boards
