@@ -119,10 +119,10 @@ typedef struct {
     int8_t upper;
 } oth_bounds;
 
-/* What is known of a board whose search was ended: bounds of its value; the square to play, OTH_NO_SQUARE where there is no
- * move; its legal squares; and at the number of each of these bounds of what the move gives, for who moves. At the other
- * squares stands OTH_NO_SCORE. No move is known to give more than the one to play: no `lower` is greater than the one there.
- * Of several such moves it is the one that seemed best. */
+/* What is known of a board whose search was ended: bounds of its value; the square to play, OTH_NO_SQUARE exactly where there
+ * is no move; its legal squares; and at the number of each of these bounds of what the move gives, for who moves. At the other
+ * squares stands OTH_NO_SCORE. The square to play is a legal one, and no `lower` is greater than the one there. Which one of
+ * several such squares it is, is not promised: the one that seemed best. */
 typedef struct {
     oth_bounds bounds;
     uint8_t first;
@@ -194,8 +194,9 @@ uint32_t oth_scores_over(oth_seat *seat, oth_board board, oth_move_scores *score
  * beside it, the search is ended, and the call returns OTH_STOPPED, writes true bounds of the board's value, and no answer.
  * What it found stays in the table, and a further call from there goes on with it: so `most` may be small, and calls be made,
  * each with more, until there is no more time. It ends a little later than that: at the next board of 11 and more empty
- * squares, or in the guess of the score with which a search begins some milliseconds later. oth_stop_set ends it too. Where it
- * returns OTH_DONE it has written the answer, and no bounds.
+ * squares, or in the guess of the score with which a search begins some milliseconds later. oth_stop_set ends it too, and
+ * nothing else does: OTH_STOPPED says that all `most` boards were looked up, or that the flag was set. Where it returns
+ * OTH_DONE it has written the answer, and no bounds.
  * Refusals, the first that holds: OTH_OVERLAP, OTH_EMPTIES, OTH_NO_SEAT. */
 uint32_t oth_solve_within(oth_seat *seat, oth_board board, uint64_t most, oth_answer *answer, oth_bounds *bounds);
 
@@ -222,8 +223,10 @@ uint32_t oth_solve_until(oth_seat *seat, oth_board board, uint64_t most, oth_ans
 uint32_t oth_null_window(oth_seat *seat, oth_board board, int8_t alpha, oth_bounds *bounds);
 
 /* Sets the table's flag: each call of oth_solve_within and oth_solve_until over the table ends soon, as if it could look up no
- * more, and so does each that is made before oth_stop_clear clears the flag. The other calls of a seat are not ended. A thread
- * that ends the calls of others has a seat of its own (oth_seat_new), which no call has meanwhile.
+ * more, and each that is made before oth_stop_clear clears the flag ends at once. A board where the game is over is answered
+ * all the same, and a call over one of up to 10 empty squares that is under way is done, within some millisecond. The other
+ * calls of a seat are not ended. A thread that ends the calls of others has a seat of its own (oth_seat_new), which no call
+ * has meanwhile.
  * Refusal: OTH_NO_SEAT. */
 uint32_t oth_stop_set(oth_seat *seat);
 uint32_t oth_stop_clear(oth_seat *seat);

@@ -1,3 +1,4 @@
+pub mod Known
 pub mod Scored
 pub mod Seats
 pub mod Values

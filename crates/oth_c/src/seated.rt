@@ -1,6 +1,6 @@
 //! A seat with the table that it is at, and the flag that ends searches over that table.
 
-ghost use Rattle.std.specs.Prelude.{◌≡◌, ◌+ℤ◌, pos, IfOk, IfErr};
+ghost use Rattle.std.specs.Prelude.{◌≡◌, ◌↔◌, ◌+ℤ◌, pos, IsSome, IsErr, IfOk, IfErr};
 ghost use Rattle.oth_search.specs.Bounds.Full.{IsFullMinimax};
 ghost use Rattle.oth_search.specs.Bounds.Interval.{Decides};
 ghost use Rattle.oth_table.specs.SharedTable.{IsSeatOf, IsSame, Makes};
@@ -44,6 +44,14 @@ impl Kept {
             seen: Seen::new(alloc),
             memories: None,
         }
+    }
+
+    // What a search leaves: what it had come to, and its local tables where it was ended.
+    fn after(found: &Result<Answer, Stopped>, seen: Seen, memories: LocalTables) -> Kept
+        ensures { IsSome result.memories ↔ IsErr found.now }
+    {
+        let memories = if found.is_err() { Some(memories) } else { None };
+        Kept { seen, memories }
     }
 
     // What it had come to, and local tables for a search of this board: those that are kept, if they are of its size.
@@ -178,9 +186,8 @@ impl Seated {
         let found = solve_until(&board, &mut limited, self.table.scoring(), &self.stop);
         let (cells, seen) = limited.into_parts();
         let (cells, memories) = cells.into_parts();
-        let memories = if found.is_err() { Some(memories) } else { None };
         self.seat = cells.into_seat();
-        self.kept = Kept { seen, memories };
+        self.kept = Kept::after(&found, seen, memories);
         (self, found)
     }
 

@@ -1,12 +1,11 @@
 //! The solver for a caller who can't wait: a search that may be ended before it is done, by a limit or from another
 //! thread.
 
-ghost use Rattle.std.specs.Prelude.{◌≡◌, ◌≢◌, ◌⊎◌, ◌<◌, IfOk, IfErr, true};
-ghost use Rattle.oth_rules.specs.Move.{is_legal};
+ghost use Rattle.std.specs.Prelude.{◌≡◌, ◌≢◌, IfOk, IfErr};
 ghost use Rattle.oth_c.specs.Codes.{code_of};
 ghost use Rattle.oth_c.specs.Seats.{Solves, SolvesFully, EnclosesIn, EnclosesFully, IsKept};
 ghost use Rattle.oth_c.specs.Seats.{RefusesBoard, seat_code};
-ghost use Rattle.oth_c.specs.Scores.{IsBoundedAt, AreBounded, AreKnown, TellsKnown};
+ghost use Rattle.oth_c.specs.Scores.{AreKnown, AreTold, IsToldAt, IsFirstOf, TellsKnown};
 ghost use Rattle.oth_c.specs.declared.refusal.Refusal.{Refusal as RefusedBy};
 
 use crate::answer::OthAnswer;
@@ -15,8 +14,7 @@ use crate::refusal::{DONE, Refusal, STOPPED};
 use crate::scores::NO_SCORE;
 use crate::seat::OthSeat;
 use crate::sharing::search_over;
-use oth_rules::Square;
-use oth_search::{Answer, Interval, RootMoves, Stopped};
+use oth_search::{Answer, Interval, RootMove, Stopped, surest_of};
 use std::alloc::Global;
 
 /// Bounds of the value of a board for its mover, -64 to 64.
@@ -39,8 +37,9 @@ impl OthBounds {
 }
 
 /// What is known of a board and of its moves: bounds of its value; the square of a move that is known to give as much
-/// as any is known to give, of several the one that seemed best, or 64 where there is no move; its legal squares; and
-/// bounds of what each move gives, seen from who moves, at its square. At a square that is no legal move stands -128.
+/// as any is known to give, of several the one that seemed best, or 64 exactly where there is no move; its legal
+/// squares; and bounds of what each move gives, seen from who moves, at its square. At a square that is no legal move
+/// stands -128.
 #[repr(C)]
 #[derive(Clone, Copy, PartialEq, Eq, Debug)]
 pub struct OthKnown {
@@ -60,7 +59,7 @@ impl OthKnown {
         ensures upper { result.bounds.upper ≡ stopped.now.known.interval.upper }
         ensures known { AreKnown stopped.now.known.board stopped.now.known.scoring result }
     {
-        let moves = &stopped.moves;
+        let moves = stopped.moves.as_slice();
         let (lower, upper) = by_square(moves);
         OthKnown {
             bounds: OthBounds::of(stopped.known.interval),
@@ -75,19 +74,19 @@ impl OthKnown {
 // What stands in place of a square where there is none.
 const NO_SQUARE: u8 = 64;
 
-// The square of the surest move, if there is a move.
-fn first_of(moves: &RootMoves) -> u8
-    ensures { (result ≡ 64) ⊎ (is_legal moves.now.board result ≡ true) }
+// The square of the surest of these moves, if there is one.
+fn first_of(moves: &[RootMove]) -> u8
+    ensures { IsFirstOf moves.now result }
 {
-    match moves.surest() {
-        Some(square) => square.number(),
+    match surest_of(moves) {
+        Some(root_move) => root_move.square.number(),
         None => NO_SQUARE,
     }
 }
 
 // The lower bounds that stand at each square, and the upper ones.
-fn by_square(moves: &RootMoves) -> ([i8; 64], [i8; 64])
-    ensures { AreBounded moves.now.board moves.now.scoring result.0 result.1 }
+fn by_square(moves: &[RootMove]) -> ([i8; 64], [i8; 64])
+    ensures { AreTold moves.now result.0 result.1 }
 {
     let mut lower = [NO_SCORE; 64];
     let mut upper = [NO_SCORE; 64];
@@ -100,16 +99,17 @@ fn by_square(moves: &RootMoves) -> ([i8; 64], [i8; 64])
 }
 
 // The bounds that stand at the square of this number.
-fn bounds_at(moves: &RootMoves, number: usize) -> OthBounds
-    requires { number < 64 }
-    ensures { IsBoundedAt moves.now.board moves.now.scoring number result.lower result.upper }
+fn bounds_at(moves: &[RootMove], number: usize) -> OthBounds
+    ensures { IsToldAt moves.now number result.lower result.upper }
 {
-    match moves.known_after(Square::numbered(number as u8)) {
-        Some(known) => OthBounds::of(known.interval.turned()),
-        None => OthBounds {
-            lower: NO_SCORE,
-            upper: NO_SCORE,
-        },
+    for root_move in moves {
+        if usize::from(root_move.square.number()) == number {
+            return OthBounds::of(root_move.child.interval.turned());
+        }
+    }
+    OthBounds {
+        lower: NO_SCORE,
+        upper: NO_SCORE,
     }
 }
 

@@ -176,7 +176,7 @@ class _Seat(ctypes.Structure):
 def _library() -> ctypes.CDLL:
     """Returns the library, with the types of its calls. `ctypes.CDLL` lets other threads of Python run while a call lasts."""
     try:
-        library = ctypes.CDLL(os.environ.get("OTHSOLVE_LIBRARY", "libothsolve.so.0"))
+        library = ctypes.CDLL(os.environ.get("OTHSOLVE_LIBRARY") or "libothsolve.so.0")
     except OSError as error:
         raise ImportError(f"{error} (./install makes the library; OTHSOLVE_LIBRARY names it where the system doesn't find it)") from error
     words, place, seat = ctypes.POINTER(ctypes.c_uint64), ctypes.POINTER(ctypes.c_uint8), ctypes.POINTER(_Seat)
@@ -568,7 +568,10 @@ class Table:
         return _heard(decide) if board.empties > _SOON_DONE else decide()
 
     def stop(self) -> None:
-        """Ends the searches of `solve` and `solve_within` over the table, in all threads, until `go_on`."""
+        """Ends the searches of `solve` and `solve_within` over the table, in all threads, and those that begin before `go_on`.
+
+        A board where the game is over is answered all the same, and one of up to 10 empty squares whose search is under way.
+        """
         self._seats.tell(_LIB.oth_stop_set)
 
     def go_on(self) -> None:
