@@ -9,11 +9,9 @@ It tests, in each document and, where it says so, in the code:
 - that each path of this repository stands in it, also one relative to a crate (`src/`, `specs/`, `proofs/`, `must-fail/`, `mutants/`);
   NAME and `*` stand for anything, and what lies in `out/` is made by `rt`;
 - that each `PATH:LINE` declares a name that stands beside it, and in a row `| `NAME` | `PATH:LINE` |` of a table just NAME;
-- that each heading `.. N definitions` has N rows with a definition of `specs/` below it, and each other `N definitions` is one of these
-  numbers;
-- of docs/THEOREM.md: that below each such heading the calls, types and definitions name nothing in a contract, a model or a definition
-  that isn't listed there or above, a definition nothing that stands below it, that each definition is one that is named, and that the page
-  says of each word of the kit that these name what it is;
+- of docs/THEOREM.md: that each heading of a part has the number of definitions that the part rests on, and no page another number; that each
+  of them, as `docs/definitions.py` prints them, names only what stands before it; and that the page says of each word of the kit that these
+  name what it is;
 - that each board line has 64 cells;
 - that in each row `| `CONSTANT` | `PATH` | `VALUE` |` of a table the file gives the constant that value, and that in each row
   `| `EXPRESSION` | `PATH` |` the file has this text, that each constant of a `tuning.rt` has a row in docs/TUNING.md, and that no two
@@ -25,12 +23,12 @@ It tests, in each document and, where it says so, in the code:
 - that each lemma and each definition is named somewhere else than at its own statement, but those of `Examples`;
 - of docs/DECISIONS.md: that each number from 1 to the last is that of one entry, or of one row of its table;
 - of docs/TESTED.md: that each test stands in the crate and the module that are named with it;
-- of docs/WRONG_BODIES.md: that each `CRATE/NAME` is an edit of that crate, in must-fail/ where the column says that the gate tries it and
-  in mutants/ where it says that `./mutants` does, each name that follows it one too or a test of that crate, and each other name with an
-  underscore an edit, a function or a part of a crate;
+- of docs/WRONG_BODIES.md: that each `CRATE/NAME` of the column of what each gate refuses is an edit in must-fail/ of that crate, each name
+  that follows it one too or a test of that crate, and each other name with an underscore an edit, a function or a part of a crate;
 - of each edit of must-fail/ and mutants/: that each of its old texts stands just once in the file that it names, that it changes
   something, and that no other edit of the crate has its name;
-- that the headline is word for word the same wherever it stands, that the README has at most 110 lines, and docs/ 36,000 words;
+- that the headline is word for word the same wherever it stands, that README.md has at most 1,500 words and no line of more than 300
+  characters, and that all Markdown together has no more words than `MOST_WORDS` of docs/checks/words.py, which it tells;
 - of each file of code: that its first line is a head (`//!`), and that no line is longer than 120 characters; of `specs/`, that none is
   longer than 140, and of `proofs/`, than 200;
 - that the tables and the plot of the measured figures are those of bench/figures.txt (`bench/plot.py --check`), and that a plain Rust
@@ -44,13 +42,14 @@ The tests stand in docs/checks/, a module for each kind.
 import argparse
 import sys
 
-from checks import layout, links, logic, made, named, places, tables, theorem, words
+from checks import definitions, layout, links, logic, made, named, places, tables, words
 from checks.shared import documents, lines_of
 
 # The tests of a line of a document, and those of the whole tree.
 OF_A_LINE = (links.link_faults, links.path_faults, places.place_faults, tables.board_faults, tables.value_faults)
 OF_THE_TREE = (
-    theorem.count_faults,
+    definitions.count_faults,
+    definitions.order_faults,
     named.test_faults,
     named.wrong_body_faults,
     words.glossary_faults,
@@ -59,11 +58,11 @@ OF_THE_TREE = (
     logic.unused_faults,
     named.edit_faults,
     tables.decision_faults,
-    theorem.theorem_faults,
-    theorem.standard_faults,
+    definitions.standard_faults,
     layout.layout_faults,
     tables.constant_faults,
     words.headline_faults,
+    words.length_faults,
     made.version_faults,
     made.made_faults,
     made.man_page_faults,
@@ -89,6 +88,7 @@ def main():
     told = [fault for fault in found if fault is not None]
     for fault in told:
         print(fault)
+    print(f"{words.words_of_all()} words of Markdown, of {words.MOST_WORDS} at most")
     print(f"{len(found) - len(told)} passed, {len(told)} failed")
     return 1 if told else 0
 

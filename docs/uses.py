@@ -3,10 +3,10 @@
 
     docs/uses.py [--write]
 
-In front of each block stands a line with the file's name alone, as `crates/oth_uses/src/game.rt`, in backquotes and with a colon. A block
-has to be that file word for word, and each caller of crates/oth_uses and the C example's build line have to be shown, or a long caller
-linked. The line of `crates.txt` above a caller has to name the crates that it uses. Each problem is a line; the last line is `N passed, M failed`, and the
-exit status is 1 where something failed. With `--write` the blocks are first filled from the files.
+In front of each block stands a line with the file's name alone, as `crates/oth_uses/src/solved_board.rt`, in backquotes and with a colon. A
+block has to be that file word for word, and each caller of crates/oth_uses and the C example's build line have to be shown, or linked. The
+line of `crates.txt` above a caller that is shown has to name the crates that it uses. Each problem is a line; the last line is `N passed, M
+failed`, and the exit status is 1 where something failed. With `--write` the blocks are first filled from the files.
 """
 import argparse
 import glob
@@ -19,7 +19,7 @@ PAGE = "docs/LIBRARY.md"
 BLOCK = re.compile(r"^`([^`\n]+)`:\n\n```(\w+)\n(.*?)^```$", re.MULTILINE | re.DOTALL)
 LINE = re.compile(r"^Its line is `mine: ([^`\n]+)`\.\n\n`([^`\n]+)`:$", re.MULTILINE)
 NOT_SHOWN = ("lib.rt",)
-LINKED = ("crates/oth_uses/src/analysis.rt", "crates/oth_uses/src/own_sink.rt")
+LINKED = tuple(f"crates/oth_uses/src/{name}.rt" for name in ("analysis", "game", "in_time", "own_sink", "shared_table"))
 BUILD = re.compile(r"cc -O2 -I\. worked\.c libothsolve\.a -o worked")
 
 

@@ -481,7 +481,7 @@ static void *solve_deep(void *given) {
     return code == OTH_STOPPED && -64 <= bounds.lower && bounds.lower <= bounds.upper && bounds.upper <= 64 ? given : NULL;
 }
 
-/* A board that takes hours, ended from another thread; and what is called before the flag is cleared, and then. */
+/* Boards of few empty squares, and one that takes hours, ended from another seat; and what is called before the flag is cleared, and then. */
 static void ends_by_another_thread(void) {
     oth_answer answer = {7, 7, 7};
     oth_bounds bounds = {7, 7};
@@ -491,6 +491,13 @@ static void ends_by_another_thread(void) {
     want("stop: no seat", oth_stop_set(&first) == OTH_NO_SEAT && oth_stop_clear(&first) == OTH_NO_SEAT && first.at == NULL);
     refused = 0;
     want("stop: a table", oth_table_new(4096, 0, &first) == OTH_DONE && oth_seat_new(&first, &more) == OTH_DONE);
+    want("stop: set by another seat", oth_stop_set(&more) == OTH_DONE && oth_solve_within(&first, few, UINT64_MAX, &answer, &bounds) == OTH_STOPPED && answer.score == 7);
+    want("stop: ends no finished game", oth_solve_within(&first, full, UINT64_MAX, &answer, &bounds) == OTH_DONE && answer.score == 64);
+    want("stop: cleared by another seat", oth_stop_clear(&more) == OTH_DONE && oth_solve_within(&first, few, UINT64_MAX, &answer, &bounds) == OTH_DONE && answer.score == -50);
+    answer.score = 7;
+    if (wrong) {
+        return; /* the call below might never end */
+    }
     if (pthread_create(&solving, NULL, solve_deep, &first) != 0) {
         abort();
     }

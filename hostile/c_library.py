@@ -20,7 +20,7 @@ MOST_EMPTIES = 12
 GAMES = 200
 PLAYED = 500
 SCORED, MOST_EMPTIES_SCORED = 300, 6
-PATIENCE = 300
+PATIENCE = 150
 BUILD_PATIENCE = 1_800
 MOST_REQUESTS = 6
 VALGRIND = ["valgrind", "-q", "--error-exitcode=99", "--leak-check=full", "--show-leak-kinds=all", "--errors-for-leak-kinds=all"]

@@ -480,6 +480,11 @@ def python(folder, prefix):
     unfound = ran(analyse, b"", env={**told, "OTHSOLVE_LIBRARY": f"{prefix}/nowhere.so"})
     right = unfound.status == 1 and f"{prefix}/nowhere.so".encode() in unfound.said.splitlines()[-1]
     yield "a library that isn't there is named", None if right else f"{unfound}"
+    found = {**told, "LD_LIBRARY_PATH": f"{prefix}/lib"}
+    for name, around in (("empty", found | {"OTHSOLVE_LIBRARY": ""}), ("unset", {key: found[key] for key in found.keys() - {"OTHSOLVE_LIBRARY"}})):
+        faulty = ran(analyse, b"f5d6a1\n", env=around)
+        right = (faulty.status, faulty.wrote) == (1, b"game 1\nrefused: the move of pair 3 is illegal\n")
+        yield f"the library that the system finds, where OTHSOLVE_LIBRARY is {name}", None if right else f"{faulty}"
 
 
 def python_games(analyse, game, told):

@@ -15,7 +15,7 @@ import time
 
 from running import EMPTY_BOOK, TOP, board_lines, file_of, ran
 
-PATIENCE = 600
+PATIENCE = 150
 # The most that a terminal is asked for at once.
 MOST = 65_536
 # Boards that take no time, and between them one that takes some seconds by one worker and by four: its mover wins by SCORE.
@@ -37,6 +37,8 @@ BY_ONE, BY_TWO = 15, 16
 # The columns of a terminal that has room for the line of a board that takes long, and of one that has none.
 WIDE, NARROW = 120, 40
 FAULTY = b"X\n"
+# Seconds between two looks at the line, and the part of them in which one of some runs has to end.
+LOOK, MOST_OF_A_LOOK, ENDS = 0.25, 0.6, 8
 # What stands behind the count; a machine under load may take longer than a second for such a board too.
 COUNTED = r"(?:, \d+ s|: \d+ empty squares.*)"
 
@@ -232,6 +234,20 @@ def standing_still(program, wanted):
     yield "a terminal that takes nothing: the answers are in their file before it is read", wrong
 
 
+def ending(program):
+    """Yields a step: a run ends with its last answer, and doesn't wait for the next look at the line of progress."""
+    seconds = []
+    for _ in range(ENDS):
+        begun = time.monotonic()
+        status, wrote, said = on_terminal([program, "solve"], False, f"{QUICK}\n".encode())
+        seconds.append(time.monotonic() - begun)
+        if (status, wrote, said) != (0, f"{QUICK_ANSWER}\n".encode(), b""):
+            yield "a run on a terminal ends with its last answer", f"status {status}, wrote {wrote!r}, said {said!r}"
+            return
+    late = min(seconds) > MOST_OF_A_LOOK * LOOK
+    yield "a run on a terminal ends with its last answer", f"it took {min(seconds):.3f} seconds at the least" if late else None
+
+
 def steps(program):
     """Yields a step for each way to run it: its name, and what is wrong with it, if anything."""
     words = [program, "solve", "--workers", "4", "--cells", "262144"]
@@ -252,6 +268,7 @@ def steps(program):
     said = Said(told)
     wrong = None if (status, said.left()) == (0, [*answers, ""]) else f"status {status}, left {said.left()!r}"
     yield "the line of progress comes by one worker, and leaves only the answers on their terminal", wrong or wrong_line(said, score)
+    yield from ending(program)
     yield from scoring(program)
     yield from standing_still(program, plain.wrote)
     with tempfile.TemporaryDirectory() as folder:

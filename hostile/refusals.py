@@ -1,9 +1,9 @@
 """Refuses each request for memory of a test in turn, and each start of a thread, and wants the test to pass every time.
 
 Of the tests that `rt ci` and `rt test` leave as `crates/NAME/out/NAME_tests` those in a module `refused` are run, which hold whichever
-request is refused: for n = 1, 2, .. the n-th request of the run is refused, until a run makes fewer. Of oth_pool it is seen too that a
-worked board over a table of 64 cells makes more requests than without one by more than the table alone takes, so that the workers' seats
-of the table are asked for. It needs `cc`.
+request is refused: for n = 1, 2, .. the n-th request of the run is refused, until a run makes fewer. A test that makes no request says
+nothing, and fails. Of oth_pool it is seen too that worked boards over a table of 64 cells make more requests than without one by more
+than the table alone takes, so that the workers' seats of the table are asked for. It needs `cc`.
 """
 import os
 import tempfile
@@ -76,6 +76,13 @@ MODULES = {
 }
 
 
+# Tests of oth_pool of one search, over 64 cells and without.
+WITH_AND_WITHOUT = {
+    "a_over_64_cells": "a_without_cells",
+    "workers_together_over_64_cells": "workers_together_without_cells",
+}
+
+
 class Walk:
     """Runs of one program of tests, with a request refused."""
 
@@ -98,6 +105,8 @@ class Walk:
     def all(self, test):
         """Tells what is wrong with the test, if anything, and the requests that it makes where none is refused."""
         wrong, count = self.run(test, 0)
+        if wrong is None and count == 0:
+            wrong = "it makes no request, so none was refused"
         refused = 0
         made = count
         while wrong is None and made >= refused:
@@ -122,11 +131,12 @@ def steps(crates):
                 wrong, counts[test.rsplit("::", 1)[1]] = walk.all(test)
                 yield f"{test}: holds whichever request is refused", wrong
             if crate == "oth_pool_tests":
-                yield "64 cells take more requests than none, by more than the table alone takes", table(counts)
+                for over, without in WITH_AND_WITHOUT.items():
+                    yield f"{over}: 64 cells take more requests than none, by more than the table alone takes", table(counts, over, without)
 
 
-def table(counts):
-    """Tells what is wrong with the numbers of requests, if anything."""
-    more = counts["workers_together_over_64_cells"] - counts["workers_together_without_cells"]
+def table(counts, over, without):
+    """Tells what is wrong with the numbers of requests of these two tests, if anything."""
+    more = counts[over] - counts[without]
     alone = counts["a_table_of_64_cells"]
     return None if more > alone else f"{more} requests more, the table alone {alone}"

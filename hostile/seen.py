@@ -8,7 +8,8 @@ import tempfile
 from running import Preloaded, Ran, board_lines, book_of, file_of, ran
 
 SEED = 20261127
-# What is counted: threads, and bytes that are asked for at once where they are at least as many as a small table has.
+# What is counted: threads that are started, bytes that are asked for at once where they are at least as many as a small table has,
+# threads that are there beside the first one, and the most of these at once.
 COUNTING = r"""
 #define _GNU_SOURCE
 #include <dlfcn.h>
@@ -21,13 +22,14 @@ COUNTING = r"""
 extern void *__libc_malloc(size_t);
 extern void *__libc_calloc(size_t, size_t);
 extern void *__libc_realloc(void *, size_t);
+extern void __libc_free(void *);
 
 static _Atomic long *counted;
 
 __attribute__((constructor)) static void start(void) {
     const char *file = getenv("COUNTED");
     int opened = file ? open(file, O_RDWR) : -1;
-    void *page = opened < 0 ? MAP_FAILED : mmap(0, 2 * sizeof(long), PROT_READ | PROT_WRITE, MAP_SHARED, opened, 0);
+    void *page = opened < 0 ? MAP_FAILED : mmap(0, 4 * sizeof(long), PROT_READ | PROT_WRITE, MAP_SHARED, opened, 0);
     counted = page == MAP_FAILED ? 0 : page;
 }
 
@@ -54,10 +56,35 @@ void *realloc(void *block, size_t size) {
     return __libc_realloc(block, size);
 }
 
+struct work {
+    void *(*body)(void *);
+    void *argument;
+};
+
+static void begins(void) {
+    if (!counted) return;
+    long now = atomic_fetch_add(counted + 2, 1) + 1, most = atomic_load(counted + 3);
+    while (most < now && !atomic_compare_exchange_weak(counted + 3, &most, now)) {}
+}
+
+static void *worked(void *given) {
+    struct work work = *(struct work *)given;
+    __libc_free(given);
+    void *result = work.body(work.argument);
+    count(2, -1);
+    return result;
+}
+
 int pthread_create(pthread_t *thread, const pthread_attr_t *attributes, void *(*body)(void *), void *argument) {
     int (*create)(pthread_t *, const pthread_attr_t *, void *(*)(void *), void *) = dlsym(RTLD_NEXT, "pthread_create");
+    struct work *work = __libc_malloc(sizeof *work);
+    if (!work) abort();
+    *work = (struct work){body, argument};
     count(0, 1);
-    return create(thread, attributes, body, argument);
+    begins();
+    int refused = create(thread, attributes, worked, work);
+    if (refused) count(2, -1);
+    return refused;
 }
 """
 ENTRIES = 100_000
@@ -77,15 +104,19 @@ UNDER = 'ulimit -v "$0" && exec "$@"; exit 99'
 
 
 def counts(library, words, given):
-    """Returns the threads that a run starts and the bytes that it asks for; (-1, -1) where it ends with another status than 0."""
+    """Returns the threads that a run starts, the bytes that it asks for, the threads that are left and the most at once; (-1, ..) where
+    it ends with another status than 0."""
     done, numbers = library.ran(words, given)
-    return numbers if done.status == 0 else (-1, -1)
+    return numbers if done.status == 0 else (-1,) * 4
 
 
-def threads_wrong(library, words, given):
-    """Tells what is wrong with the threads that a run by 4 workers starts beside one by 1, if anything. One may be the program's own."""
-    alone, by_four = (counts(library, [*words, "--workers", workers], given)[0] for workers in ("1", "4"))
-    return None if 0 <= alone < 2 and by_four >= max(3, alone + 2) else f"1 worker starts {alone} threads, and 4 start {by_four}"
+def threads_wrong(library, words, given, most):
+    """Tells what is wrong with the threads that a run by 4 workers starts beside one by 1, if anything: at most `most` are to be
+    there at once beside the first one, and another one that may be the program's own."""
+    (alone, *_), (by_four, _, _, at_once) = (counts(library, [*words, "--workers", workers], given) for workers in ("1", "4"))
+    if 0 <= alone < 2 and by_four >= max(3, alone + 2) and at_once <= most + alone:
+        return None
+    return f"1 worker starts {alone} threads, and 4 start {by_four}, {at_once} at once"
 
 
 def cells_wrong(library, words, given):
@@ -108,15 +139,18 @@ def settings(program, library, folder):
     """Tests that each command that takes numbers of workers and of cells obeys them."""
     boards, large = board_lines(SEED, 8, 13), board_lines(SEED, 1, 18)
     book, empty = book_of(program, folder, boards), f"{folder}/empty.book"
-    for name, words, given in (
-        ("solve, a board of 18 empty squares", ["solve"], large),
-        ("solve, a board of 14", ["solve"], board_lines(SEED, 1, 14)),
-        ("solve, 8 boards of 13", ["solve"], boards),
-        ("solve --book, a book of 8 boards and no line", ["solve", "--book", book], b""),
-        ("book-add, 8 boards of 13", ["book-add", empty], boards),
-        ("book-add, a book of 8 boards and no line", ["book-add", book], b""),
+    mixed = boards + board_lines(SEED, 1, 16)
+    for name, words, given, most in (
+        ("solve, a board of 18 empty squares", ["solve"], large, 4),
+        ("solve, a board of 14", ["solve"], board_lines(SEED, 1, 14), 4),
+        ("solve, 8 boards of 13", ["solve"], boards, 4),
+        ("solve, 8 boards of 13 and one of 16, which 4 workers search together", ["solve"], mixed, 8),
+        ("scores, 8 boards of 13", ["scores"], boards, 4),
+        ("solve --book, a book of 8 boards and no line", ["solve", "--book", book], b"", 4),
+        ("book-add, 8 boards of 13", ["book-add", empty], boards, 4),
+        ("book-add, a book of 8 boards and no line", ["book-add", book], b"", 4),
     ):
-        yield f"4 workers are seen: {name}", threads_wrong(library, [program, *words], given)
+        yield f"4 workers are seen, and no more: {name}", threads_wrong(library, [program, *words], given, most)
         yield f"--cells {', '.join(CELLS)} are seen: {name}", cells_wrong(library, [program, *words], given)
     yield "the book is asked: solve --book, its 8 boards", book_wrong(library, [program, "solve", "--book", book], boards)
     started = counts(library, [program, "book-verify", book], b"")[0]
@@ -164,6 +198,6 @@ def memory_wrong(program, book):
 def steps(program):
     """Yields a step for each look: its name, and what is wrong, if anything."""
     with tempfile.TemporaryDirectory() as folder:
-        library = Preloaded(folder, COUNTING, 2)
+        library = Preloaded(folder, COUNTING, 4)
         yield from settings(program, library, folder)
         yield from long_books(program, folder)

@@ -19,6 +19,8 @@ MEGABYTE = 1 << 20
 LITTLE = 64
 AT_ONCE = 5
 FAULTY_WORDS = re.compile(rb"^error: .+\n")
+# A file that can be opened, and of which no byte can be read.
+UNREADABLE = "/proc/self/mem"
 COMMANDS = ("solve", "scores", "moves", "transcript", "play", "analyse", "book-verify", "book-add")
 
 
@@ -146,6 +148,12 @@ def explained(folder):
     said = b"line 1: a board line has 66 bytes\nline 2: a board line has 66 bytes\n"
     yield Case("faults in words: two files", ["solve", half, half, "--explain"], wrote=b"error 1\nerror 1\n", said=said)
     yield Case("faults in words: none", ["solve", "--explain"], CORNERS.encode(), wrote=b"+64 h8\n", said=b"")
+    good = file_of(folder, "good.txt", CORNERS.encode())
+    for words in ([UNREADABLE, good], [good, UNREADABLE, good], [good, good, UNREADABLE]):
+        wrote = b"+64 h8\n" * words.index(UNREADABLE)
+        said = f"run error 1\n{UNREADABLE}: Input/output error (os error 5)\n".encode()
+        name = f"--explain names the file that can't be read: number {words.index(UNREADABLE) + 1} of {len(words)}"
+        yield Case(name, ["solve", "--explain", *words], status=1, wrote=wrote, said=said)
     said = b"run error 4\nthe cells must be 0 or a power of two up to 262144\n"
     yield Case("--explain of refused cells", ["solve", "--explain", "--cells", "3"], status=2, wrote=b"", said=said)
     said = b"run error 1\nnowhere: no such file\n"

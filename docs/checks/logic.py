@@ -6,6 +6,8 @@ from checks.shared import ROOT, cells_below, lines_of, text_of, unless
 IMPORT = re.compile(r"\bRattle\.(oth_\w+)\.proofs\.(?:[A-Z]\w*\.)*([A-Z]\w*)")
 DECLARED = re.compile(r" *(?:(?:pub|abbrev|unfoldable|data|record) +)*([^\s:(){}=]+)(?: [({].*?)? :(?: |$)")
 USE = re.compile(r"(?m)^ *(?:ghost )?(?:pub )?use Rattle\.([^\s{};]+?)(?:\.\{([^}]*)\})?(?: as (\w+))?;?$")
+# A lemma that an attribute of a function hands to its proof.
+HANDED = re.compile(r"\b(crate|oth_\w+)::proofs::([\w:]+)::(\w+)")
 NAME = re.compile(r"(?<![^\s(){}\[\],;`⟦⟧])[^\s(){}\[\],;.`⟦⟧]+")
 
 
@@ -18,6 +20,9 @@ class Logic:
         self.names = NAME.findall("\n".join(self.lines))
         self.module = ".".join(path.relative_to(ROOT / "crates").with_suffix("").parts)
         self.imported = set()
+        for crate, modules, name in HANDED.findall(text):
+            owner = self.module.split(".")[0] if crate == "crate" else crate
+            self.imported.add((f"{owner}.proofs.{modules.replace('::', '.')}", name))
         for module, names, local in USE.findall(text):
             for name in names.split(",") if names else ():
                 original, _, other = name.strip().partition(" as ")

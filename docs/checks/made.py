@@ -9,7 +9,7 @@ from checks.shared import ROOT, text_of, unless
 # Where the version of the C header stands too, and how: by itself, or with the logic.
 VERSIONS = {
     "CHANGELOG.md": "\n## {version}\n",
-    "README.md": "/pahkrin_{version}_amd64.deb",
+    "docs/INSTALL.md": "/pahkrin_{version}_amd64.deb",
     "crates/oth_c/specs/Texts.antt": 'version_text = codes "{version} (rattle logic {logic})"\n',
     "crates/oth_c/src/texts/version.rt": 'const LIBRARY_VERSION: &str = "{version} (rattle logic {logic})";\n',
     "crates/oth_words/src/commands.rt": 'const VERSION: &str = "{version} (rattle logic {logic})";\n',

@@ -6,8 +6,8 @@ from checks.shared import ROOT, cells_below, crate_folders, lines_of, shown, tex
 
 SNAKE = re.compile(r"[a-z]\w*_\w*")
 TEST = re.compile(r"#\[test\]\s*(?:#\[[^\]]*\]\s*)*fn (\w+)")
-# The columns of docs/WRONG_BODIES.md, with the folder whose edits stand there.
-COLUMNS = {"Refused at each gate by": "must-fail", "Refused by `./mutants`": "mutants"}
+# The column of docs/WRONG_BODIES.md that names edits, and the folder in which these stand.
+COLUMN, TIER = "Refused at each gate by", "must-fail"
 
 
 class Crate:
@@ -52,9 +52,8 @@ def wrong_body_faults():
     """Tests that each name of docs/WRONG_BODIES.md is an edit of the folder of its column, or a test or a part of the code."""
     known = crates()
     document = ROOT / "docs/WRONG_BODIES.md"
-    for heading, tier in COLUMNS.items():
-        for number, cell in cells_below(document, heading):
-            yield from cell_faults(f"{shown(document)}:{number}", cell, tier, known)
+    for number, cell in cells_below(document, COLUMN):
+        yield from cell_faults(f"{shown(document)}:{number}", cell, known)
     every = set().union(*(crate.edits | crate.functions | crate.files for crate in known.values()))
     for number, line in enumerate(lines_of(document), 1):
         place = f"{shown(document)}:{number}"
@@ -67,8 +66,8 @@ def wrong_body_faults():
                 yield unless(there, f"{place}: no test {name} in {owner}")
 
 
-def cell_faults(place, cell, tier, known):
-    """Tests that each edit that this cell names is one of the folder, and each test one of its crate."""
+def cell_faults(place, cell, known):
+    """Tests that each edit that this cell names is one that the gate tries, and each test one of its crate."""
     crate = None
     for name in re.findall(r"`([^`]+)`", cell):
         owner, _, edit = name.rpartition("/")
@@ -76,10 +75,10 @@ def cell_faults(place, cell, tier, known):
             crate = known[name]
         elif owner in known:
             crate = known[owner]
-            yield unless(edit in crate.tiers[tier], f"{place}: no edit {edit} in {tier}/ of {owner}")
+            yield unless(edit in crate.tiers[TIER], f"{place}: no edit {edit} in {TIER}/ of {owner}")
         elif crate and SNAKE.fullmatch(name):
-            there = name in crate.tiers[tier] | crate.tests
-            yield unless(there, f"{place}: no edit of {tier}/ and no test {name} in the crate named before it")
+            there = name in crate.tiers[TIER] | crate.tests
+            yield unless(there, f"{place}: no edit of {TIER}/ and no test {name} in the crate named before it")
 
 
 def edit_faults():
