@@ -10,8 +10,8 @@ It tests, in each document and, where it says so, in the code:
   NAME and `*` stand for anything, and what lies in `out/` is made by `rt`;
 - that each `PATH:LINE` declares a name that stands beside it, and in a row `| `NAME` | `PATH:LINE` |` of a table just NAME;
 - of docs/THEOREM.md: that each heading of a part has the number of definitions that the part rests on, and no page another number; that each
-  of them, as `docs/definitions.py` prints them, names only what stands before it; and that the page says of each word of the kit that these
-  name what it is;
+  of them, as `docs/definitions.py` prints them, has words of its own and names only what stands before it; and that the page says of each
+  word of the kit that these name what it is;
 - that each board line has 64 cells;
 - that in each row `| `CONSTANT` | `PATH` | `VALUE` |` of a table the file gives the constant that value, and that in each row
   `| `EXPRESSION` | `PATH` |` the file has this text, that each constant of a `tuning.rt` has a row in docs/TUNING.md, and that no two
@@ -50,6 +50,7 @@ OF_A_LINE = (links.link_faults, links.path_faults, places.place_faults, tables.b
 OF_THE_TREE = (
     definitions.count_faults,
     definitions.order_faults,
+    definitions.words_faults,
     named.test_faults,
     named.wrong_body_faults,
     words.glossary_faults,

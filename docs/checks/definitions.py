@@ -92,9 +92,14 @@ def lines_of_row(row):
     path, name, at = row
     statement = [line for line in statements.statement(name, path, at) if line.strip()]
     if path.endswith(".antt"):
-        return [f"-- {path}:{at}", *said_at_head(path, name), *comment_above(path, at, "--"), *statement]
+        return [f"-- {path}:{at}", *said_of(path, name, at), *statement]
     first = lines_of(ROOT / path)[at - 1]
-    return [f"-- {path}:{at}", *comment_above(path, at, "///"), *([] if first in statement[:1] else [first]), *statement]
+    return [f"-- {path}:{at}", *said_of(path, name, at), *([] if first in statement[:1] else [first]), *statement]
+
+
+def said_of(path, name, at):
+    """Returns what comments say of the name that this line declares: at the head of a file of `specs/`, and right above the line."""
+    return [*said_at_head(path, name), *comment_above(path, at, "--")] if path.endswith(".antt") else comment_above(path, at, "///")
 
 
 def said_at_head(path, name):
@@ -144,6 +149,13 @@ def order_faults():
                 there = named in above or line_of(named) is None
                 yield unless(there, f"{path}:{at}: {name} names {named[1]}, which stands behind it in the part {part}")
             above.add((path, name))
+
+
+def words_faults():
+    """Tests that each call, type and definition has words of its own, right above it or at the head of its file."""
+    for rows in parts().values():
+        for path, name, at in rows:
+            yield unless(said_of(path, name, at), f"{path}:{at}: {name} has no words of its own, above it or at the head of its file")
 
 
 def standard_faults():

@@ -1,4 +1,5 @@
 -- Hands of the same tasks.
+--     IsCrew hands      there can be that number of workers: 1 to 16
 --     IsHandOf tasks hand      the hand's deque and passes are those of the tasks, and its list is what it has taken
 --     list_of hand, number_of hand, has_ended hand      what it has drawn, its place among the hands, whether it gets no more
 --     room_of hand, HaveRoom hands      for how many numbers it has room; each of them has room for those of any frontier

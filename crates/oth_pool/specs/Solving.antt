@@ -1,4 +1,6 @@
 -- When a board is solved.
+--     IsSolvable p      the board can be solved: at most 30 of its squares are empty
+--     Accepts p workers cells      the board p can be solved, and there can be that number of workers, and of cells
 --     Refuses p workers cells e      why it isn't solved: the first cause that holds
 use Rattle.std.specs.Prelude.{◌≡◌, ℕ, ◌<◌, ◌≤◌}
 use Rattle.oth_rules.specs.Position.{Position, empty_count}

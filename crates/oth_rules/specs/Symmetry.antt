@@ -1,15 +1,15 @@
 -- The eight symmetries of the board, by number.
 --     map_square s q      where symmetry s carries square q
---     unmap_square s q      the square that symmetry s carries to q
+--     unmap_square s q      the square that symmetry s carries to q: bit 2 of s (value 4) changes column and row, then bit 0 turns the
+--         columns round, then bit 1 the rows
 --     map_word s w      the word with each of its squares carried
---     image s p      the position with each of its squares carried
+--     image s p      the position with each of its squares carried by symmetry s
 --     canonical p      the least image
--- Bit 2 (value 4) changes column and row, then bit 0 turns the columns round, then bit 1 the rows.
 use Rattle.std.specs.Prelude.{ℕ, zero, suc, ◌+◌, ◌-◌, ◌*◌, ◌/◌, ◌%◌, if◌then◌else◌, nat_lt, ◌==◌, ◌&&◌, ◌||◌, ◌≡◌, ◌<◌, Bool, true, false}
 use Rattle.oth_rules.specs.Square.{has, word_of}
 use Rattle.oth_rules.specs.Position.{Position, cell, position_of}
 
--- the coordinate, turned round where the bit is set
+-- the coordinate, turned round where this bit of the symmetry's number is set
 unfoldable pub turned_if : ℕ → ℕ → ℕ → ℕ
 turned_if s bit x = if has s bit then 7 - x else x
 
@@ -36,10 +36,11 @@ image s p = position_of (λ q. cell p (unmap_square s q))
 
 -- ---- the canonical image
 
--- the pair of words is less, the own word first
+-- the mover's word of p is less than that of q, or they are equal and the opponent's word is less
 unfoldable pub is_below : Position → Position → Bool
 is_below p q = nat_lt p.own q.own || (p.own == q.own && nat_lt p.opp q.opp)
 
+-- the lesser of the two positions, in this order
 unfoldable pub lesser : Position → Position → Position
 lesser p q = if is_below p q then p else q
 

@@ -25,14 +25,17 @@ abbrev pub board_reply : (Discs → List ℕ) → Result Position LineFault → 
 board_reply told (Ok position) = told position.board
 board_reply told (Err fault) = fault_line_of fault
 
+-- the board line of the position that a transcript leads to, or the line's first fault
 abbrev pub transcript_reply : Result Position TranscriptFault → List ℕ
 transcript_reply (Ok position) = board_line position
 transcript_reply (Err fault) = transcript_fault_line_of fault
 
+-- the board line of the position that a game leads to, or the line's first fault
 abbrev pub play_reply : Result Position GameFault → List ℕ
 play_reply (Ok position) = board_line position
 play_reply (Err fault) = game_fault_line_of fault
 
+-- what the command tells of a line, under the scoring; the number is that of the line
 abbrev pub reply_to : Command → Scoring → ℕ → List ℕ → List ℕ
 reply_to Solve scoring number line = board_reply (report_line_of scoring) (solvable_reading line)
 reply_to Scores scoring number line = board_reply (scores_line_of scoring) (solvable_reading line)

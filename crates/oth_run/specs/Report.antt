@@ -6,11 +6,12 @@
 --     report reply input      what is written for all lines, where a rest that is not empty counts as a line
 use Rattle.std.specs.Prelude.{ℕ, ◌+◌, ◌==◌, min, if◌then◌else◌, List, [], ◌∷◌, ◌++◌}
 
+-- the lines of an input, and the rest behind them, which no byte 10 ends
 pub record Cut : Type 0 where
   pub lines : List (List ℕ)
   pub rest : List ℕ
 
--- the byte in front of the first line
+-- the byte in front of the first line, or of the rest where there is no line
 abbrev pub onto_first : ℕ → List (List ℕ) → List ℕ → Cut
 onto_first b [] rest = record { lines = []; rest = b ∷ rest }
 onto_first b (line ∷ lines) rest = record { lines = (b ∷ line) ∷ lines; rest = rest }
@@ -31,6 +32,7 @@ last_line (b ∷ bs) = (b ∷ bs) ∷ []
 abbrev pub lines_of : List ℕ → List (List ℕ)
 lines_of input = (cut input).lines ++ last_line (cut input).rest
 
+-- the number of the next line: one more, but at most 2^64 - 1
 abbrev pub next_number : ℕ → ℕ
 next_number n = min (n + 1) 18446744073709551615
 
@@ -44,10 +46,11 @@ line_number input = number_behind 1 (cut input).lines
 
 -- a reply may look at the number of its line
 module _ (reply : ℕ → List ℕ → List ℕ) where
+  -- the reply to line number n, and byte 10
   abbrev pub with_end : ℕ → List ℕ → List ℕ
   with_end n line = reply n line ++ 10 ∷ []
 
-  -- of lines of which the first has number n
+  -- what is written for lines of which the first has number n
   abbrev pub report_from : ℕ → List (List ℕ) → List ℕ
   report_from n [] = []
   report_from n (line ∷ lines) = with_end n line ++ report_from (next_number n) lines

@@ -19,6 +19,7 @@ hash_of p = (p.own * 11400714819323198485 + p.opp * 14029467366897019727) % 2 ^ 
 abbrev pub place_of : Position → ℕ → ℕ
 place_of p cells = hash_of p / (2 ^ 64 / cells)
 
+-- the other cell of its pair: the pairs are 0 and 1, 2 and 3, and so on
 abbrev pub neighbour : ℕ → ℕ
 neighbour c = if c % 2 == 0 then c + 1 else c - 1
 
@@ -34,7 +35,7 @@ abbrev pub entry_in : Look → Position → Option Bounded
 entry_in (Whole x) p = if (x.board.own == p.own) && (x.board.opp == p.opp) then Some x else None
 entry_in _ p = None
 
--- an empty cell before a full one, the entry with more discs, an entry before a busy cell; else the first
+-- the second cell is better for a store: an empty cell before a full one, the entry with more discs, an entry before a busy cell
 abbrev pub is_better : Look → Look → Bool
 is_better Empty g = false
 is_better (Whole x) Empty = true

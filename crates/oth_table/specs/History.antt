@@ -1,9 +1,13 @@
 -- A history of the table. The words of histories are oth_history's, of these events.
 --     content c h         the entry that the cell c holds: what its last publish kept
 --     owner c h           the seat that has claimed the cell and not published it yet
---     claims, publishes   how many there are of the cell
+--     claims c h          how often the cell c was claimed
+--     publishes c h       how often the cell c was published
 --     author e, makes e   the seat that did the event, and the seat that it makes
 --     Fits terms h e      the event e fits the history h: what is said of the cell is so, and entries are true
+--     IsLegal terms h     the history is legal: each event is by a seat, makes none that there is, and fits those before it
+--     Ends terms s earlier later e  the seat s had seen `earlier`, and now has seen `later`, a legal history that ends with e, its one
+--                         further event
 --     GoesAway            the history ends with an answer that did nothing, since another seat had the cell
 use Rattle.std.specs.Prelude.{◌≡◌, ℕ, ◌+◌, ◌<◌, ◌==◌, if◌then◌else◌, List, [], ◌∷◌, Option, Some, None}
 use Rattle.oth_history.specs.History.{Name, IsLegalBy, EndsBy}

@@ -19,7 +19,7 @@ use Rattle.oth_table.specs.Parts.{Use}
 abbrev pub LooksAt : Use → ℕ → List Event → List Event → Look → Type 0
 LooksAt u c earlier later found = Looks u.seat.terms u.seat.name earlier later c found
 
--- one put
+-- one put by the seat in use
 abbrev pub PutsAt : Use → ℕ → List Event → List Event → Bounded → Put → Type 0
 PutsAt u c earlier later given did = Puts u.seat.terms u.seat.name earlier later c given did
 

@@ -32,5 +32,6 @@ pub record Fixed : Type 0 where
   pub terms : Terms
   pub name : Name
 
+-- what is fixed of a table with a seat at it: all but what the seat has seen
 abbrev pub fixed_of : Use → Fixed
 fixed_of u = record { table = u.table; home = u.seat.table; terms = u.seat.terms; name = u.seat.name }

@@ -1,5 +1,5 @@
 -- What the calls of a table promise.
---     IsWear wear          1 to 2^63 - 1
+--     IsWear wear          a cell may be published that often: 1 to 2^63 - 1
 --     Refuses cells wear e what holds where a table is refused
 --     Opens                a new table with a seat that has seen nothing
 --     IsSeatOf t s         the seat s is one of the table t
@@ -49,11 +49,13 @@ IsSame s t = (t.table ≡ s.table) × (t.terms ≡ s.terms) × (t.name ≡ s.nam
 
 -- the seat s had seen `earlier`, makes one call for the cell c, and then has seen `later`
 module _ (terms : Terms) (s : Name) (earlier later : List Event) (c : ℕ) where
+  -- the seat s had seen `earlier`, looks at the cell c with this outcome, and then has seen `later`
   abbrev pub Looks : Look → Type 0
   Looks Empty = Ends terms s earlier later (looked s c None)
   Looks (Whole x) = Ends terms s earlier later (looked s c (Some x))
   Looks Busy = GoesAway terms s c why.TheVariants.Busy earlier later
 
+  -- as Looks, where it puts the given entry into the cell c
   abbrev pub Puts : Bounded → Put → Type 0
   Puts given Stored =
       (kept : Bounded)

@@ -5,7 +5,7 @@
 --     is_told last t      at most `last` squares, and no more than a search takes, are empty before the turn
 --     score_of_turn g t      the value after the turn under the scoring g, seen from who moved
 --     turn_line n g t      the number of the line, that of the disc, who moves, the move, its score, and what `solve` reports of the board
---     lost_by side g turns      the discs that a side's turns are worth less than the best ones
+--     lost_by side g turns      the discs by which a side's turns are worth less than the best ones
 --     analysis_of n g last line      a line for each turn that is told, one for the game's fault, and one for what was lost
 use Rattle.std.specs.Prelude.{ℕ, ℤ, ◌+◌, ◌-◌, ◌-ℤ◌, neg_ℤ, ◌≤◌, nat_le, ◌&&◌, Bool, if◌then◌else◌, List, [], ◌∷◌, ◌++◌, take}
 use Rattle.std.specs.Prelude.{Option, Some, None}
@@ -33,9 +33,11 @@ use Rattle.oth_text.specs.declared.position.Side.TheVariants.{Black, White}
 
 -- ---- the turns of a game
 
+-- the turn in which the mover of p makes the move to s
 abbrev pub move_turn : Position → ℕ → Turn
 move_turn p s = record { before = p; played = Some s; after = after p.board s }
 
+-- the turn in which the mover of p passes
 abbrev pub pass_turn : Position → Turn
 pass_turn p = record { before = p; played = None; after = pass p.board }
 
@@ -47,6 +49,7 @@ pass_turns p = if can_move p.board then [] else if can_move (pass p.board) then 
 abbrev pub moved : Position → ℕ → Position
 moved p s = record { board = after p.board s; mover = opponent p.mover }
 
+-- these turns, or none where there is a fault
 abbrev pub unless_faulty : Option TranscriptFault → List Turn → List Turn
 unless_faulty (Some fault) told = []
 unless_faulty None told = told
@@ -61,6 +64,7 @@ turns p (letter ∷ digit ∷ rest) =
 unfoldable pub begins_board : List ℕ → Bool
 begins_board line = is_cell (slice_index_or line 0 0)
 
+-- the turns of a text from the position that was read, behind the pass that it forces; none where the board line has a fault
 abbrev pub turns_from : Result Position LineFault → List ℕ → List Turn
 turns_from (Ok p) text = pass_turns p ++ turns (with_forced_pass p) text
 turns_from (Err fault) text = []
@@ -78,6 +82,7 @@ pub record HasFewEmpties (t : Turn) : Type 0 where
   pub before : empty_count t.before.board ≤ most_empties
   pub after : empty_count t.after ≤ most_empties
 
+-- the turns of the line's game that are told
 unfoldable pub told_turns : ℕ → List ℕ → List Turn
 told_turns last line = filter (is_told last) (turns_of line)
 
@@ -88,6 +93,7 @@ score_of_turn g t = neg_ℤ (value (score_of g) t.after)
 abbrev pub disc_number : Turn → ℕ
 disc_number t = 61 - empty_count t.before.board
 
+-- the name of the square, or `pass`
 abbrev pub name_played : Option ℕ → List ℕ
 name_played (Some s) = square_name s
 name_played None = codes "pass"
@@ -97,9 +103,11 @@ turn_line n g t =
     decimal n ++ 32 ∷ decimal (disc_number t) ++ 32 ∷ side_byte t.before.mover ∷ 32 ∷ name_played t.played
     ++ 32 ∷ score_text (score_of_turn g t) ++ 32 ∷ report_line_of g t.before.board
 
+-- the discs by which the turn is worth less than the best one, under the scoring g
 unfoldable pub loss : Scoring → Turn → ℕ
 loss g t = unsigned_abs (value (score_of g) t.before.board -ℤ score_of_turn g t)
 
+-- the number, where both sides are the same one, else 0
 abbrev pub if_by : Side → Side → ℕ → ℕ
 if_by Black Black n = n
 if_by White White n = n
@@ -110,22 +118,26 @@ abbrev pub lost_by : Side → Scoring → List Turn → ℕ
 lost_by side g [] = 0
 lost_by side g (t ∷ turns) = if_by side t.before.mover (loss g t) + lost_by side g turns
 
+-- the text that tells of line n how many discs Black and White lost
 abbrev pub lost_text : ℕ → ℕ → ℕ → List ℕ
 lost_text n black white = decimal n ++ codes " lost X " ++ decimal black ++ codes " O " ++ decimal white
 
+-- as lost_text, of what each side lost by these turns
 abbrev pub lost_line : ℕ → Scoring → List Turn → List ℕ
 lost_line n g turns = lost_text n (lost_by Black g turns) (lost_by White g turns)
 
 -- ---- the whole report
 
--- a text of which a line is told
+-- the line that tells this text of line n
 abbrev pub numbered_line : ℕ → List ℕ → List ℕ
 numbered_line n text = decimal n ++ 32 ∷ text ++ 10 ∷ []
 
+-- what is told of a transcript's first fault, if it has one
 abbrev pub transcript_fault_of : Result Position TranscriptFault → Option (List ℕ)
 transcript_fault_of (Ok p) = None
 transcript_fault_of (Err fault) = Some (transcript_fault_line_of fault)
 
+-- what is told of a game's first fault, if it has one
 abbrev pub game_fault_of : Result Position GameFault → Option (List ℕ)
 game_fault_of (Ok p) = None
 game_fault_of (Err fault) = Some (game_fault_line_of fault)
@@ -134,10 +146,12 @@ game_fault_of (Err fault) = Some (game_fault_line_of fault)
 unfoldable pub fault_of : List ℕ → Option (List ℕ)
 fault_of line = if begins_board line then game_fault_of (game_reading line) else transcript_fault_of (transcript_reading line)
 
+-- the line that tells the fault of line n, if it has one
 abbrev pub fault_part : ℕ → Option (List ℕ) → List ℕ
 fault_part n (Some text) = numbered_line n text
 fault_part n None = []
 
+-- as turn_line, with byte 10
 abbrev pub turn_part : ℕ → Scoring → Turn → List ℕ
 turn_part n g t = turn_line n g t ++ 10 ∷ []
 

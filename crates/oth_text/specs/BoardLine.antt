@@ -38,6 +38,7 @@ pub record IsBoardLine (text : List ℕ) (p : Position) : Type 0 where
 
 -- ---- faults
 
+-- the byte is X, O or -
 abbrev pub is_cell : ℕ → Bool
 is_cell b = b == 88 || b == 79 || b == 45
 
@@ -70,20 +71,23 @@ abbrev pub first_bad : ℕ → List ℕ → Option ℕ
 first_bad k [] = None
 first_bad k (b ∷ bs) = if is_cell b then first_bad (k + 1) bs else Some k
 
+-- the fault of byte 65, which should be a space, or of byte 66, which should be X or O, if there is one
 abbrev pub fault_after_cells : ℕ → ℕ → Option LineFault
 fault_after_cells space mover = if space == 32 then (if mover == 88 || mover == 79 then None else Some Mover) else Some Space
 
+-- the fault of the bad cell at this place, if there is one, else the other fault, if there is one
 abbrev pub cell_fault_or : Option ℕ → Option LineFault → Option LineFault
 cell_fault_or (Some p) other = Some (BadCell p)
 cell_fault_or None other = other
 
--- the first fault of a text, if it has one
+-- the first fault of a text that should be a board line, if it has one
 unfoldable pub first_fault : List ℕ → Option LineFault
 first_fault text =
     if length text == 66
     then cell_fault_or (first_bad 1 (take 64 text)) (fault_after_cells (slice_index text 64) (slice_index text 65))
     else Some Length
 
+-- the side that the byte stands for: Black for X, else White
 abbrev pub side_of : ℕ → Side
 side_of b = if b == 88 then Black else White
 
@@ -97,6 +101,7 @@ shown text =
     let mover = side_of (slice_index text 65) in
     record { board = position_of (λ s. cell_of mover (slice_index text s)); mover = mover }
 
+-- the fault, if there is one, else the position
 abbrev pub fault_or : Option LineFault → Position → Result Position LineFault
 fault_or (Some fault) p = Err fault
 fault_or None p = Ok p
@@ -106,6 +111,7 @@ reading text = fault_or (first_fault text) (shown text)
 
 -- ---- boards that are solved
 
+-- a board is solved if at most this many squares are empty
 abbrev pub most_empties : ℕ
 most_empties = 30
 
@@ -127,10 +133,12 @@ IsSolvableFault text Space = IsFirstFault text Space
 IsSolvableFault text Mover = IsFirstFault text Mover
 IsSolvableFault text (Empties n) = HasTooManyEmpties text n
 
+-- the reading, with a fault in place of a board that has too many empty squares to be solved
 abbrev pub if_solvable : Result Position LineFault → Result Position LineFault
 if_solvable (Ok p) = if nat_lt most_empties (empty_count p.board) then Err (Empties (empty_count p.board)) else Ok p
 if_solvable (Err fault) = Err fault
 
+-- the position of a board line whose board can be solved, or the first fault of another text
 unfoldable pub solvable_reading : List ℕ → Result Position LineFault
 solvable_reading text = if_solvable (reading text)
 

@@ -1,6 +1,7 @@
 -- Games from a board: a board line, alone or with a space and the transcript of the moves that are played on it.
 --     has_moves line      a space stands behind the first 66 bytes
---     board_part, moves_part line      what stands before that space, and behind it; without it all is the board's
+--     board_part line      what stands before that space; the whole line where there is none
+--     moves_part line      what stands behind that space; nothing where there is none
 --     IsGame line p      the line is a board line and legal moves from its position, which lead to p
 --     IsGameFault line f      it is none, and this is its first fault
 --     game_reading line      the position that a game leads to, or the first fault of another line
@@ -43,6 +44,7 @@ IsGameFault line (Moves f) = HasMovesFault line f
 
 -- ---- the reading, as a function
 
+-- the reading of the moves as that of a game: its fault is the game's
 abbrev pub of_moves : Result Position TranscriptFault → Result Position GameFault
 of_moves (Ok p) = Ok p
 of_moves (Err f) = Err (Moves f)

@@ -34,6 +34,7 @@ moves_or_word End moves = codes "end"
 unfoldable pub moves_line_of : Position → List ℕ
 moves_line_of b = moves_or_word (kind_of b) (legal_squares b)
 
+-- + or -, and + for zero
 abbrev pub sign_byte : ℤ → ℕ
 sign_byte (pos n) = 43
 sign_byte (negsuc n) = 45
@@ -42,6 +43,7 @@ sign_byte (negsuc n) = 45
 abbrev pub score_text : ℤ → List ℕ
 score_text score = sign_byte score ∷ decimal (unsigned_abs score)
 
+-- the squares of all best moves under the scoring g, rising
 unfoldable pub best_squares : Scoring → Position → List ℕ
 best_squares g b = filter (is_best (score_of g) b) squares
 

@@ -101,11 +101,12 @@ pair_fault k p letter digit =
     else (if is_legal p.board (square_of letter digit) then None else Some (Illegal k)))
     else Some (BadPair k)
 
+-- the fault, if there is one, else what the rest leads to
 abbrev pub or_fault : Option TranscriptFault → Result Position TranscriptFault → Result Position TranscriptFault
 or_fault (Some fault) rest = Err fault
 or_fault None rest = rest
 
--- the position after the pairs, from pair k on
+-- the position after the pairs, from pair k on, or their first fault
 unfoldable pub played : ℕ → Position → List ℕ → Result Position TranscriptFault
 played k p [] = Ok p
 played k p (letter ∷ []) = Err OddLength
@@ -114,6 +115,7 @@ played k p (letter ∷ digit ∷ rest) = or_fault (pair_fault k p letter digit) 
 unfoldable pub transcript_reading_from : Position → List ℕ → Result Position TranscriptFault
 transcript_reading_from from text = if length text % 2 == 0 then played 1 from text else Err OddLength
 
+-- the position that a transcript leads to from the start of a game, or the first fault of another text
 abbrev pub transcript_reading : List ℕ → Result Position TranscriptFault
 transcript_reading text = transcript_reading_from start text
 

@@ -12,6 +12,7 @@ use Rattle.oth_rules.specs.Value.{value}
 use Rattle.oth_rules.specs.Symmetry.{IsCanonical}
 use Rattle.oth_search.specs.Bounds.Interval.{IsInterval, Encloses}
 
+-- an entry: a board, and a lower and an upper bound of its value under the scoring
 pub record Bounded : Type 0 where
   pub board : Position
   pub scoring : Scoring
@@ -33,9 +34,11 @@ packed lower upper = raised lower + 256 * raised upper
 abbrev pub words_of : Bounded → List ℕ
 words_of x = x.board.own ∷ x.board.opp ∷ packed x.lower x.upper ∷ []
 
+-- both entries are of one board
 abbrev pub same_board : Bounded → Bounded → Bool
 same_board x y = (x.board.own == y.board.own) && (x.board.opp == y.board.opp)
 
+-- the second entry, with the greater of both lower bounds and the lesser of both upper bounds
 abbrev pub narrowed : Bounded → Bounded → Bounded
 narrowed x y = record { board = y.board; scoring = y.scoring; lower = int_max x.lower y.lower; upper = int_min x.upper y.upper }
 
