@@ -17,7 +17,7 @@ import sys
 CRATE = pathlib.Path(__file__).resolve().parent.parent / "crates/oth_c"
 KIT = ("std", "std_alloc", "core")
 USED = ("oth_rules", "oth_search", "oth_table", "oth_text")
-BELOW = ("oth_history", *USED)
+BELOW = ("oth_history", "oth_device", *USED)
 ARCHIVE = "out/liboth_c.a"
 
 

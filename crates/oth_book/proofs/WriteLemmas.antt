@@ -8,7 +8,7 @@ use Rattle.std.proofs.lemmas.List.{take_more, take-append-drop, take_all}
 use Rattle.std.proofs.lemmas.Grind.{flat_map-append}
 use Rattle.std.proofs.lemmas.Bool.{cases_lt}
 use Rattle.std.proofs.lemmas.Int.{ints}
-use Rattle.oth_text.specs.Device.{AppendsBeginning}
+use Rattle.oth_device.specs.Device.{AppendsBeginning}
 use Rattle.oth_rules.specs.Position.{Position}
 use Rattle.oth_rules.specs.declared.scoring.Scoring.{Scoring}
 use Rattle.oth_book.specs.declared.version.Version.{Version}

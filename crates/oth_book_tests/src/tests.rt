@@ -10,10 +10,10 @@ ghost use Rattle.std.specs.Prelude.{◌≡◌, ◌≤◌, IfSome};
 ghost use Rattle.oth_rules.specs.Position.{empty_count};
 
 use oth_book::{AddError, Added, Book, WriteFault, read_claims, verify, write};
+use oth_device::fakes::ByteSink;
 use oth_rules::samples::board;
 use oth_rules::{Board, Scoring};
 use oth_search::{Answer, Interval, Kind, NoCells, Solved, solve_alone};
-use oth_text::fakes::ByteSink;
 use std::process::Abort;
 
 // Each board by its own and opposing discs.

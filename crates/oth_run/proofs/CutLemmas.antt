@@ -7,7 +7,7 @@ use Rattle.std.proofs.lemmas.Bool.{ne_eqb}
 use Rattle.std.specs.Io.KnownBytes.{Appends, Consumes}
 use Rattle.std.proofs.KnownBytes.{Appends-nil, Consumes-trans}
 use Rattle.oth_text.specs.Transcript.{is_nil}
-use Rattle.oth_text.specs.Device.{AppendsBeginning, IsBeginning}
+use Rattle.oth_device.specs.Device.{AppendsBeginning, IsBeginning}
 use Rattle.std.proofs.lemmas.List.Folds.{list_any-append}
 use Rattle.oth_words.specs.declared.settings.Command.{Command}
 use Rattle.oth_words.specs.declared.settings.Settings.{Settings}

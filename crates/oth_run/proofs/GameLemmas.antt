@@ -5,7 +5,7 @@ use Rattle.std.proofs.lemmas.List.{take-append-drop, take_more}
 use Rattle.std.proofs.lemmas.List.Concat.{flat_map-append}
 use Rattle.oth_rules.specs.declared.scoring.Scoring.{Scoring}
 use Rattle.oth_text.specs.Analysis.{analysis_of, fault_of, fault_part, if_by, loss, lost_by, lost_line, lost_text, told_turns, turn_line, turn_part}
-use Rattle.oth_text.specs.Device.{AppendsBeginning}
+use Rattle.oth_device.specs.Device.{AppendsBeginning}
 use Rattle.oth_text.specs.declared.analysis.Turn.{Turn}
 use Rattle.oth_text.specs.declared.position.Side.{Side}
 use Rattle.oth_text.specs.declared.position.Side.TheVariants.{Black, White}

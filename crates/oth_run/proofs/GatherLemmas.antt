@@ -2,7 +2,7 @@
 use Rattle.std.proofs.Common.{ℕ, List, [], ◌++◌, Option, Result, Ok, Err, OnErr, OnOk, ◌≡◌, refl, subst, sym, ap, ◌∙◌, append_assoc, append-nil}
 use Rattle.std.specs.Io.KnownBytes.{Appends}
 use Rattle.std.proofs.KnownBytes.{Appends-trans}
-use Rattle.oth_text.specs.Device.{AppendsBeginning, IsBeginning}
+use Rattle.oth_device.specs.Device.{AppendsBeginning, IsBeginning}
 use Rattle.oth_run.specs.Gathered.{Gathers, IsGathered, StopsInText, StopsInWaiting}
 
 pub on_err_always : {T E P : Type 0} (r : Result T E) → P → OnErr r P

@@ -5,7 +5,7 @@
 --     StopsInText      what is left where it fails while a text is added
 use Rattle.std.specs.Prelude.{◌≡◌, ℕ, List, ◌++◌, Option}
 use Rattle.std.specs.Io.KnownBytes.{Appends}
-use Rattle.oth_text.specs.Device.{AppendsBeginning}
+use Rattle.oth_device.specs.Device.{AppendsBeginning}
 
 abbrev pub IsGathered : Option (List ℕ) → Option (List ℕ) → List ℕ → List ℕ → Type 0
 IsGathered before sink waiting text = (front : List ℕ) × Appends before sink front × (text ≡ front ++ waiting)

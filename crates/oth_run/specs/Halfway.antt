@@ -7,7 +7,7 @@
 --     RunsOn      a run from wherever the engine is, over further bytes of the input
 use Rattle.std.specs.Prelude.{◌≡◌, ℕ, Bool, List, [], ◌++◌, Option, Result, Ok, Err}
 use Rattle.std.specs.Io.KnownBytes.{Appends}
-use Rattle.oth_text.specs.Device.{AppendsBeginning}
+use Rattle.oth_device.specs.Device.{AppendsBeginning}
 use Rattle.oth_words.specs.declared.settings.Settings.{Settings}
 use Rattle.oth_run.specs.declared.engine.Engine.{Engine}
 use Rattle.oth_run.specs.declared.fault.RunFault.{RunFault}

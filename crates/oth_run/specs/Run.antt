@@ -6,7 +6,7 @@
 --     AreLawful settings      neither number of the settings is refused
 --     RefusesBy workers cells result      the workers are refused, else the cells, exactly where they are no lawful number
 use Rattle.std.specs.Prelude.{◌≡◌, ⊤, ℕ, Bool, true, false, List, [], Result, Ok, Err}
-use Rattle.oth_text.specs.Device.{IsBeginning}
+use Rattle.oth_device.specs.Device.{IsBeginning}
 use Rattle.oth_pieces.specs.Hands.{IsCrew}
 use Rattle.oth_table.specs.Sizes.{IsSizeOrNone}
 use Rattle.oth_words.specs.declared.settings.Command.{Command}

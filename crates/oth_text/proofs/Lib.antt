@@ -1,5 +1,4 @@
 pub mod AnalysisLemmas
-pub mod DeviceLemmas
 pub mod DiscLemmas
 pub mod FaultLemmas
 pub mod ReadingLemmas

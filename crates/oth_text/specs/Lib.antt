@@ -1,4 +1,3 @@
-pub mod Device
 pub mod OneLine
 pub mod Sides
 pub mod BoardLine

@@ -1,4 +1,5 @@
-//! Board lines, transcripts and reports, and the devices that they are read from and written to.
+//! Board lines, transcripts and reports. The devices that they are read from and written to are those of `oth_device`,
+//! handed on.
 //!
 //! Each format is said twice and proved to be one thing: by a relation that a reader can hold against the format's
 //! text (`IsBoardLine`, `IsFirstFault`, `IsTranscript`, `IsTranscriptFault`, `IsGame`, `IsGameFault`: what stands
@@ -12,8 +13,6 @@ mod analysis;
 mod analysis_reader;
 mod board_line;
 mod board_reader;
-mod device;
-pub mod fakes;
 mod fault;
 mod fault_text;
 mod game;
@@ -28,10 +27,10 @@ pub use analysis::{
 pub use analysis_reader::{AnalysisReader, Turns};
 pub use board_line::{BOARD_LINE_LEN, read_board, read_solvable, write_board};
 pub use board_reader::BoardReader;
-pub use device::{Failed, FromRead, Sink, Source, ToWrite, write_all};
 pub use fault::{GameFault, LineFault, TranscriptFault};
 pub use fault_text::{FAULT_LINE_LEN, fault_line, game_fault_line, transcript_fault_line};
 pub use game::{GameReader, read_game};
+pub use oth_device::{Failed, FromRead, Sink, Source, ToWrite, fakes, write_all};
 pub use position::{Position, Side};
 pub use ranking::{SCORES_LINE_LEN, ranked, scores_line};
 pub use report::{MOVES_LINE_LEN, REPORT_LINE_LEN, moves_line, push_report_line, report_line};

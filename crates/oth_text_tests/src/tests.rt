@@ -1,6 +1,5 @@
-//! Board lines, games, reports and devices; what several of these tests take.
+//! Board lines, games and reports; what several of these tests take.
 mod boards;
-mod devices;
 mod games;
 mod turns;
 

@@ -5,7 +5,7 @@ ghost use Rattle.std.specs.Io.KnownBytes.{Appends};
 ghost use Rattle.arrayvec.specs.ArrayVec.{array_vec_len};
 ghost use Rattle.oth_rules.specs.declared.scoring.Scoring.{Scoring as AnyScoring};
 ghost use Rattle.oth_search.specs.Bounds.Interval.{IsInterval};
-ghost use Rattle.oth_text.specs.Device.{AppendsBeginning};
+ghost use Rattle.oth_device.specs.Device.{AppendsBeginning};
 ghost use Rattle.oth_book.specs.Order.{cells};
 ghost use Rattle.oth_book.specs.Numeral.{numeral};
 ghost use Rattle.oth_book.specs.Text.{book_text, entry_line, end_line, signed, IsBookText};
@@ -19,8 +19,8 @@ use crate::claim::Claim;
 use crate::order::cell;
 use crate::version::Version;
 use arrayvec::ArrayVec;
+use oth_device::{Failed, Sink, write_all};
 use oth_rules::Board;
-use oth_text::{Failed, Sink, write_all};
 use thiserror::Error;
 
 // The most bytes of a line.

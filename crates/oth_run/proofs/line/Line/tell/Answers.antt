@@ -1,7 +1,7 @@
 use Rattle.std.proofs.Common.{◌∙◌, ◌++◌, subst}
 use Rattle.std.proofs.lemmas.Result.{on_err_weaker, on_ok_weaker}
 use Rattle.oth_run.specs.Gathered.{IsGathered}
-use Rattle.oth_text.specs.Device.{AppendsBeginning}
+use Rattle.oth_device.specs.Device.{AppendsBeginning}
 use Rattle.oth_run.proofs.GatherLemmas.{gathers_as}
 use Rattle.oth_run.proofs.ReplyLemmas.{analysed, replied}
 use Rattle.oth_run.proofs.line.Line.tell.Goals as goal

@@ -1,0 +1,5 @@
+use Rattle.std.proofs.Common.{rules}
+use Rattle.oth_device.proofs.device.ToWrite.failure.Goals as goal
+
+pub returns : goal.returns
+returns g c = search rules

@@ -1,5 +1,0 @@
-use Rattle.std.proofs.Common.{rules}
-use Rattle.oth_text.proofs.device.ToWrite.failure.Goals as goal
-
-pub returns : goal.returns
-returns g c = search rules
