@@ -17,7 +17,7 @@ use Rattle.oth_rules.specs.Score.{score_of}
 use Rattle.oth_rules.specs.Value.{value}
 use Rattle.oth_search.specs.Bounds.Interval.{IsInterval, Encloses, Decides}
 use Rattle.oth_search.specs.Bounds.Full.{IsFullMinimax}
-use Rattle.oth_search.specs.declared.shared.stop.Stopped.{Stopped}
+use Rattle.oth_search.specs.declared.stop.until.Stopped.{Stopped}
 use Rattle.oth_search.specs.declared.bounds.answer.Answer.{Answer}
 use Rattle.oth_table.specs.SharedTable.{IsSame, Makes}
 use Rattle.oth_table.specs.Parts.{Use, fixed_of}

@@ -13,8 +13,8 @@ use crate::refusal::Refusal;
 use crate::solving::cells_over;
 use oth_rules::{Board, Scoring};
 use oth_search::{
-    Answer, Limited, LocalTables, Scores, Seen, Solved, StopFlag, Stopped, WithLocal, scores_with,
-    solve_until, solve_with,
+    Answer, Limited, LocalTables, Resume, Scores, Solved, StopFlag, Stopped, WithLocal,
+    scores_with, solve_until, solve_with,
 };
 use oth_table::{SharedTable, TableCells, TableError, TableSeat};
 use std::alloc::Global;
@@ -33,7 +33,7 @@ pub struct Seated {
 // What a search that was ended leaves for a further one: what it had come to, and its local tables.
 #[derive(Drop)]
 struct Kept {
-    seen: Seen,
+    resume: Resume,
     memories: Option<LocalTables>,
 }
 
@@ -41,26 +41,26 @@ impl Kept {
     // Nothing by now.
     fn new(alloc: Global) -> Kept {
         Kept {
-            seen: Seen::new(alloc),
+            resume: Resume::new(alloc),
             memories: None,
         }
     }
 
     // What a search leaves: what it had come to, and its local tables where it was ended.
-    fn after(found: &Result<Answer, Stopped>, seen: Seen, memories: LocalTables) -> Kept
+    fn after(found: &Result<Answer, Stopped>, resume: Resume, memories: LocalTables) -> Kept
         ensures { IsSome result.memories ↔ IsErr found.now }
     {
         let memories = if found.is_err() { Some(memories) } else { None };
-        Kept { seen, memories }
+        Kept { resume, memories }
     }
 
     // What it had come to, and local tables for a search of this board: those that are kept, if they are of its size.
-    fn taken_up(self, alloc: Global, board: &Board) -> (Seen, LocalTables) {
-        let Kept { seen, memories } = self;
+    fn taken_up(self, alloc: Global, board: &Board) -> (Resume, LocalTables) {
+        let Kept { resume, memories } = self;
         let empties = board.empties();
         match memories {
-            Some(memories) if memories.are_for(empties) => (seen, memories),
-            _ => (seen, LocalTables::of(alloc, empties, false)),
+            Some(memories) if memories.are_for(empties) => (resume, memories),
+            _ => (resume, LocalTables::of(alloc, empties, false)),
         }
     }
 }
@@ -180,14 +180,14 @@ impl Seated {
             × (s.moves.scoring ≡ self.table.terms.scoring)) }
     {
         let (seat, kept) = (self.seat, self.kept);
-        let (seen, memories) = kept.taken_up(alloc, &board);
+        let (resume, memories) = kept.taken_up(alloc, &board);
         let cells = WithLocal::of(TableCells::of(&self.table, seat), memories);
-        let mut limited = Limited::going_on(cells, most, seen);
+        let mut limited = Limited::going_on(cells, most, resume);
         let found = solve_until(&board, &mut limited, self.table.scoring(), &self.stop);
-        let (cells, seen) = limited.into_parts();
+        let (cells, resume) = limited.into_parts();
         let (cells, memories) = cells.into_parts();
         self.seat = cells.into_seat();
-        self.kept = Kept::after(&found, seen, memories);
+        self.kept = Kept::after(&found, resume, memories);
         (self, found)
     }
 

@@ -9,7 +9,6 @@ ghost use Rattle.std.specs.Prelude.{◌≡◌, IfSome};
 ghost use Rattle.oth_rules.specs.Symmetry.{canonical};
 ghost use Rattle.oth_book.specs.Book.{Has, HasBoard};
 
-use arrayvec::ArrayVec;
 use oth_book::Book;
 use oth_rules::{Board, Scoring};
 use oth_search::{Answer, RootMoves, Solved};
@@ -47,30 +46,20 @@ pub(crate) fn bounds_in(book: Option<&Book>, board: &Board, scoring: Scoring) ->
     }
 }
 
-/// Returns the moves of `by_book`, a board with the book's bounds, with those of the boards after them. Never inlined,
-/// so that the list of these is not on the stack while the board is searched.
-#[inline(never)]
+/// Returns the moves of `by_book`, a board with the book's bounds, in move order, with the book's bounds of the boards
+/// after them.
 pub(crate) fn moves_by_book(by_book: &Solved, book: Option<&Book>) -> RootMoves
     ensures board { result.board ≡ by_book.now.board }
     ensures scoring { result.scoring ≡ by_book.now.scoring }
 {
-    if book.is_none() {
-        return RootMoves::of(by_book, &[]);
+    let mut moves = RootMoves::of(by_book, &[]);
+    if book.is_some() {
+        for place in 0..moves.len() {
+            if let Some(root_move) = moves.get(place) {
+                let known = bounds_in(book, &root_move.child.board, by_book.scoring);
+                moves.narrow(place, &known);
+            }
+        }
     }
-    let known = replies_by_book(&by_book.board, book, by_book.scoring);
-    RootMoves::of(by_book, known.as_slice())
-}
-
-/// Returns the children of `board` in the order in which they are searched, with the book's bounds of each.
-pub(crate) fn replies_by_book(
-    board: &Board,
-    book: Option<&Book>,
-    scoring: Scoring,
-) -> ArrayVec<Solved, 64> {
-    let mut replies = ArrayVec::new();
-    let moves = RootMoves::of(&Solved::unknown(*board, scoring), &[]);
-    for root_move in moves.as_slice() {
-        replies.push(bounds_in(book, &root_move.child.board, scoring));
-    }
-    replies
+    moves
 }

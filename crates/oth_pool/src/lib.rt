@@ -7,7 +7,7 @@
 //! the answer. How the board of a `solve` is searched, with one start of threads:
 //!
 //!     book            an exact entry is the answer; a search begins with the bounds of another, and of the boards
-//!       |             after the moves; higher: or at a guess, where that is far above the moves that are known
+//!       |             after the moves; above_book: or at a guess, if that lies above the best that is known
 //!     frontier        the boards two plies below the root; ranks: what promises most is drawn first
 //!       |
 //!     workers         each: draw a number -> search the item and its move, each new item announced -> reply
@@ -24,10 +24,10 @@
 //! last.
 #![tactic(auto)]
 
+mod above_book;
 mod at_once;
 mod book_lookup;
 mod draw_order;
-mod higher;
 mod means;
 mod queue;
 pub mod run;

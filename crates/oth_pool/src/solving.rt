@@ -8,8 +8,8 @@ ghost use Rattle.oth_pieces.specs.Hands.{IsCrew};
 ghost use Rattle.oth_pieces.specs.History.{floor_after};
 ghost use Rattle.oth_pieces.specs.Watch.{IsSeatOf};
 
+use crate::above_book::{ask_higher, start_of_several};
 use crate::book_lookup::{answer_in, bounds_in, moves_by_book};
-use crate::higher::{ask_higher, start_of_several};
 use crate::means::Means;
 use crate::run::{Gathered, Links, bounds_for, hints_for, run};
 use crate::tuning::{CREW_MIN_EMPTIES, cells_for};
@@ -18,8 +18,8 @@ use oth_book::Book;
 use oth_pieces::{Floor, FloorSeat, Frontier, is_crew};
 use oth_rules::{Board, Scoring};
 use oth_search::{
-    Answer, Cells, Kind, MOST_EMPTIES, NoPeers, RootMoves, Solved, backed_up_from, before_pass,
-    ended, is_few, solve_few, solve_moves,
+    Answer, Cells, Kind, MOST_EMPTIES, NoPeers, RootMove, RootMoves, Solved, backed_up_from,
+    before_pass, ended, is_few, solve_few, solve_moves,
 };
 use oth_table::{SharedTable, TableCells, is_size};
 use oth_walk::{
@@ -243,34 +243,50 @@ fn answer_together<'t, R: Threads + Sync, G: Gate>(
         bounds: &bounds,
         announced: &announced,
     };
+    // As `means`, but no longer than the links.
     let means = Means {
         rt: means.rt,
         alloc,
         gate: means.gate,
         workers: means.workers,
     };
-    let (gathered, found) = run(&means, &search, links, &mut seat, access);
-    let empties = by_book.board.empties();
-    let cells = worker_cells(alloc, empties, sharing, access);
+    let together = run(&means, &search, links, &mut seat, access);
+    let cells = worker_cells(alloc, by_book.board.empties(), sharing, access);
     let seats = Seats {
         root_bound: RootBound::of(&floor, seat),
         hints: HintSeat::none(),
         bounds: BoundsSeat::none(),
         announcer: Announcer::of(alloc, &announced),
     };
-    let mut worker = Worker::of(&search, alloc, cells, seats, means.gate);
-    for root_move in found.as_slice() {
-        worker.update(root_move.square, &root_move.child);
-    }
-    let replies = found_replies(alloc, &search, &gathered, &mut worker);
-    take_in_items(&search, replies.as_slice(), &mut worker);
-    moves.narrow_root(&worker.root());
-    let (mut cells, known) = worker.into_parts();
-    moves.take_in(known.as_slice());
+    let worker = Worker::of(&search, alloc, cells, seats, means.gate);
+    let mut cells = take_in_found(alloc, &search, together, worker, &mut moves);
     let mut alone = Alone::of(alloc, means.gate, &announced);
     let answer = solve_moves(moves, &mut cells, &mut alone);
     announced.finish(means.gate);
     Some(answer)
+}
+
+// Narrows the moves to what the workers found of them and of the items, and to what `worker`, the caller's own, finds
+// of the items that none took. Returns the cells that it searched over.
+fn take_in_found<G: Gate, C: Cells>(
+    alloc: Global,
+    search: &Search,
+    together: (Gathered, Vec<RootMove>),
+    mut worker: Worker<C, G>,
+    moves: &mut RootMoves,
+) -> C
+    ensures { moves.new ≡ moves.old }
+{
+    let (gathered, found) = together;
+    for root_move in found.as_slice() {
+        worker.update(root_move.square, &root_move.child);
+    }
+    let replies = found_replies(alloc, search, &gathered, &mut worker);
+    take_in_items(search, replies.as_slice(), &mut worker);
+    moves.narrow_root(&worker.root());
+    let (cells, known) = worker.into_parts();
+    moves.take_in(known.as_slice());
+    cells
 }
 
 // Makes the frontier of the board on the heap, which leaves the stack to the search. None where there is no memory.

@@ -12,6 +12,7 @@ mod ordering;
 mod pvs;
 mod root;
 mod shared;
+mod stop;
 mod tuning;
 
 pub use bounds::{
@@ -28,4 +29,5 @@ pub use root::{
     is_few, scores_with, seeming_value, settle_at, settle_moves, solve_alone, solve_few,
     solve_moves, solve_with, surest_of, value_of,
 };
-pub use shared::{Limited, Seen, StopFlag, Stopped, TreePeers, put, solve_until};
+pub use shared::{TreePeers, put};
+pub use stop::{Limited, Resume, StopFlag, Stopped, solve_until};

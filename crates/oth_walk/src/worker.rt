@@ -113,7 +113,7 @@ impl<'w, C: Cells, G: Gate> Worker<'w, C, G> {
         ensures board { result.board ≡ known.now.board }
         ensures scoring { result.scoring ≡ known.now.scoring }
     {
-        self.peers.hear(known, &mut self.cells)
+        self.peers.known_by_now(known, &mut self.cells)
     }
 
     /// Asks the root's moves at the guessed score until there is a floor, the move that seems best first. Where no move

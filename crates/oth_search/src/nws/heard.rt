@@ -34,7 +34,7 @@ impl<C: Cells> Hearer<C> for Unheard {
 }
 
 /// As `nws_node`, of the board of `known`, but tells `hearer` of each search of a board after a move, or after a forced
-/// pass and a move, and asks the cells of these boards alone.
+/// pass and a move, and looks up these children alone, not the board.
 pub fn nws_heard<C: Cells, H: Hearer<C>>(
     known: &Solved,
     alpha: i8,

@@ -127,8 +127,8 @@ pub fn before_pass(board: Board, passed: Answer) -> Answer
 }
 
 /// The answer of a root whose mover has a move. A board after a move is searched only where what is known leaves open
-/// whether the move is exact or worse than the score. The peers hear of these searches; where it ends them early,
-/// the rest is searched without it.
+/// whether the move is exact or worse than the score. The peers hear of these searches; where they end one early, the
+/// rest is searched without them.
 pub fn solve_moves<C: Cells, O: RootPeers<C>>(
     mut moves: RootMoves,
     cells: &mut C,

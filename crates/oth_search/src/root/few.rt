@@ -6,7 +6,7 @@ ghost use Rattle.oth_rules.specs.Laws.{IsScore};
 ghost use Rattle.oth_search.specs.Bounds.Interval.{Decides};
 
 use super::best_so_far::BestSoFar;
-use super::step::Pace;
+use super::pace::Pace;
 use crate::bounds::{Answer, Kind, NoCells, Solved, odd_quadrants, preferred, without};
 use crate::nws::nws_with;
 use crate::tuning::FEW_MAX_EMPTIES;

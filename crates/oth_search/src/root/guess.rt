@@ -39,7 +39,7 @@ pub fn guess<C: Cells, O: RootPeers<C>>(
         let at = bracket.at;
         let found = least_seen(moves, &mut seen, at, cells, peers);
         let is_reached = found <= at;
-        peers.tell_seen(&root, -at - 1, -found);
+        peers.tell_guessed(&root, -at - 1, -found);
         bracket = if is_reached {
             bracket.at_most(found)
         } else {
@@ -92,7 +92,7 @@ fn least_seen<C: Cells, O: RootPeers<C>>(
                 upper: 64,
             };
             least = lesser(least, found);
-            if let Some(told_of_root) = peers.seen(&root, -at - 1) {
+            if let Some(told_of_root) = peers.guessed(&root, -at - 1) {
                 return told(moves, at, -told_of_root <= at, peers);
             }
         }
@@ -149,7 +149,7 @@ fn told<C: Cells, O: RootPeers<C>>(
 fn is_told_below<C: Cells, O: RootPeers<C>>(board: &Board, at: i8, peers: &mut O) -> bool
     requires { IsThreshold at }
 {
-    match peers.seen(board, at) {
+    match peers.guessed(board, at) {
         Some(told) => told <= at,
         None => false,
     }
@@ -168,18 +168,18 @@ fn glance_after_move<C: Cells, O: RootPeers<C>>(
     ensures fixed { C.fixed cells.new ≡ C.fixed cells.old }
 {
     let board = reply.board;
-    if let Some(told) = peers.seen(&board, alpha) {
+    if let Some(told) = peers.guessed(&board, alpha) {
         return told;
     }
-    peers.begin(&board);
+    peers.begin_guess(&board);
     let node = Node::of(board);
     let found = if node.moves != 0 {
         glance_at_all_moves(node, alpha, cells, peers, reply.scoring)
     } else {
         seeming_value(board, alpha, cells, reply.scoring)
     };
-    peers.tell_seen(&board, alpha, found);
-    peers.end(&board);
+    peers.tell_guessed(&board, alpha, found);
+    peers.end_guess(&board);
     found
 }
 
@@ -214,7 +214,7 @@ fn glance_at_all_moves<C: Cells, O: RootPeers<C>>(
                 return reply;
             }
             best = greater(best, reply);
-            if let Some(told) = peers.seen(&node.board, alpha) {
+            if let Some(told) = peers.guessed(&node.board, alpha) {
                 return told;
             }
         }
@@ -235,15 +235,15 @@ fn glance_after_reply<C: Cells, O: RootPeers<C>>(
     ensures score { IsScore result }
     ensures fixed { C.fixed cells.new ≡ C.fixed cells.old }
 {
-    if let Some(told) = peers.seen(&board, alpha) {
+    if let Some(told) = peers.guessed(&board, alpha) {
         return told;
     }
     if peers.ends_guess(cells) {
         return alpha;
     }
-    peers.begin(&board);
+    peers.begin_guess(&board);
     let found = seeming_value(board, alpha, cells, scoring);
-    peers.tell_seen(&board, alpha, found);
-    peers.end(&board);
+    peers.tell_guessed(&board, alpha, found);
+    peers.end_guess(&board);
     found
 }

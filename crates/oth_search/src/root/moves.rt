@@ -1,13 +1,14 @@
 //! The moves of a root, each with its square, the board after it, and what is known of that.
 ghost use Rattle.std.specs.Prelude.{◌≡◌, ◌≤◌, ◌↔◌, IsSome, IfSome, true, List, [], length};
 ghost use Rattle.std.specs.List.{push};
+ghost use Rattle.std.specs.List.Sorted.{IsPermutation};
 ghost use Rattle.std.specs.Option.{MatchOption};
 ghost use Rattle.oth_rules.specs.Laws.{IsLegal, IsScore};
-ghost use Rattle.oth_rules.specs.Move.{after, can_move};
+ghost use Rattle.oth_rules.specs.Move.{after, can_move, legal_squares};
 ghost use Rattle.oth_search.specs.Root.Moves.{IsRootMove, AreRootMoves, IsSurest};
 
 use crate::bounds::{Interval, Solved, bounds_among, greater};
-use crate::ordering::order;
+use crate::ordering::{order, order_by_parity};
 use arrayvec::ArrayVec;
 use oth_rules::{Board, Square};
 use std::marker::Model;
@@ -43,7 +44,23 @@ impl RootMoves {
         ensures board { result.board ≡ root.now.board }
         ensures scoring { result.scoring ≡ root.now.scoring }
     {
-        let squares = order(&root.board);
+        RootMoves::listed(root, known, order(&root.board))
+    }
+
+    /// As `of`, in an order that takes no look at what a move leaves, for moves of which all that is asked is known.
+    pub fn unranked(root: &Solved, known: &[Solved]) -> RootMoves
+        ensures board { result.board ≡ root.now.board }
+        ensures scoring { result.scoring ≡ root.now.scoring }
+    {
+        RootMoves::listed(root, known, order_by_parity(&root.board))
+    }
+
+    // The moves of the root in the order of these squares.
+    fn listed(root: &Solved, known: &[Solved], squares: ArrayVec<Square, 64>) -> RootMoves
+        requires { IsPermutation (legal_squares root.now.board) squares.items }
+        ensures board { result.board ≡ root.now.board }
+        ensures scoring { result.scoring ≡ root.now.scoring }
+    {
         let mut list = ArrayVec::new();
         for square in squares.as_slice() {
             let board = root.board.play_legal(*square);
@@ -59,13 +76,44 @@ impl RootMoves {
     pub fn another(&self) -> RootMoves
         ensures { result ≡ self.now }
     {
+        self.copied_to(self.root)
+    }
+
+    /// These moves with what is known of the most that each gives: of the boards after them the lower bounds alone, and
+    /// of the root nothing.
+    pub fn without_least(&self) -> RootMoves
+        ensures { result ≡ self.now }
+    {
+        let mut moves = self.copied_to(Solved::unknown(self.root.board, self.root.scoring));
+        for place in 0..moves.len() {
+            moves.forget_least(place);
+        }
+        moves
+    }
+
+    // A copy of these moves, with other bounds of the root.
+    fn copied_to(&self, root: Solved) -> RootMoves
+        requires board { root.board ≡ self.now.board }
+        requires scoring { root.scoring ≡ self.now.scoring }
+        ensures { result ≡ self.now }
+    {
         let mut list = ArrayVec::new();
         for root_move in self.list.as_slice() {
             list.push(*root_move);
         }
-        RootMoves {
-            root: self.root,
-            list,
+        RootMoves { root, list }
+    }
+
+    // Forgets what the move at this place is known to give at least.
+    fn forget_least(&mut self, place: usize)
+        ensures { self.new ≡ self.old }
+    {
+        if place < self.list.len() {
+            let known = self.list[place];
+            self.list[place] = RootMove {
+                square: known.square,
+                child: with_lower(&known.child),
+            };
         }
     }
 
@@ -235,6 +283,17 @@ pub fn surest_of(moves: &[RootMove]) -> Option<RootMove>
         surest = Some(surer(surest, *root_move));
     }
     surest
+}
+
+// The board with the lower one of its bounds alone.
+fn with_lower(known: &Solved) -> Solved
+    ensures board { result.board ≡ known.now.board }
+    ensures scoring { result.scoring ≡ known.now.scoring }
+{
+    match known.widen(known.interval.lower, 64) {
+        Some(wider) => wider,
+        None => *known,
+    }
 }
 
 // The surest of some moves and the one behind them, by the surest of these moves.

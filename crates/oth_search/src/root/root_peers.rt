@@ -4,7 +4,7 @@ ghost use Rattle.oth_rules.specs.Laws.{IsScore};
 ghost use Rattle.oth_search.specs.Bounds.Interval.{IsThreshold};
 
 use super::moves::{RootMove, RootMoves};
-use super::step::Pace;
+use super::pace::Pace;
 use crate::bounds::{Cells, Interval, Solved};
 use crate::nws::Unheard;
 use oth_rules::{Board, Square};
@@ -14,13 +14,13 @@ use oth_rules::{Board, Square};
 /// each null window to its end. No answer depends on them.
 pub trait RootPeers<C: Cells> {
     /// A search of the board after this move is about to begin.
-    fn before(&mut self, _root_move: &RootMove) {}
+    fn begin_move(&mut self, _root_move: &RootMove) {}
 
     /// That search has ended; `moves` has the bounds of the boards after all moves by now.
-    fn after(&mut self, _root_move: &RootMove, _moves: &RootMoves) {}
+    fn end_move(&mut self, _root_move: &RootMove, _moves: &RootMoves) {}
 
     /// Returns what is known of the board after a move by now, whoever found it.
-    fn hear(&mut self, known: &Solved, _cells: &mut C) -> Solved
+    fn known_by_now(&mut self, known: &Solved, _cells: &mut C) -> Solved
         ensures board { result.board ≡ known.now.board }
         ensures scoring { result.scoring ≡ known.now.scoring }
         ensures fixed { C.fixed _cells.new ≡ C.fixed _cells.old }
@@ -67,7 +67,7 @@ pub trait RootPeers<C: Cells> {
 
     /// During a first guess: a bound, on its side of `alpha`, of what the board seems to have, if another worker told
     /// it, or this one in a search that was ended.
-    fn seen(&mut self, _board: &Board, _alpha: i8) -> Option<i8>
+    fn guessed(&mut self, _board: &Board, _alpha: i8) -> Option<i8>
         requires { IsThreshold _alpha }
         ensures { IfSome result IsScore }
     {
@@ -75,7 +75,7 @@ pub trait RootPeers<C: Cells> {
     }
 
     /// During a first guess: tells a bound, on its side of `alpha`, of what the board seems to have.
-    fn tell_seen(&mut self, _board: &Board, _alpha: i8, _found: i8)
+    fn tell_guessed(&mut self, _board: &Board, _alpha: i8, _found: i8)
         requires threshold { IsThreshold _alpha }
         requires score { IsScore _found }
     {}
@@ -86,10 +86,10 @@ pub trait RootPeers<C: Cells> {
     }
 
     /// During a first guess: a look at the board begins.
-    fn begin(&mut self, _board: &Board) {}
+    fn begin_guess(&mut self, _board: &Board) {}
 
     /// That look has ended.
-    fn end(&mut self, _board: &Board) {}
+    fn end_guess(&mut self, _board: &Board) {}
 
     /// During a first guess: whether it ends with what was seen by now.
     fn ends_guess(&mut self, _cells: &mut C) -> bool
@@ -98,7 +98,7 @@ pub trait RootPeers<C: Cells> {
         false
     }
 
-    /// Whether the search ends, with no further null window.
+    /// Whether to stop asking: no further null window is searched.
     fn is_over(&self, _cells: &C) -> bool {
         false
     }

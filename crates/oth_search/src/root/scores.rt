@@ -126,7 +126,7 @@ pub fn answer_by<C: Cells>(
     ensures fixed { C.fixed cells.new ≡ C.fixed cells.old }
 {
     let root = Solved::unknown(board, scoring);
-    solve_moves(RootMoves::of(&root, known), cells, &mut NoPeers)
+    solve_moves(RootMoves::unranked(&root, known), cells, &mut NoPeers)
 }
 
 // The boards after the moves of a board, each with its exact value, in move order. The search of each starts from the

@@ -10,8 +10,8 @@ ghost use Rattle.oth_search.specs.Bounds.Interval.{IsThreshold};
 
 use super::guess::guess;
 use super::moves::{RootMove, RootMoves};
+use super::pace::Pace;
 use super::root_peers::RootPeers;
-use super::step::Pace;
 use crate::bounds::{Cells, Interval, lesser};
 use crate::tuning::{FIRST_BOUND_ROUNDS, GUESS_MIN_EMPTIES, MOST_FRUITLESS};
 
@@ -98,8 +98,8 @@ pub(crate) fn settle<C: Cells, O: RootPeers<C>>(
 }
 
 /// Asks the boards after the moves at the threshold of this round, and while all are above it in further rounds at
-/// higher ones, until an upper bound below 64 is known of one or the search is over. Leaves the round that ended it, or
-/// after `FIRST_BOUND_ROUNDS` rounds the one that would come next.
+/// higher ones, until an upper bound below 64 is known of one or the search is over. `round` is then the last one
+/// asked, or the next if none of `FIRST_BOUND_ROUNDS` rounds gave a bound.
 pub fn ask_in_rounds<C: Cells, O: RootPeers<C>>(
     moves: &mut RootMoves,
     round: &mut Round,
@@ -114,7 +114,7 @@ pub fn ask_in_rounds<C: Cells, O: RootPeers<C>>(
             if is_bounded(moves, cells, peers) {
                 return;
             }
-            heard(moves, place, cells, peers);
+            refreshed(moves, place, cells, peers);
             ask_at(moves, place, round.at, cells, peers);
         }
         if is_bounded(moves, cells, peers) {
@@ -184,15 +184,15 @@ pub fn ask_at<C: Cells, O: RootPeers<C>>(
     if known.child.interval.lower > most {
         return false;
     }
-    peers.before(&known);
+    peers.begin_move(&known);
     let found = peers.decide(&known, most, cells);
     moves.narrow(place, &found);
-    peers.after(&known, &*moves);
+    peers.end_move(&known, &*moves);
     found.interval.upper <= most
 }
 
 // The move at `place`, if there is one, with what is known of the board after it by now, whoever found it.
-fn heard<C: Cells, O: RootPeers<C>>(
+fn refreshed<C: Cells, O: RootPeers<C>>(
     moves: &mut RootMoves,
     place: usize,
     cells: &mut C,
@@ -202,7 +202,7 @@ fn heard<C: Cells, O: RootPeers<C>>(
     ensures fixed { C.fixed cells.new ≡ C.fixed cells.old }
 {
     let known = moves.get(place)?;
-    let told = peers.hear(&known.child, cells);
+    let told = peers.known_by_now(&known.child, cells);
     moves.narrow(place, &told);
     moves.get(place)
 }
@@ -222,21 +222,21 @@ pub fn settle_at<C: Cells, O: RootPeers<C>>(
     if peers.is_over(cells) {
         return;
     }
-    let Some(known) = heard(moves, place, cells, peers) else {
+    let Some(known) = refreshed(moves, place, cells, peers) else {
         return;
     };
     let best = best(moves, peers);
     if known.child.is_settled(goal.threshold(best)) || peers.is_done(known.square) {
         return;
     }
-    peers.before(&known);
+    peers.begin_move(&known);
     let mut course = Course::to(goal);
     for _ in 0..MOST_QUESTIONS {
         if !course.ask(moves, place, cells, peers) {
             break;
         }
     }
-    peers.after(&known, &*moves);
+    peers.end_move(&known, &*moves);
 }
 
 // The null windows by which a board after a move is settled.
@@ -246,7 +246,7 @@ struct Course {
     pace: Pace,
     // The best upper bound of the others when the board was last compared with it. Steps widen only below it.
     others_best: i8,
-    // How many of them told nothing new.
+    // Null windows so far that told nothing new.
     fruitless: u8,
 }
 

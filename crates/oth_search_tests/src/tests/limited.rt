@@ -7,7 +7,7 @@ mod refused;
 use super::{board_of, line_of};
 use oth_rules::{Board, Scoring};
 use oth_search::{
-    Cells, Entry, Interval, Limited, LocalTable, NoCells, Seen, Solved, StopFlag, Stopped,
+    Cells, Entry, Interval, Limited, LocalTable, NoCells, Resume, Solved, StopFlag, Stopped,
     WithLocal, solve_alone, solve_until,
 };
 use std::alloc::Global;
@@ -221,14 +221,14 @@ impl Cells for Kept {
 // before. Returns the number of calls and of boards that were asked for.
 fn solved_by_calls<R: AllocGlobal + Abort>(rt: &R, board: &Board, limit: u64) -> (u64, u64) {
     let mut kept = Kept::new(rt.alloc());
-    let mut seen = Seen::new(rt.alloc());
+    let mut resume = Resume::new(rt.alloc());
     let stop = StopFlag::new();
     for calls in 1..1_000u64 {
-        let mut cells = Limited::going_on(kept, limit, seen);
+        let mut cells = Limited::going_on(kept, limit, resume);
         let found = solve_until(board, &mut cells, Scoring::Winner, &stop);
-        let (back, saw) = cells.into_parts();
+        let (back, left_off) = cells.into_parts();
         kept = back;
-        seen = saw;
+        resume = left_off;
         match found {
             Ok(answer) => {
                 assert!(rt; answer.board == *board);

@@ -38,7 +38,7 @@ fn known_of(moves: &RootMoves) -> (Solved, u64) {
 }
 
 impl<'g, G: Gate, C: Cells> RootPeers<C> for Alone<'g, G> {
-    fn after(&mut self, _root_move: &RootMove, moves: &RootMoves) {
+    fn end_move(&mut self, _root_move: &RootMove, moves: &RootMoves) {
         if self.gate.follows() {
             let (root, settled) = known_of(moves);
             self.gate.goes_on(&root, settled);

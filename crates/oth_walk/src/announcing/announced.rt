@@ -113,9 +113,9 @@ impl Announced {
         !self.heard.is_empty()
     }
 
-    /// Whether it is the caller who announces the item, whose search is about to begin: nobody did. It tells the gate,
-    /// and then calls `tell`. Where another thread is telling the gate, that is given the processor for a while, so
-    /// that nobody searches the item before.
+    /// Claims the item, whose search is about to begin. True: the caller tells the gate, then calls `tell`. Where
+    /// another thread is telling the gate, that is given the processor for a while, so that nobody searches the item
+    /// before.
     pub(crate) fn take(&self, number: u32) -> bool {
         if self.taken.add(number) {
             return true;

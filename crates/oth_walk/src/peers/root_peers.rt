@@ -13,15 +13,15 @@ use oth_rules::{Board, Square};
 use oth_search::{Cells, Interval, NullWindow, Pace, RootMove, RootMoves, RootPeers, Solved, put};
 
 impl<'w, G: Gate, C: Cells> RootPeers<C> for Peers<'w, G> {
-    fn before(&mut self, root_move: &RootMove) {
+    fn begin_move(&mut self, root_move: &RootMove) {
         self.hints.begin(&root_move.child.board);
     }
 
-    fn after(&mut self, root_move: &RootMove, _moves: &RootMoves) {
+    fn end_move(&mut self, root_move: &RootMove, _moves: &RootMoves) {
         self.hints.end(&root_move.child.board);
     }
 
-    fn hear(&mut self, known: &Solved, cells: &mut C) -> Solved {
+    fn known_by_now(&mut self, known: &Solved, cells: &mut C) -> Solved {
         known.joined(&Solved::looked_up(&known.board, cells, known.scoring))
     }
 
@@ -67,7 +67,7 @@ impl<'w, G: Gate, C: Cells> RootPeers<C> for Peers<'w, G> {
         found
     }
 
-    fn seen(&mut self, board: &Board, alpha: i8) -> Option<i8> {
+    fn guessed(&mut self, board: &Board, alpha: i8) -> Option<i8> {
         if !self.guesses() {
             return None;
         }
@@ -75,7 +75,7 @@ impl<'w, G: Gate, C: Cells> RootPeers<C> for Peers<'w, G> {
         Some(beside(alpha, is_above))
     }
 
-    fn tell_seen(&mut self, board: &Board, alpha: i8, found: i8) {
+    fn tell_guessed(&mut self, board: &Board, alpha: i8, found: i8) {
         self.hints.tell_seen(board, alpha + 1, found > alpha);
     }
 
@@ -83,11 +83,11 @@ impl<'w, G: Gate, C: Cells> RootPeers<C> for Peers<'w, G> {
         self.guesses() && self.hints.is_searched(board)
     }
 
-    fn begin(&mut self, board: &Board) {
+    fn begin_guess(&mut self, board: &Board) {
         self.hints.begin(board);
     }
 
-    fn end(&mut self, board: &Board) {
+    fn end_guess(&mut self, board: &Board) {
         self.hints.end(board);
     }
 }

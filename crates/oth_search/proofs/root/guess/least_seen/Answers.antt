@@ -3,8 +3,8 @@ use Rattle.std.proofs.lemmas.Int.{ints}
 use Rattle.oth_search.proofs.RootLemmas.RootSearch.{IsScore-one}
 use Rattle.oth_search.proofs.root.guess.least_seen.Goals as goal
 
-pub seen-requires : goal.seen-requires
-seen-requires g c = record { low = omega (arith, ints, c.requires.threshold.high); high = omega (arith, ints, c.requires.threshold.low) }
+pub guessed-requires : goal.guessed-requires
+guessed-requires g c = record { low = omega (arith, ints, c.requires.threshold.high); high = omega (arith, ints, c.requires.threshold.low) }
 
 pub loop-place-preserved : goal.loop-place-preserved
 loop-place-preserved g c =
