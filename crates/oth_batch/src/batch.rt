@@ -1,4 +1,4 @@
-//! What the boards of a batch are solved with, and all answers of a batch.
+//! What boards are solved with (threads, memory, gate, book, workers, cells, scoring), and all answers of a batch.
 
 ghost use Rattle.std.specs.Prelude.{◌≡◌, All, Contains, IfErr, IfOk, IfSome};
 ghost use Rattle.std.specs.Thread.{IsSync};

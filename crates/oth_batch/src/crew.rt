@@ -3,7 +3,6 @@
 ghost use Rattle.std.specs.Prelude.{◌≡◌};
 ghost use Rattle.std.specs.Thread.{IsSync};
 
-use crate::batch::Batch;
 use crate::beside::beside;
 use crate::jobs::Jobs;
 use oth_pool::Gate;
@@ -22,7 +21,8 @@ struct Given {
 /// often begins when the batch is half done.
 #[derive(Drop)]
 pub struct Crew<'b, R, G> {
-    jobs: RwLock<Jobs<'b, R, G>>,
+    // Those that were given last, if some were.
+    jobs: RwLock<Option<Jobs<'b, R, G>>>,
     given: Mutex<Given>,
     changed: Condvar,
     // How many threads were asked for.
@@ -31,9 +31,9 @@ pub struct Crew<'b, R, G> {
 
 impl<'b, R: Wait + Threads + Sync, G: Gate> Crew<'b, R, G> {
     /// A crew to which no jobs were given.
-    pub fn new(batch: &'b Batch<'b, R, G>) -> Self {
+    pub fn new() -> Self {
         Crew {
-            jobs: RwLock::new(Jobs::none(batch)),
+            jobs: RwLock::new(None),
             given: Mutex::new(Given {
                 batches: 0,
                 is_over: false,
@@ -43,9 +43,9 @@ impl<'b, R: Wait + Threads + Sync, G: Gate> Crew<'b, R, G> {
         }
     }
 
-    /// Gives the crew these jobs. Waits until it is done with those before.
-    pub fn give(&self, rt: &R, jobs: Jobs<'b, R, G>) {
-        let has_jobs = !jobs.is_empty();
+    /// Gives the crew these jobs, or none. Waits until it is done with those before.
+    pub fn give(&self, rt: &R, jobs: Option<Jobs<'b, R, G>>) {
+        let has_jobs = jobs.is_some();
         *self.jobs.write(rt) = jobs;
         if has_jobs {
             let mut given = self.given.lock(rt);
@@ -55,8 +55,8 @@ impl<'b, R: Wait + Threads + Sync, G: Gate> Crew<'b, R, G> {
         }
     }
 
-    /// The jobs that were given last. While they are held no others can be given.
-    pub fn jobs(&self, rt: &R) -> RwLockReadGuard<'_, Jobs<'b, R, G>> {
+    /// The jobs that were given last, if some were. While they are held no others can be given.
+    pub fn jobs(&self, rt: &R) -> RwLockReadGuard<'_, Option<Jobs<'b, R, G>>> {
         self.jobs.read(rt)
     }
 
@@ -92,7 +92,9 @@ impl<'b, R: Wait + Threads + Sync, G: Gate> Crew<'b, R, G> {
                 break;
             }
             seen = given.batches;
-            self.jobs(rt).work();
+            if let Some(jobs) = &*self.jobs(rt) {
+                jobs.work();
+            }
         }
     }
 

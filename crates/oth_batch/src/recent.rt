@@ -3,8 +3,8 @@
 ghost use Rattle.std.specs.Prelude.{◌≡◌, IfSome};
 
 use crate::asked::{Asked, Found, key_of};
-use crate::effort::is_worth_a_key;
 use crate::found::copied;
+use crate::split::is_worth_a_key;
 use crate::tuning::RECENT_BOARDS;
 use oth_rules::{Board, Scoring};
 use oth_search::{Answer, Scores};
@@ -14,9 +14,8 @@ use std::mem;
 use std::sync::Mutex;
 
 /// What was found of the last boards of which a run asked one thing, so that a board that comes again is not searched
-/// again, nor where answers are asked an image of it. Boards of few empty squares are left out, since their search
-/// takes no longer than a look. Each call is made by one thread, and each takes the lock for itself: who borrows this
-/// may keep something in it. Where memory is refused, less is kept.
+/// again. An answer serves all eight images of its board. Boards of few empty squares are left out, since their search
+/// takes no longer than a look. It is locked inside, so that `&self` can add. Where memory is refused, less is kept.
 #[derive(Drop)]
 pub struct Recent {
     alloc: Global,
@@ -25,7 +24,7 @@ pub struct Recent {
 }
 
 // What was found, by the key of its board: of the last `RECENT_BOARDS` boards at least, and of no more than twice as
-// many. When the young ones are as many, they are the old ones, and those before them are gone.
+// many. Two generations: a full young map becomes the old one.
 #[derive(Drop)]
 struct Kept {
     young: HashMap<(u64, u64), Found>,

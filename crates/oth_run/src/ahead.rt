@@ -84,29 +84,14 @@ pub(crate) fn asked_by(command: Command) -> Option<Asked> {
     }
 }
 
-/// Makes jobs of the boards, or of the games, of the whole lines in `bytes`, up to `MOST_JOBS`, but of those of which
-/// something was found lately. There are none where the command asks for no search, one worker is asked for or enough,
-/// or there is no memory.
+/// Makes jobs for the whole lines in `bytes`, up to `MOST_JOBS`, but for boards in `Recent`: of their boards, or of
+/// their games. None where the command asks for no search, one worker is enough, or there is no memory.
 pub(crate) fn jobs_of_lines<'b, T: Threads + Sync, G: Gate>(
-    solver: &'b Solver<'b, T, G>,
-    bytes: &[u8],
-) -> Jobs<'b, T, G> {
-    match jobs_beside(solver, bytes) {
-        Some(jobs) => jobs,
-        None => Jobs::none(&solver.batch),
-    }
-}
-
-// As `jobs_of_lines`, if there are some.
-fn jobs_beside<'b, T: Threads + Sync, G: Gate>(
     solver: &'b Solver<'b, T, G>,
     bytes: &[u8],
 ) -> Option<Jobs<'b, T, G>> {
     let (alloc, recent) = (solver.batch.alloc, &solver.recent);
     let command = solver.settings.get().command;
-    if solver.batch.workers < 2 {
-        return None;
-    }
     if let Command::Analyse(last) = command {
         let games = of_lines(alloc, bytes, |line: &[u8]| -> Option<Vec<Turn>> {
             turns_of_line(alloc, recent, last, line)

@@ -55,7 +55,7 @@ impl Engine {
     fn end_line<T: Wait + Threads + Sync, W: Sink, G: Gate>(
         &mut self,
         solver: &Solver<'_, T, G>,
-        jobs: &Jobs<'_, T, G>,
+        jobs: Option<&Jobs<'_, T, G>>,
         writer: &mut W,
     ) -> Result<(), Failed>
         ensures line { OnOk result ((number : ℕ) (line : List ℕ)
@@ -83,7 +83,7 @@ impl Engine {
     fn take_line<T: Wait + Threads + Sync, W: Sink, G: Gate>(
         &mut self,
         solver: &Solver<'_, T, G>,
-        jobs: &Jobs<'_, T, G>,
+        jobs: Option<&Jobs<'_, T, G>>,
         writer: &mut W,
         part: &[u8],
     ) -> Result<(), Failed>
@@ -107,7 +107,7 @@ impl Engine {
     fn take_bytes<T: Wait + Threads + Sync, W: Sink, G: Gate>(
         &mut self,
         solver: &Solver<'_, T, G>,
-        jobs: &Jobs<'_, T, G>,
+        jobs: Option<&Jobs<'_, T, G>>,
         writer: &mut W,
         bytes: &[u8],
     ) -> Result<(), Failed>
@@ -146,8 +146,7 @@ impl Engine {
         if self.line.is_empty() {
             return Ok(());
         }
-        let jobs = Jobs::none(&solver.batch);
-        self.end_line(solver, &jobs, writer)
+        self.end_line(solver, solver.no_jobs(), writer)
     }
 
     /// Answers the last line, unless it is empty, writes what is left of the report, and flushes.

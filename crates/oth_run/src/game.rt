@@ -88,7 +88,7 @@ impl BegunGame {
     pub fn tell<T: Wait + Threads + Sync, W: Sink, G: Gate>(
         &self,
         solver: &Solver<'_, T, G>,
-        jobs: &Jobs<'_, T, G>,
+        jobs: Option<&Jobs<'_, T, G>>,
         waiting: &mut Waiting,
         writer: &mut W,
     ) -> Result<(), Failed>

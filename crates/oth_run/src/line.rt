@@ -129,7 +129,7 @@ impl Line {
     pub fn tell<T: Wait + Threads + Sync, W: Sink, G: Gate>(
         &self,
         solver: &Solver<'_, T, G>,
-        jobs: &Jobs<'_, T, G>,
+        jobs: Option<&Jobs<'_, T, G>>,
         waiting: &mut Waiting,
         writer: &mut W,
     ) -> Result<(), Failed>
@@ -184,7 +184,7 @@ fn awaited_position<T: Threads + Sync, G: Gate>(
 fn tell_answer<T: Wait + Threads + Sync, W: Sink, G: Gate>(
     reader: &BoardReader,
     solver: &Solver<'_, T, G>,
-    jobs: &Jobs<'_, T, G>,
+    jobs: Option<&Jobs<'_, T, G>>,
     waiting: &mut Waiting,
     writer: &mut W,
 ) -> Result<(), Failed>
@@ -211,7 +211,7 @@ fn tell_answer<T: Wait + Threads + Sync, W: Sink, G: Gate>(
 fn tell_scores<T: Wait + Threads + Sync, W: Sink, G: Gate>(
     reader: &BoardReader,
     solver: &Solver<'_, T, G>,
-    jobs: &Jobs<'_, T, G>,
+    jobs: Option<&Jobs<'_, T, G>>,
     waiting: &mut Waiting,
     writer: &mut W,
 ) -> Result<(), Failed>

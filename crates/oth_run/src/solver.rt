@@ -1,4 +1,4 @@
-//! What boards are solved with.
+//! What the boards of a run are solved with: the batch, lawful settings, and what was found of the last boards.
 
 ghost use Rattle.std.specs.Prelude.{◌≡◌, ◌≤◌, ◌<◌, ◌↔◌, IsErr, IfErr};
 ghost use Rattle.std.specs.Thread.{IsSync};
@@ -34,6 +34,11 @@ pub struct Solver<'s, T, G> {
 }
 
 impl<'s, T: Threads + Sync, G: Gate> Solver<'s, T, G> {
+    /// No jobs, with the lifetimes of some.
+    pub(crate) fn no_jobs(&self) -> Option<&Jobs<'s, T, G>> {
+        None
+    }
+
     /// Solves as the settings say, with threads of `rt`, memory of `alloc`, and a gate that hears of each part of each
     /// search. A book that is given is asked for each board before it is searched. Nothing was found yet.
     pub fn of(
@@ -125,11 +130,14 @@ impl<'s, T: Wait + Threads + Sync, G: Gate> Solver<'s, T, G> {
     /// The answers of the boards before and after these turns, as a book, found from the last turn to the first. If a
     /// job begins with their first board, waits for the worker that has it, or takes the job. A board of which that
     /// tells no answer is solved here. One for which there is no memory is left out.
-    pub fn known_of(&self, jobs: &Jobs<'_, T, G>, turns: &[Turn]) -> Book {
+    pub fn known_of(&self, jobs: Option<&Jobs<'_, T, G>>, turns: &[Turn]) -> Book {
         if let Some(turn) = turns.first() {
             self.batch.gate.awaits(&turn.before.board);
         }
-        let found = jobs.known_of(self.batch.rt, turns);
+        let found = match jobs {
+            Some(jobs) => jobs.known_of(self.batch.rt, turns),
+            None => None,
+        };
         let nothing = Book::new(self.batch.alloc, self.batch.scoring);
         known_by(
             nothing,
@@ -149,12 +157,16 @@ impl<'s, T: Wait + Threads + Sync, G: Gate> Solver<'s, T, G> {
 
     /// Returns the board's answer. If the board is a job, waits for the worker that has it, or takes the job; else
     /// solves the board here.
-    pub(crate) fn awaited_answer(&self, jobs: &Jobs<'_, T, G>, board: &Board) -> Answer
+    pub(crate) fn awaited_answer(&self, jobs: Option<&Jobs<'_, T, G>>, board: &Board) -> Answer
         requires { empty_count board.now ≤ 30 }
         ensures board { result.board ≡ board.now }
         ensures scoring { result.scoring ≡ self.now.settings.scoring }
     {
-        match jobs.answer_of(self.batch.rt, board) {
+        let found = match jobs {
+            Some(jobs) => jobs.answer_of(self.batch.rt, board),
+            None => None,
+        };
+        match found {
             Some(answer) if answer.scoring == self.batch.scoring => {
                 self.recent.keep_answer(&answer);
                 answer
@@ -167,7 +179,7 @@ impl<'s, T: Wait + Threads + Sync, G: Gate> Solver<'s, T, G> {
     /// scores its moves here.
     pub(crate) fn awaited_scores_line(
         &self,
-        jobs: &Jobs<'_, T, G>,
+        jobs: Option<&Jobs<'_, T, G>>,
         board: &Board,
     ) -> ArrayVec<u8, SCORES_LINE_LEN>
         requires { empty_count board.now ≤ 30 }
@@ -177,7 +189,11 @@ impl<'s, T: Wait + Threads + Sync, G: Gate> Solver<'s, T, G> {
         if let Some(scores) = self.recent.scores_of(board, scoring) {
             return scores_line(&scores);
         }
-        match jobs.scores_of(self.batch.rt, board) {
+        let found = match jobs {
+            Some(jobs) => jobs.scores_of(self.batch.rt, board),
+            None => None,
+        };
+        match found {
             Some(scores) if scores.answer.scoring == scoring => {
                 self.recent.keep_scores(scores);
                 scores_line(scores)

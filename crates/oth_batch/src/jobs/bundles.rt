@@ -3,7 +3,7 @@
 use super::bundle::{Bundle, BundleBoards};
 use crate::asked::Asked;
 use crate::batch::Batch;
-use crate::effort::{Split, is_asked_in_turn};
+use crate::split::{Split, is_asked_in_turn};
 use crate::tuning::BUNDLE_LEN;
 use oth_pool::Gate;
 use oth_rules::Board;
@@ -30,8 +30,8 @@ pub(crate) struct Spot {
 }
 
 impl Bundles {
-    /// No bundles.
-    pub fn none(alloc: Global, asked: Asked) -> Bundles {
+    // No bundles.
+    fn none(alloc: Global, asked: Asked) -> Bundles {
         Bundles {
             asked,
             list: Vec::new(alloc),

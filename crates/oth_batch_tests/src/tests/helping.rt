@@ -83,7 +83,7 @@ fn a_crew_begins_each_batch_by_itself(rt: HostRuntime) -> Result<(), Fail> {
     };
     let gate = Begun::new();
     let batch = heard_batch(&rt, &gate);
-    let crew = Crew::new(&batch);
+    let crew = Crew::new();
     let mut work = || {
         let mut searches = 0u64;
         for (boards, searched) in [
@@ -94,7 +94,7 @@ fn a_crew_begins_each_batch_by_itself(rt: HostRuntime) -> Result<(), Fail> {
             let Some(jobs) = Jobs::of(&batch, Asked::Answer, boards) else {
                 return false;
             };
-            crew.give(&rt, jobs);
+            crew.give(&rt, Some(jobs));
             searches = searches.saturating_add(searched);
             if !gate.reaches(searches) {
                 return false;

@@ -114,19 +114,16 @@ fn no_job_is_begun_after_a_stop(rt: HostRuntime) -> Result<(), Fail> {
     Ok(())
 }
 
+// Its threads end without a job, so that nothing is waited for.
 #[test]
-fn no_jobs_have_no_answer(rt: HostRuntime) -> Result<(), Fail> {
-    let Some(boards) = images(rt.alloc(), 10) else {
-        panic!(rt; "no boards")
-    };
+fn a_crew_without_jobs_has_none(rt: HostRuntime) {
     let batch = batch(&rt, 4, 64, Scoring::Winner);
-    let jobs = Jobs::none(&batch);
-    let mut work = || 7u8;
-    assert!(rt; jobs.beside(0, &mut work) == 7);
-    for board in boards.as_slice() {
-        assert!(rt; jobs.answer_of(&rt, board).is_none());
-    }
-    Ok(())
+    let crew = Crew::new();
+    let mut work = || {
+        crew.give(&rt, Jobs::of(&batch, Asked::Answer, &[]));
+        crew.jobs(&rt).is_none()
+    };
+    assert!(rt; crew.beside(&rt, 3, &mut work));
 }
 
 #[test]
@@ -233,14 +230,15 @@ fn a_crew_does_the_jobs_of_one_batch_after_the_other(rt: HostRuntime) -> Result<
     }
     for workers in [2, 4, 16] {
         let batch = batch(&rt, workers, 64, Scoring::Discs);
-        let crew = Crew::new(&batch);
+        let crew = Crew::new();
         let mut work = || {
             let mut right = 0u32;
             for boards in [many.as_slice(), small.as_slice(), many.as_slice()] {
-                if let Some(jobs) = Jobs::of(&batch, Asked::Answer, boards) {
-                    crew.give(&rt, jobs);
-                }
-                let jobs = crew.jobs(&rt);
+                crew.give(&rt, Jobs::of(&batch, Asked::Answer, boards));
+                let given = crew.jobs(&rt);
+                let Some(jobs) = &*given else {
+                    return 0;
+                };
                 for board in boards {
                     if jobs.answer_of(&rt, board) == solve_alone(board, Scoring::Discs).ok() {
                         right = right.saturating_add(1);

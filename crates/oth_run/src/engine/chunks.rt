@@ -1,4 +1,5 @@
-//! The lines that byte 10 ends, a chunk of the input at a time, while a crew does the jobs of each chunk.
+//! The lines that byte 10 ends, a chunk of the input at a time. Where several workers were asked for, a crew does the
+//! jobs of each chunk meanwhile.
 
 ghost use Rattle.std.specs.Prelude.{◌≡◌, ◌<◌, ◌≤◌, ℕ, List, [], ◌++◌, false, true, length, take, OnOk, OnErr};
 ghost use Rattle.std.specs.Io.KnownBytes.{Consumes, IsAtEnd};
@@ -19,12 +20,12 @@ use std::sync::Wait;
 use std::thread::Threads;
 
 impl Engine {
-    // As `take_bytes`, while the crew, and further workers where these pay, do the jobs that were given to it, until a
-    // write fails.
+    // As `take_bytes`, while the crew, if there is one, and further workers where these pay, do the jobs that were
+    // given to it, until a write fails.
     fn take_beside<T: Wait + Threads + Sync, W: Sink, G: Gate>(
         &mut self,
         solver: &Solver<'_, T, G>,
-        crew: &Crew<'_, T, G>,
+        crew: Option<&Crew<'_, T, G>>,
         writer: &mut W,
         bytes: &[u8],
     ) -> Result<(), Failed>
@@ -35,8 +36,13 @@ impl Engine {
         ensures works { OnOk result (W.failed writer.new ≡ W.failed writer.old) }
         ensures fails { OnErr result (W.failed writer.new ≡ true) }
     {
+        let Some(crew) = crew else {
+            return self.take_bytes(solver, solver.no_jobs(), writer, bytes);
+        };
         let given = crew.jobs(solver.batch.rt);
-        let jobs = &*given;
+        let Some(jobs) = &*given else {
+            return self.take_bytes(solver, solver.no_jobs(), writer, bytes);
+        };
         let mut work = || -> Result<(), Failed>
             ensures ok { OnOk result (Takes solver.entry.now.settings self.entry.now self.exit.now
                 (W.contents writer.entry.now) (W.contents writer.exit.now) bytes.entry.now) }
@@ -45,7 +51,7 @@ impl Engine {
             ensures works { OnOk result (W.failed writer.exit.now ≡ W.failed writer.entry.now) }
             ensures fails { OnErr result (W.failed writer.exit.now ≡ true) }
         {
-            let taken = self.take_bytes(solver, jobs, writer, bytes);
+            let taken = self.take_bytes(solver, Some(jobs), writer, bytes);
             if taken.is_err() {
                 jobs.stop();
             }
@@ -59,7 +65,7 @@ impl Engine {
     fn take_chunk<T: Wait + Threads + Sync, W: Sink, G: Gate>(
         &mut self,
         solver: &Solver<'_, T, G>,
-        crew: &Crew<'_, T, G>,
+        crew: Option<&Crew<'_, T, G>>,
         writer: &mut W,
         bytes: &[u8],
     ) -> Result<(), Failed>
@@ -77,11 +83,11 @@ impl Engine {
     }
 
     // Reads on to the end of input, a chunk at a time, and writes the reports of the lines that byte 10 ends. Each
-    // chunk's jobs are given to the crew.
+    // chunk's jobs are given to the crew, if there is one.
     fn run_on<'s, T: Wait + Threads + Sync, R: Source, W: Sink, G: Gate>(
         &mut self,
         solver: &'s Solver<'s, T, G>,
-        crew: &Crew<'s, T, G>,
+        crew: Option<&Crew<'s, T, G>>,
         reader: &mut R,
         writer: &mut W,
         buffer: &mut [u8],
@@ -105,7 +111,7 @@ impl Engine {
                 break;
             }
             let bytes = &buffer[..count];
-            crew.give(solver.batch.rt, jobs_of_lines(solver, bytes));
+            give_jobs(solver, crew, bytes);
             let Ok(()) = self.take_chunk(solver, crew, writer, bytes) else {
                 return Err(RunFault::Write);
             };
@@ -114,7 +120,33 @@ impl Engine {
     }
 
     // Takes the `count` bytes that were read first, reads on to the end of input, and writes the reports of the lines
-    // that byte 10 ends. Workers that pay for the lines of the first bytes stay to the end.
+    // that byte 10 ends.
+    fn run_alone<T: Wait + Threads + Sync, R: Source, W: Sink, G: Gate>(
+        &mut self,
+        solver: &Solver<'_, T, G>,
+        reader: &mut R,
+        writer: &mut W,
+        buffer: &mut [u8],
+        count: usize,
+    ) -> Result<(), RunFault>
+        requires room { 0 < length buffer.old }
+        requires count { count ≤ length buffer.old }
+        requires reader { R.failed reader.old ≡ false }
+        requires writer { W.failed writer.old ≡ false }
+        ensures bytes { (more : List ℕ) × Consumes (R.remaining reader.old) (R.remaining reader.new) more
+            × RunsOn solver.now.settings self.old self.new.line self.new.is_faulty (W.contents writer.old)
+            (W.contents writer.new) result (take count buffer.old ++ more) }
+        ensures empty { OnOk result (self.new.waiting.bytes.items ≡ []) }
+        ensures end { OnOk result (IsAtEnd (R.remaining reader.new)) }
+        ensures devices { FailsBy result (R.failed reader.new) (W.failed writer.new) }
+    {
+        match self.take_chunk(solver, no_crew(solver), writer, &buffer[..count]) {
+            Ok(()) => self.run_on(solver, no_crew(solver), reader, writer, buffer),
+            Err(_) => Err(RunFault::Write),
+        }
+    }
+
+    // As `run_alone`, with a crew: workers that pay for the lines of the first bytes stay to the end.
     fn run_from<T: Wait + Threads + Sync, R: Source, W: Sink, G: Gate>(
         &mut self,
         solver: &Solver<'_, T, G>,
@@ -135,8 +167,11 @@ impl Engine {
         ensures devices { FailsBy result (R.failed reader.new) (W.failed writer.new) }
     {
         let jobs = jobs_of_lines(&*solver, &buffer[..count]);
-        let helpers = jobs.helpers();
-        let crew = Crew::new(&solver.batch);
+        let helpers = match &jobs {
+            Some(jobs) => jobs.helpers(),
+            None => 0,
+        };
+        let crew = Crew::new();
         crew.give(solver.batch.rt, jobs);
         let mut work = || -> Result<(), RunFault>
             requires room { 0 < length buffer.now }
@@ -152,8 +187,8 @@ impl Engine {
             ensures end { OnOk result (IsAtEnd (R.remaining reader.exit.now)) }
             ensures devices { FailsBy result (R.failed reader.exit.now) (W.failed writer.exit.now) }
         {
-            match self.take_chunk(solver, &crew, writer, &buffer[..count]) {
-                Ok(()) => self.run_on(solver, &crew, reader, writer, buffer),
+            match self.take_chunk(solver, Some(&crew), writer, &buffer[..count]) {
+                Ok(()) => self.run_on(solver, Some(&crew), reader, writer, buffer),
                 Err(_) => Err(RunFault::Write),
             }
         };
@@ -189,6 +224,25 @@ impl Engine {
         if count == 0 {
             return Ok(());
         }
+        if solver.batch.workers < 2 {
+            return self.run_alone(solver, reader, writer, buffer, count);
+        }
         self.run_from(solver, reader, writer, buffer, count)
+    }
+}
+
+// No crew, with the lifetimes of one.
+fn no_crew<'c, 's, T, G>(_solver: &'c Solver<'s, T, G>) -> Option<&'c Crew<'s, T, G>> {
+    None
+}
+
+// Gives the crew, if there is one, the jobs of the lines in these bytes.
+fn give_jobs<'s, T: Wait + Threads + Sync, G: Gate>(
+    solver: &'s Solver<'s, T, G>,
+    crew: Option<&Crew<'s, T, G>>,
+    bytes: &[u8],
+) {
+    if let Some(crew) = crew {
+        crew.give(solver.batch.rt, jobs_of_lines(solver, bytes));
     }
 }

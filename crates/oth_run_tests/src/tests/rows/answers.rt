@@ -7,7 +7,7 @@ use oth_run::RunFault;
 use oth_words::{Command, Settings};
 
 // Lines, and what `Solve` writes of each.
-const SOLVED: [(&[u8], &[u8]); 14] = [
+const SOLVED: [(&[u8], &[u8]); 15] = [
     (
         b"XXXXXXXXXXXXXXXXXXXXXXXXXXXXXXXXXXXXXXXXXXXXXXXXXXXXXXXXXXXXXXXX X\n",
         b"+64 end\n",
@@ -64,10 +64,15 @@ const SOLVED: [(&[u8], &[u8]); 14] = [
         b"------------------------------XXXXXXXXXXXXXXXXXXXXXXXXXXXXXXXXXX X\n",
         b"+64 end\n",
     ),
+    // Of 14 empty squares, which two workers search together. Another solver gave its answer.
+    (
+        b"--XOOO-OO-OXOOO-OOOOXOOOOOOOOXOXOO-OOOXXOOOXXOOX-OXXXXXX--O----- X\n",
+        b"-6 c5\n",
+    ),
 ];
 
 // Lines, and what `Solve` writes of each under `discs`.
-const SOLVED_BY_DISCS: [(&[u8], &[u8]); 10] = [
+const SOLVED_BY_DISCS: [(&[u8], &[u8]); 11] = [
     (
         b"XXXXXXXXXXXXXXXXXXXXXXXXXXXXXXXXXXXXXXXXXXXXXXXXXXXXXXXXXXXXXXX- X\n",
         b"+63 end\n",
@@ -107,6 +112,11 @@ const SOLVED_BY_DISCS: [(&[u8], &[u8]); 10] = [
     (
         b"------------------------------XXXXXXXXXXXXXXXXXXXXXXXXXXXXXXXXXX X\n",
         b"+34 end\n",
+    ),
+    // Of 14 empty squares, which two workers search together. Another solver gave its answer.
+    (
+        b"--XOOO-OO-OXOOO-OOOOXOOOOOOOOXOXOO-OOOXXOOOXXOOX-OXXXXXX--O----- X\n",
+        b"-6 c5\n",
     ),
 ];
 

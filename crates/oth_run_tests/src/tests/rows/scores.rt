@@ -6,7 +6,7 @@ use oth_rules::Scoring;
 use oth_words::{Command, Settings};
 
 // Lines, and what `Scores` writes of each.
-const SCORED: [(&[u8], &[u8]); 10] = [
+const SCORED: [(&[u8], &[u8]); 11] = [
     (
         b"XXXXXXXXXXXXXXXXXXXXXXXXXXXXXXXXXXXXXXXXXXXXXXXXXXXXXXXXXXXXXXXX X\n",
         b"+64 end\n",
@@ -47,10 +47,15 @@ const SCORED: [(&[u8], &[u8]); 10] = [
         b"------------------------------XXXXXXXXXXXXXXXXXXXXXXXXXXXXXXXXXX X\n",
         b"+64 end\n",
     ),
+    // Of 14 empty squares, whose moves two workers score side by side. Another solver gave the score of each.
+    (
+        b"--XOOO-OO-OXOOO-OOOOXOOOOOOOOXOXOO-OOOXXOOOXXOOX-OXXXXXX--O----- X\n",
+        b"-6 c5 -20 b1 -26 g1 -26 h2 -32 b2 -40 a7\n",
+    ),
 ];
 
 // Lines, and what `Scores` writes of each under `discs`.
-const SCORED_BY_DISCS: [(&[u8], &[u8]); 5] = [
+const SCORED_BY_DISCS: [(&[u8], &[u8]); 6] = [
     (
         b"XXXXXXXXXXXXXXXXXXXXXXXXXXXXXXXXXXXXXXXXXXXXXXXXXXXXXXXXXXXXXXX- X\n",
         b"+63 end\n",
@@ -70,6 +75,11 @@ const SCORED_BY_DISCS: [(&[u8], &[u8]); 5] = [
     (
         b"-OXXXXXX-OXXXXXXXXXXXXXXXXXXXXXXXXXXXXXXXXXXXXXXXXXXXXXXXXXXXXXX X\n",
         b"+64 a2 +63 a1\n",
+    ),
+    // Of 14 empty squares, whose moves two workers score side by side. Another solver gave the score of each.
+    (
+        b"--XOOO-OO-OXOOO-OOOOXOOOOOOOOXOXOO-OOOXXOOOXXOOX-OXXXXXX--O----- X\n",
+        b"-6 c5 -20 b1 -26 g1 -26 h2 -32 b2 -40 a7\n",
     ),
 ];
 

@@ -16,3 +16,7 @@ returns-then-count-eq0-clause-bytes g c = (
 pub returns-clause-bytes : goal.returns-clause-bytes
 returns-clause-bytes g c =
     runs_from_start _ _ _ _ _ _ _ _ _ _ _ (at_start _ _ _ c.requires.line c.requires.faulty c.requires.waiting) c.in-Ok.ensures.bytes.0 c.run_from.ensures.bytes
+
+pub returns-then-solver-lt2-clause-bytes : goal.returns-then-solver-lt2-clause-bytes
+returns-then-solver-lt2-clause-bytes g c =
+    runs_from_start _ _ _ _ _ _ _ _ _ _ _ (at_start _ _ _ c.requires.line c.requires.faulty c.requires.waiting) c.in-Ok.ensures.bytes.0 c.run_alone.ensures.bytes

@@ -15,8 +15,8 @@ pub fn effort(asked: Asked, board: &Board) -> u64 {
     effort_of(empties_to_search(asked, board))
 }
 
-/// Returns how many of `workers` workers pay for a board that no batch has: all of them from `ALL_WORKERS_MIN_EMPTIES`
-/// empty squares on, and one where its search takes less time than the start of a further thread.
+/// Returns how many of `workers` workers pay for a board that is no job: all of them from `ALL_WORKERS_MIN_EMPTIES`
+/// empty squares on, and 1 below, where a search takes less time than the start of a further thread.
 pub fn workers_for(asked: Asked, board: &Board, workers: u8) -> u8
     ensures few { result ≤ workers }
     ensures some { 1 ≤ workers → 1 ≤ result }
