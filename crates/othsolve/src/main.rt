@@ -5,7 +5,7 @@ mod asked;
 mod books;
 mod inputs;
 
-ghost use Rattle.std.specs.Prelude.{◌≡◌, ◌≤◌, ◌⊎◌, ◌↔◌, false, true};
+ghost use Rattle.std.specs.Prelude.{◌≡◌, ◌≤◌, ◌⊎◌, ◌↔◌, IfErr, false, true};
 ghost use Rattle.oth_run.specs.Run.{AreLawful};
 ghost use Rattle.othsolve.specs.Program.{AreRefused, HasObeyed, HasReported, IsDone, lines_status};
 
@@ -29,15 +29,6 @@ use std::time::Clock;
 // Status 4: all was done, and a line of the input has a fault.
 const FAULTY_LINES: u8 = 4;
 
-// Whoever sits at a terminal.
-#[derive(Clone, Copy)]
-struct Sitter<'m, S> {
-    // Shows how far the work is where standard error is a terminal.
-    watch: &'m Watch<S>,
-    // Whether standard input is a terminal.
-    types: bool,
-}
-
 // What is asked for of the lines of the input.
 #[derive(Clone, Copy)]
 struct Task {
@@ -47,9 +38,12 @@ struct Task {
 
 // What the words are obeyed with.
 #[derive(Clone, Copy)]
-struct Runner<'m, T, S> {
+struct Host<'m, T, S> {
     rt: &'m T,
-    sitter: &'m Sitter<'m, S>,
+    // Shows how far the work is where standard error is a terminal.
+    watch: &'m Watch<S>,
+    // Whether standard input is a terminal.
+    types: bool,
 }
 
 // Obeys the words of the command line.
@@ -74,11 +68,19 @@ fn main(rt: HostRuntime) -> ExitCode {
     let mut input = Input::of(watch.gate(), inputs);
     let (writer, shares_terminal) = (ToWrite::new(rt.stdout()), rt.stdout().is_terminal());
     let mut report = Report::of(&rt, &watch, writer, shares_terminal, hearing_of(&words));
-    let sitter = Sitter {
+    let host = Host {
+        rt: &rt,
         watch: &watch,
         types: rt.stdin().is_terminal(),
     };
-    let status = obey_watched(&sitter, &words, &mut input, &mut report, &mut errors);
+    let status = obey_watched(&host, &words, &mut input, &mut report, &mut errors);
+    explain(
+        rt.alloc(),
+        &words,
+        input.source(),
+        report.writer(),
+        &mut errors,
+    );
     ExitCode::from(status)
 }
 
@@ -92,48 +94,13 @@ fn hearing_of(words: &Words) -> Hearing {
 
 // Does what the words ask for, and shows how far it is where standard error is a terminal.
 fn obey_watched<
-    'w,
-    T: Wait + Threads + Clock + Sync + Files + AllocGlobal,
-    R: Read + Drop,
-    W: Write,
-    S: Sink + Send,
-    E: Sink,
->(
-    sitter: &Sitter<'_, S>,
-    words: &Words,
-    reader: &mut Input<'w, Joined<FromRead<R>>>,
-    report: &mut Report<'w, T, ToWrite<W>, S>,
-    errors: &mut Errors<E>,
-) -> u8
-    requires reader { ⟦<Input<'w, Joined<FromRead<R>>> as Source>⟧.failed reader.old ≡ false }
-    requires writer { ⟦<Report<'w, T, ToWrite<W>, S> as Sink>⟧.failed report.old ≡ false }
-    ensures done { IsDone result → HasObeyed words.now result
-        (⟦<Input<'w, Joined<FromRead<R>>> as Source>⟧.remaining reader.old)
-        (⟦<Input<'w, Joined<FromRead<R>>> as Source>⟧.remaining reader.new)
-        (⟦<Report<'w, T, ToWrite<W>, S> as Sink>⟧.contents report.old)
-        (⟦<Report<'w, T, ToWrite<W>, S> as Sink>⟧.contents report.new) }
-    ensures works { IsDone result → (⟦<Report<'w, T, ToWrite<W>, S> as Sink>⟧.failed report.new ≡ false)
-        × (⟦<Report<'w, T, ToWrite<W>, S> as Sink>⟧.flushed report.new ≡ true) }
-    ensures refused { result ≡ 2 ↔ AreRefused words.now }
-    ensures untouched { result ≡ 2 → (reader.new ≡ reader.old) × (report.new ≡ report.old) }
-    ensures statuses { result ≤ 4 }
-{
-    let rt = report.runtime();
-    let runner = Runner { rt, sitter };
-    let status = obey_beside(&runner, words, reader, report, errors);
-    explain(rt.alloc(), words, reader.source(), report.writer(), errors);
-    status
-}
-
-// Does what the words ask for, while a terminal shows how far it is.
-fn obey_beside<
     T: Wait + Threads + Clock + Sync + Files + AllocGlobal,
     R: Source,
     W: Sink,
     S: Sink + Send,
     E: Sink,
 >(
-    runner: &Runner<'_, T, S>,
+    host: &Host<'_, T, S>,
     words: &Words,
     reader: &mut R,
     writer: &mut W,
@@ -148,7 +115,7 @@ fn obey_beside<
     ensures untouched { result ≡ 2 → (reader.new ≡ reader.old) × (writer.new ≡ writer.old) }
     ensures statuses { result ≤ 4 }
 {
-    let (rt, watch) = (runner.rt, runner.sitter.watch);
+    let (rt, watch) = (host.rt, host.watch);
     let mut obeying = || -> u8
         requires { (R.failed reader.now ≡ false) × (W.failed writer.now ≡ false) }
         ensures done { IsDone result → HasObeyed words.entry.now result
@@ -158,7 +125,7 @@ fn obey_beside<
         ensures refused { result ≡ 2 ↔ AreRefused words.entry.now }
         ensures untouched { result ≡ 2 → (reader.exit.now ≡ reader.entry.now) × (writer.exit.now ≡ writer.entry.now) }
         ensures statuses { result ≤ 4 }
-    { obey(runner, words, reader, writer, errors) };
+    { obey(host, words, reader, writer, errors) };
     watch.beside(rt, rt.alloc(), &mut obeying)
 }
 
@@ -211,7 +178,7 @@ fn obey<
     S: Sink + Send,
     E: Sink,
 >(
-    runner: &Runner<'_, T, S>,
+    host: &Host<'_, T, S>,
     words: &Words,
     reader: &mut R,
     writer: &mut W,
@@ -226,25 +193,17 @@ fn obey<
     ensures untouched { result ≡ 2 → (reader.new ≡ reader.old) × (writer.new ≡ writer.old) }
     ensures statuses { result ≤ 4 }
 {
-    let (rt, gate) = (runner.rt, runner.sitter.watch.gate());
+    let (rt, gate) = (host.rt, host.watch.gate());
     match words {
-        Words::Run(settings, telling, None, names) => {
-            greet(runner, settings, names.is_empty(), errors);
+        Words::Run(settings, telling, name, names) => {
             let task = Task {
                 settings: *settings,
                 telling: *telling,
             };
-            report(runner, &task, None, reader, writer, errors)
-        }
-        Words::Run(settings, telling, Some(name), names) => {
-            match book_of(rt, settings, name.as_str(), errors, gate) {
+            match named_book(host, settings, name, errors) {
                 Ok(book) => {
-                    greet(runner, settings, names.is_empty(), errors);
-                    let task = Task {
-                        settings: *settings,
-                        telling: *telling,
-                    };
-                    report(runner, &task, Some(&book), reader, writer, errors)
+                    greet(host, settings, names.is_empty(), errors);
+                    report(host, &task, book.as_ref(), reader, writer, errors)
                 }
                 Err(status) => status,
             }
@@ -256,7 +215,7 @@ fn obey<
         Words::Add(settings, _, name) => {
             match tested_file_of(rt, settings, name.as_str(), errors) {
                 Ok(file) => {
-                    greet(runner, settings, true, errors);
+                    greet(host, settings, true, errors);
                     book_add(
                         rt,
                         rt.alloc(),
@@ -274,21 +233,40 @@ fn obey<
     }
 }
 
+// The book of this name, if one is named, or the status where that is none.
+fn named_book<T: Threads + Sync + Files + AllocGlobal, S: Sink + Send, E: Sink>(
+    host: &Host<'_, T, S>,
+    settings: &Settings,
+    name: &Option<String>,
+    errors: &mut Errors<E>,
+) -> Result<Option<Book>, u8>
+    ensures refused { IfErr result (λ s. s ≡ 2 ↔ (AreLawful settings.now → ⊥)) }
+    ensures statuses { IfErr result (λ s. (1 ≤ s) × (s ≤ 3)) }
+{
+    match name {
+        Some(name) => {
+            let gate = host.watch.gate();
+            Ok(Some(book_of(host.rt, settings, name.as_str(), errors, gate)?))
+        }
+        None => Ok(None),
+    }
+}
+
 // Tells whoever types the lines that they are awaited, where no file is named and the settings are lawful.
 fn greet<T, S, E: Sink>(
-    runner: &Runner<'_, T, S>,
+    host: &Host<'_, T, S>,
     settings: &Settings,
     names_none: bool,
     errors: &mut Errors<E>,
 ) {
-    if runner.sitter.types && names_none && check_settings(settings).is_ok() {
+    if host.types && names_none && check_settings(settings).is_ok() {
         errors.tell_awaited(settings.command);
     }
 }
 
 // Reports the lines of the input.
 fn report<T: Wait + Threads + Sync + AllocGlobal, R: Source, W: Sink, S: Sink + Send, E: Sink>(
-    runner: &Runner<'_, T, S>,
+    host: &Host<'_, T, S>,
     task: &Task,
     book: Option<&Book>,
     reader: &mut R,
@@ -305,7 +283,7 @@ fn report<T: Wait + Threads + Sync + AllocGlobal, R: Source, W: Sink, S: Sink + 
     ensures untouched { result ≡ 2 → (reader.new ≡ reader.old) × (writer.new ≡ writer.old) }
     ensures statuses { (result ≤ 2) ⊎ (result ≡ 4) }
 {
-    let (rt, gate) = (runner.rt, runner.sitter.watch.gate());
+    let (rt, gate) = (host.rt, host.watch.gate());
     match run_judged(rt, rt.alloc(), reader, writer, &task.settings, gate, book) {
         Ok(is_faulty) => lines_status(task.telling, is_faulty),
         Err(fault) => print_run_fault(fault, errors),

@@ -30,7 +30,7 @@ pub(crate) struct Snapshot {
     pub awaited: Option<Awaited>,
 }
 
-// What lasts, by a number of its own, and since when that was seen.
+// A stopwatch that starts anew when `count` changes.
 #[derive(Clone, Copy, Drop)]
 struct Since {
     count: u64,
