@@ -8,6 +8,9 @@ It tests, in each document and, where it says so, in the code:
 - that each link leads to a file of this repository, and to a heading of it where it has one;
 - that each path of this repository stands in it, also one relative to a crate (`src/`, `specs/`, `proofs/`, `must-fail/`, `mutants/`);
   NAME and `*` stand for anything, and what lies in `out/` is made by `rt`;
+- that each name that stands alone between backquotes on a page, and each call of the tour of docs/ARCHITECTURE.md, stands in the tree: a
+  name that the code, specs, proofs or scripts declare, a word of the command line or of a format, a file, an option, or an edit
+  (`CRATE/NAME`); what is named of other trees stands in `OUTSIDE` of docs/checks/named.py;
 - that each `PATH:LINE` declares a name that stands beside it, and in a row `| `NAME` | `PATH:LINE` |` of a table just NAME;
 - of docs/THEOREM.md: that each heading of a part has the number of definitions that the part rests on, and no page another number; that each
   of them, as `docs/definitions.py` prints them, has words of its own and names only what stands before it; and that the page says of each
@@ -23,8 +26,8 @@ It tests, in each document and, where it says so, in the code:
 - that each lemma and each definition is named somewhere else than at its own statement, but those of `Examples`;
 - of docs/DECISIONS.md: that each number from 1 to the last is that of one entry, or of one row of its table;
 - of docs/TESTED.md: that each test stands in the crate and the module that are named with it;
-- of docs/WRONG_BODIES.md: that each `CRATE/NAME` of the column of what each gate refuses is an edit in must-fail/ of that crate, each name
-  that follows it one too or a test of that crate, and each other name with an underscore an edit, a function or a part of a crate;
+- of docs/WRONG_BODIES.md: that each name of the column of what refuses a body at each gate is a test of the crate that is named before
+  it, or an edit in must-fail/ of it, and each other name with an underscore an edit, a function or a part of a crate;
 - of each edit of must-fail/ and mutants/: that each of its old texts stands just once in the file that it names, that it changes
   something, and that no other edit of the crate has its name;
 - that the headline is word for word the same wherever it stands, that README.md has at most 1,500 words and no line of more than 300
@@ -51,6 +54,7 @@ OF_THE_TREE = (
     definitions.count_faults,
     definitions.order_faults,
     definitions.words_faults,
+    named.name_faults,
     named.test_faults,
     named.wrong_body_faults,
     words.glossary_faults,

@@ -3,8 +3,8 @@
 
     docs/tests.py [CRATE ..]
 
-CRATE is a crate of tests, or one that they test; without one all are printed. The last line counts the tests. docs/TESTED.md says which row
-of the requirements, and which promise that no clause makes, is tested where.
+CRATE is a crate of tests, or one that they test; without one all are printed. The last line counts the tests. docs/TESTED.md says
+what no clause says, and which tests show it.
 """
 import argparse
 import re

@@ -1,4 +1,5 @@
 """Finds what the calls that docs/THEOREM.md names rest on, in an order in which each stands behind what it names."""
+import functools
 import re
 
 from checks import statements
@@ -13,6 +14,7 @@ THEOREM = ROOT / "docs/THEOREM.md"
 COUNT = re.compile(r"\b(\d+) (?:further )?definitions\b")
 
 
+@functools.cache
 def parts():
     """Returns of each part its calls, types and definitions, each as path, name and line, but for those of the parts before it."""
     found, known = {}, set()

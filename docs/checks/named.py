@@ -1,13 +1,31 @@
-"""Tests the edits, and that each edit and each test that docs/WRONG_BODIES.md and docs/TESTED.md name is where they say."""
+"""Tests the edits, that each edit and each test that docs/WRONG_BODIES.md and docs/TESTED.md name is where they say, and that each
+name of a page stands in the tree."""
+import functools
 import re
 
 import edits
-from checks.shared import ROOT, cells_below, crate_folders, lines_of, shown, text_of, unless
+from checks import tree
+from checks.shared import ROOT, cells_below, crate_folders, documents, lines_of, shown, text_of, unless
 
 SNAKE = re.compile(r"[a-z]\w*_\w*")
 TEST = re.compile(r"#\[test\]\s*(?:#\[[^\]]*\]\s*)*fn (\w+)")
 # The column of docs/WRONG_BODIES.md that names edits, and the folder in which these stand.
 COLUMN, TIER = "Refused at each gate by", "must-fail"
+# What a page may name that stands alone between backquotes: a word, a file, an option, or an edit with its crate. A letter is a variable.
+NAMED = re.compile(
+    r"(?P<word>[A-Za-z_]\w+(?:::[A-Za-z_]\w*)*)(?:\(\))?|(?P<file>[\w.-]+\.(?:antt|c|edit|h|md|obf|py|rt|sh|toml|txt))"
+    r"|--(?P<option>[a-z-]+)|(?P<crate>oth\w+)/(?P<edit>\w+)"
+)
+# The page with the way of a line through the calls, which stands in blocks of it.
+TOUR = ROOT / "docs/ARCHITECTURE.md"
+# What pages name that isn't of this tree, by whose it is.
+OUTSIDE = {
+    "Rattle": "assumption data ensures ghost ground let omega requires std::simd Sync u16 u64::MAX u8 unsafe Vec::with_capacity",
+    "the kit's crates and its allocator": "join_seat rattle_alloc split_seat ValueValidation",
+    "C and Python": "calloc ctypes malloc",
+    "tools": "ar awk cc cp flock gzip iconv ldconfig lintian nm parallel paste pip readelf rustc sed tar tr",
+    "files and words of other programs": "pa scores.c",
+}
 
 
 class Crate:
@@ -26,9 +44,56 @@ class Crate:
         self.tests = set().union(*self.modules.values())
 
 
+@functools.cache
 def crates():
     """Returns the crates by their names."""
     return {path.name: Crate(path) for path in crate_folders()}
+
+
+def name_faults():
+    """Tests that each name that stands alone between backquotes on a page, and each call of the tour, stands in the tree: a word that is
+    declared there, a text of one word, a file, an option, or an edit."""
+    known, folders = tree.Names(), crates()
+    outside, used = set(" ".join(OUTSIDE.values()).split()), set()
+    for document in (page for page in documents() if page.suffix == ".md"):
+        for number, name in lone_names(document):
+            used.add(name)
+            there = name in outside or stands(NAMED.fullmatch(name), known, folders)
+            yield unless(there, f"{shown(document)}:{number}: the tree has no {name}")
+    for name in sorted(outside - used):
+        yield f"docs/checks/named.py: no page names {name}, which stands in OUTSIDE"
+
+
+def lone_names(document):
+    """Yields each name that stands alone between backquotes, but in blocks of code, and each call of the tour, with its line's number."""
+    is_code = False
+    for number, line in enumerate(lines_of(document), 1):
+        is_code ^= line.lstrip().startswith("```")
+        if line.startswith("    "):
+            found = re.findall(r"[\w:]+(?= >)|(?<=> )[\w:]+", line) if document == TOUR else ()
+        else:
+            found = () if is_code else re.findall(r"`([^`]+)`", line)
+        yield from ((number, name) for name in found if NAMED.fullmatch(name))
+
+
+def stands(name, known, folders):
+    """Tells whether a name stands in the tree, and each part of it in the one before."""
+    if name["word"]:
+        parts = name["word"].split("::")
+        pairs = zip(parts, parts[1:], strict=False)
+        return all(has(known.words, part) for part in parts) and all(part in known.owned.get(owner, ()) for owner, part in pairs)
+    if name["edit"]:
+        return name["crate"] in folders and name["edit"] in folders[name["crate"]].edits
+    return name["file"] in known.files or name["option"] in known.options
+
+
+def has(words, word):
+    """Tells whether this is one of the words. One that ends with `_` is the beginning of some, and NAME_ stands for any beginning."""
+    if word.endswith("_"):
+        return any(other.startswith(word) for other in words)
+    if word.startswith("NAME_"):
+        return any(other.endswith(word.removeprefix("NAME")) for other in words)
+    return word in words
 
 
 def test_faults():
