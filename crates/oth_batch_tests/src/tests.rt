@@ -7,12 +7,13 @@ mod recent;
 mod refused;
 mod verifying;
 
-use oth_batch::{Batch, Boards};
-use oth_pool::Open;
+use oth_batch::{Batch, Boards, Crew};
+use oth_pool::{Gate, Open};
 use oth_rules::samples::after_least_moves;
 use oth_rules::{Board, Scoring, Sym};
 use oth_search::{Answer, RootMoves, Solved, solve_alone};
 use std::alloc::Global;
+use std::sync::Wait;
 use std::test::Fail;
 use std::thread::Threads;
 
@@ -39,6 +40,11 @@ fn children(alloc: Global, empties: u8) -> Option<Boards> {
         }
     }
     Some(boards)
+}
+
+/// A crew for jobs of this batch.
+fn crew_for<'b, R: Wait + Threads + Sync, G: Gate>(_batch: &'b Batch<'b, R, G>) -> Crew<'b, R, G> {
+    Crew::new()
 }
 
 fn batch<T: Threads + Sync + AllocGlobal>(

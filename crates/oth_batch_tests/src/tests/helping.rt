@@ -1,7 +1,7 @@
 //! What those who help do: they begin each batch, and go on past jobs that others have taken.
 
-use super::images;
-use oth_batch::{Asked, Batch, Crew, Jobs};
+use super::{crew_for, images};
+use oth_batch::{Asked, Batch, Jobs};
 use oth_pool::Gate;
 use oth_rules::{Board, Scoring};
 use std::alloc::Global;
@@ -83,7 +83,7 @@ fn a_crew_begins_each_batch_by_itself(rt: HostRuntime) -> Result<(), Fail> {
     };
     let gate = Begun::new();
     let batch = heard_batch(&rt, &gate);
-    let crew = Crew::new();
+    let crew = crew_for(&batch);
     let mut work = || {
         let mut searches = 0u64;
         for (boards, searched) in [

@@ -1,8 +1,8 @@
 //! Boards are answered for whoever asks, while other workers solve them.
 
 use super::helping::few;
-use super::{batch, images};
-use oth_batch::{Asked, Crew, Jobs};
+use super::{batch, crew_for, images};
+use oth_batch::{Asked, Jobs};
 use oth_rules::{Board, Scoring};
 use oth_search::{NoCells, scores_with, solve_alone};
 use std::test::Fail;
@@ -118,7 +118,7 @@ fn no_job_is_begun_after_a_stop(rt: HostRuntime) -> Result<(), Fail> {
 #[test]
 fn a_crew_without_jobs_has_none(rt: HostRuntime) {
     let batch = batch(&rt, 4, 64, Scoring::Winner);
-    let crew = Crew::new();
+    let crew = crew_for(&batch);
     let mut work = || {
         crew.give(&rt, Jobs::of(&batch, Asked::Answer, &[]));
         crew.jobs(&rt).is_none()
@@ -230,7 +230,7 @@ fn a_crew_does_the_jobs_of_one_batch_after_the_other(rt: HostRuntime) -> Result<
     }
     for workers in [2, 4, 16] {
         let batch = batch(&rt, workers, 64, Scoring::Discs);
-        let crew = Crew::new();
+        let crew = crew_for(&batch);
         let mut work = || {
             let mut right = 0u32;
             for boards in [many.as_slice(), small.as_slice(), many.as_slice()] {
