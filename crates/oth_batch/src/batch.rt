@@ -1,13 +1,11 @@
-//! What boards are solved with (threads, memory, gate, book, workers, cells, scoring), and all answers of a batch.
+//! What boards are solved with: threads, memory, gate, book, workers, cells, scoring.
 
-ghost use Rattle.std.specs.Prelude.{◌≡◌, All, Contains, IfErr, IfOk, IfSome};
+ghost use Rattle.std.specs.Prelude.{◌≡◌, IfErr, IfOk};
 ghost use Rattle.std.specs.Thread.{IsSync};
 ghost use Rattle.oth_pool.specs.Solving.{Refuses};
 
 use crate::asked::{Asked, Found};
-use crate::boards::Boards;
 use crate::games::known_by;
-use crate::jobs::Jobs;
 use oth_book::Book;
 use oth_pool::{Gate, SolveError, scores, solve};
 use oth_rules::{Board, Scoring};
@@ -36,39 +34,6 @@ pub struct Batch<'b, R, G> {
 }
 
 impl<'b, R: Threads + Sync, G: Gate> Batch<'b, R, G> {
-    /// Solves boards that wait side by side, each by one worker, and returns their answers. Waits for its workers. Some
-    /// boards may have no answer: those that are worth all workers, all where two workers don't pay, and those for
-    /// which there is no memory.
-    pub fn answers(&self, boards: &Boards) -> Vec<Answer>
-        ensures boards { All (λ a. Contains boards.now a.board) result.items }
-        ensures scoring { All (λ a. a.scoring ≡ self.now.scoring) result.items }
-    {
-        let boards = boards.as_slice();
-        let Some(jobs) = Jobs::of(&*self, Asked::Answer, boards) else {
-            return Vec::new(self.alloc);
-        };
-        jobs.do_all();
-        self.found(boards, &jobs)
-    }
-
-    // What was found of the boards.
-    fn found(&self, boards: &[Board], jobs: &Jobs<'_, R, G>) -> Vec<Answer>
-        requires scoring { jobs.now.batch.now.scoring ≡ self.now.scoring }
-        ensures boards { All (λ a. Contains boards.now a.board) result.items }
-        ensures scoring { All (λ a. a.scoring ≡ self.now.scoring) result.items }
-    {
-        let mut answers = Vec::new(self.alloc);
-        for number in 0..boards.len() {
-            let Some(answer) = found_of(boards, number, jobs) else {
-                continue;
-            };
-            if answers.push(answer).is_err() {
-                break;
-            }
-        }
-        answers
-    }
-
     /// The answer of the board by `workers` workers, who ask `book` first, or the refusal of [`oth_pool::solve`].
     pub fn solve(
         &self,
@@ -115,16 +80,4 @@ impl<'b, R: Threads + Sync, G: Gate> Batch<'b, R, G> {
             Asked::Game => Some(Found::Known(self.known_of(turns))),
         }
     }
-}
-
-// What was found of the board of this number.
-fn found_of<R: Threads + Sync, G: Gate>(
-    boards: &[Board],
-    number: usize,
-    jobs: &Jobs<'_, R, G>,
-) -> Option<Answer>
-    ensures board { IfSome result (λ a. Contains boards.now a.board) }
-    ensures scoring { IfSome result (λ a. a.scoring ≡ jobs.now.batch.now.scoring) }
-{
-    jobs.found(boards.get(number)?)
 }

@@ -1,12 +1,15 @@
 //! Helpers that stay from one batch of jobs to the next.
 
-ghost use Rattle.std.specs.Prelude.{◌≡◌};
+ghost use Rattle.std.specs.Prelude.{◌≡◌, IfSome};
 ghost use Rattle.std.specs.Thread.{IsSync};
 
+use crate::batch::Batch;
 use crate::beside::beside;
+use crate::found::matching_answer;
 use crate::jobs::Jobs;
 use oth_pool::Gate;
-use std::sync::atomic::{AtomicU64, Ordering};
+use oth_rules::Board;
+use oth_search::Answer;
 use std::sync::{Condvar, Mutex, RwLock, RwLockReadGuard, Wait};
 use std::thread::Threads;
 
@@ -21,30 +24,42 @@ struct Given {
 /// often begins when the batch is half done.
 #[derive(Drop)]
 pub struct Crew<'b, R, G> {
+    batch: &'b Batch<'b, R, G>,
+    // How many threads are asked for.
+    helpers: usize,
     // Those that were given last, if some were.
     jobs: RwLock<Option<Jobs<'b, R, G>>>,
     given: Mutex<Given>,
     changed: Condvar,
-    // How many threads were asked for.
-    helpers: AtomicU64,
 }
 
 impl<'b, R: Wait + Threads + Sync, G: Gate> Crew<'b, R, G> {
-    /// A crew to which no jobs were given.
-    pub fn new() -> Self {
+    /// A crew of as many threads as pay for these jobs, the first ones that it is given; of none where there are none.
+    pub fn of(batch: &'b Batch<'b, R, G>, jobs: Option<Jobs<'b, R, G>>) -> Self {
+        let helpers = match &jobs {
+            Some(jobs) => jobs.helpers(),
+            None => 0,
+        };
         Crew {
-            jobs: RwLock::new(None),
+            batch,
+            helpers,
+            jobs: RwLock::new(jobs),
             given: Mutex::new(Given {
-                batches: 0,
+                batches: 1,
                 is_over: false,
             }),
             changed: Condvar::new(),
-            helpers: AtomicU64::new(0),
         }
     }
 
+    /// What boards are solved with.
+    pub fn batch(&self) -> &'b Batch<'b, R, G> {
+        self.batch
+    }
+
     /// Gives the crew these jobs, or none. Waits until it is done with those before.
-    pub fn give(&self, rt: &R, jobs: Option<Jobs<'b, R, G>>) {
+    pub fn give(&self, jobs: Option<Jobs<'b, R, G>>) {
+        let rt = self.batch.rt;
         let has_jobs = jobs.is_some();
         *self.jobs.write(rt) = jobs;
         if has_jobs {
@@ -56,50 +71,64 @@ impl<'b, R: Wait + Threads + Sync, G: Gate> Crew<'b, R, G> {
     }
 
     /// The jobs that were given last, if some were. While they are held no others can be given.
-    pub fn jobs(&self, rt: &R) -> RwLockReadGuard<'_, Option<Jobs<'b, R, G>>> {
-        self.jobs.read(rt)
+    pub fn jobs(&self) -> RwLockReadGuard<'_, Option<Jobs<'b, R, G>>> {
+        self.jobs.read(self.batch.rt)
     }
 
-    /// How many threads were asked for. Where some could not be made, fewer do the jobs, of later batches too.
+    /// The answer of a board that is one of these jobs, if answers are asked. Waits as [`Jobs::answer_of`] does.
+    pub fn answer_of(&self, board: &Board) -> Option<Answer>
+        ensures board { IfSome result (λ a. a.board ≡ board.now) }
+        ensures scoring { IfSome result (λ a. a.scoring ≡ self.now.batch.now.scoring) }
+    {
+        let given = self.jobs();
+        let Some(jobs) = &*given else {
+            return None;
+        };
+        let answer = jobs.answer_of(self.batch.rt, board)?;
+        matching_answer(&answer, board, self.batch.scoring)
+    }
+
+    /// How many threads are asked for. Where some could not be made, fewer do the jobs, of later batches too.
     pub fn helpers(&self) -> usize {
-        self.helpers.load(Ordering::SeqCst) as usize
+        self.helpers
     }
 
-    /// Calls `work`, which gives jobs, in this thread, while `helpers` other threads do them, where those can be made.
-    /// Waits for them.
-    pub fn beside<W: FnMut() -> X, X>(&self, rt: &R, helpers: usize, work: &mut W) -> X
+    /// Calls `work`, which gives jobs and asks for what is found, in this thread, while the crew does them, where its
+    /// threads can be made. Stops the jobs when `work` has returned, and waits for the threads.
+    pub fn beside<W: FnMut() -> X, X>(&self, work: &mut W) -> X
         requires { W.pre work.old }
         ensures { W.step work.old result work.new }
     {
-        self.helpers.store(helpers as u64, Ordering::SeqCst);
         let mut work_and_end = || -> X
             requires { IsSync R.row × IsSync G.row × W.pre work.now }
             ensures { W.step work.entry.now result work.exit.now }
         {
             let done = work();
-            self.end(rt);
+            self.end();
             done
         };
-        beside(rt, helpers, &|| self.help(rt), &mut work_and_end)
+        let rt = self.batch.rt;
+        beside(rt, self.helpers, &|| self.help(), &mut work_and_end)
     }
 
     // Does the jobs of each batch, until no further one comes.
-    fn help(&self, rt: &R) {
+    fn help(&self) {
         let mut seen = 0;
-        for _ in rt.forever() {
-            let given = self.next_given(rt, seen);
+        for _ in self.batch.rt.forever() {
+            let given = self.next_given(seen);
             if given.is_over {
                 break;
             }
             seen = given.batches;
-            if let Some(jobs) = &*self.jobs(rt) {
+            if let Some(jobs) = &*self.jobs() {
                 jobs.work();
             }
         }
     }
 
     // Waits for a further batch than those that were `seen`, or until none comes.
-    fn next_given(&self, rt: &R, seen: u64) -> Given {
+    fn next_given(&self, seen: u64) -> Given {
+        let rt = self.batch.rt;
         let given = self.given.lock(rt);
         *self
             .changed
@@ -108,9 +137,12 @@ impl<'b, R: Wait + Threads + Sync, G: Gate> Crew<'b, R, G> {
             })
     }
 
-    // Tells the helpers that no further batch comes.
-    fn end(&self, rt: &R) {
-        let mut given = self.given.lock(rt);
+    // Stops the jobs, and tells the helpers that no further batch comes.
+    fn end(&self) {
+        if let Some(jobs) = &*self.jobs() {
+            jobs.stop();
+        }
+        let mut given = self.given.lock(self.batch.rt);
         given.is_over = true;
         drop(given);
         self.changed.notify_all();

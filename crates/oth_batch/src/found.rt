@@ -1,25 +1,11 @@
-//! An answer among those that were found ahead, and by that of an image of the board.
+//! What was found, where it is that of a board under a scoring; an answer by that of an image of its board.
 
-ghost use Rattle.std.specs.Prelude.{◌≡◌, ◌≢◌, All, IfSome, IfNone};
+ghost use Rattle.std.specs.Prelude.{◌≡◌, ◌≢◌, IfSome, IfNone};
 
 use oth_book::Book;
 use oth_rules::{Board, Scoring};
 use oth_search::{Answer, MOST_EMPTIES, Scores};
 use std::alloc::Global;
-
-/// The answer of the board under the scoring, if it is one of these.
-pub fn answer_among(answers: &[Answer], board: &Board, scoring: Scoring) -> Option<Answer>
-    ensures board { IfSome result (λ a. a.board ≡ board.now) }
-    ensures scoring { IfSome result (λ a. a.scoring ≡ scoring) }
-    ensures none { IfNone result (All (λ a. a.board ≡ board.now → a.scoring ≢ scoring) answers.now) }
-{
-    for place in 0..answers.len() {
-        if let Some(answer) = matching_answer(&answers[place], board, scoring) {
-            return Some(answer);
-        }
-    }
-    None
-}
 
 /// The answer, if it is the board's under the scoring.
 pub(crate) fn matching_answer(answer: &Answer, board: &Board, scoring: Scoring) -> Option<Answer>

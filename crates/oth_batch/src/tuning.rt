@@ -1,8 +1,9 @@
 //! The numbers that choose how boards are shared out among workers. What each was measured to bring stands in
 //! docs/TUNING.md.
 
-/// Boards of a batch, at the most: enough that each of 16 workers has some, and so few that answers come soon.
-pub const MOST_BOARDS: usize = 1_024;
+/// Boards or games whose jobs are made at once, at the most: enough that each of 16 workers has many, and so few that a
+/// wrong entry of a book is soon met.
+pub const MOST_JOBS: usize = 4_096;
 
 /// Empty squares: up to here a board may have one worker for itself. All workers solve a larger one together, so that
 /// the answers behind it do not wait long.

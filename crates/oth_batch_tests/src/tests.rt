@@ -7,8 +7,8 @@ mod recent;
 mod refused;
 mod verifying;
 
-use oth_batch::{Batch, Boards, Crew};
-use oth_pool::{Gate, Open};
+use oth_batch::{Asked, Batch, Crew, Jobs};
+use oth_pool::Open;
 use oth_rules::samples::after_least_moves;
 use oth_rules::{Board, Scoring, Sym};
 use oth_search::{Answer, RootMoves, Solved, solve_alone};
@@ -18,12 +18,12 @@ use std::test::Fail;
 use std::thread::Threads;
 
 /// The eight images of each of two boards of a game, one of `empties` empty squares and one of one less.
-fn images(alloc: Global, empties: u8) -> Option<Boards> {
-    let mut boards = Boards::new(alloc).ok()?;
+fn images(alloc: Global, empties: u8) -> Option<Vec<Board>> {
+    let mut boards = Vec::new(alloc);
     for most_empties in [empties, empties.saturating_sub(1)] {
         let board = after_least_moves(most_empties)?;
         for number in 0..8 {
-            boards.push(board.image(Sym::of(number)?));
+            boards.push(board.image(Sym::of(number)?)).ok()?;
         }
     }
     Some(boards)
@@ -31,20 +31,15 @@ fn images(alloc: Global, empties: u8) -> Option<Boards> {
 
 /// The boards after each move of two boards of a game, one of `empties` empty squares and one of one less: none is an
 /// image of another one.
-fn children(alloc: Global, empties: u8) -> Option<Boards> {
-    let mut boards = Boards::new(alloc).ok()?;
+fn children(alloc: Global, empties: u8) -> Option<Vec<Board>> {
+    let mut boards = Vec::new(alloc);
     for most_empties in [empties, empties.saturating_sub(1)] {
         let board = after_least_moves(most_empties)?;
         for root_move in RootMoves::of(&Solved::unknown(board, Scoring::Winner), &[]).as_slice() {
-            boards.push(root_move.child.board);
+            boards.push(root_move.child.board).ok()?;
         }
     }
     Some(boards)
-}
-
-/// A crew for jobs of this batch.
-fn crew_for<'b, R: Wait + Threads + Sync, G: Gate>(_batch: &'b Batch<'b, R, G>) -> Crew<'b, R, G> {
-    Crew::new()
 }
 
 fn batch<T: Threads + Sync + AllocGlobal>(
@@ -69,13 +64,19 @@ fn are_right(answers: &[Answer], scoring: Scoring) -> bool {
     answers.iter().all(|answer| solve_alone(&answer.board, scoring) == Ok(*answer))
 }
 
-/// How many of the boards have an answer.
-fn answered(boards: &Boards, answers: &[Answer]) -> usize {
-    boards
-        .as_slice()
-        .iter()
-        .filter(|board| answers.iter().any(|answer| answer.board == **board))
-        .count()
+/// The answers that a crew gives of these boards, one after the other.
+fn answers<T: Wait + Threads + Sync>(batch: &Batch<'_, T, Open>, boards: &[Board]) -> Vec<Answer> {
+    let mut answers = Vec::new(batch.alloc);
+    let crew = Crew::of(&*batch, Jobs::of(&*batch, Asked::Answer, boards));
+    let mut work = || {
+        for board in boards {
+            if let Some(answer) = crew.answer_of(board) {
+                let _ = answers.push(answer);
+            }
+        }
+    };
+    crew.beside(&mut work);
+    answers
 }
 
 #[test]
@@ -85,9 +86,8 @@ fn each_board_is_answered(rt: HostRuntime) -> Result<(), Fail> {
     };
     for scoring in [Scoring::Winner, Scoring::Discs] {
         for (workers, cells) in [(2, 0), (3, 1), (16, 64)] {
-            let answers = batch(&rt, workers, cells, scoring).answers(&boards);
+            let answers = answers(&batch(&rt, workers, cells, scoring), boards.as_slice());
             assert!(rt; answers.len() == 16, "{workers} workers, {cells} cells");
-            assert!(rt; answered(&boards, answers.as_slice()) == 16);
             assert!(rt; are_right(answers.as_slice(), scoring));
         }
     }
@@ -99,11 +99,13 @@ fn each_of_many_boards_is_answered(rt: HostRuntime) -> Result<(), Fail> {
     let Some(boards) = children(rt.alloc(), 12) else {
         panic!(rt; "no boards")
     };
-    let count = boards.as_slice().len();
     for (workers, cells) in [(2, 0), (3, 1), (16, 64)] {
-        let answers = batch(&rt, workers, cells, Scoring::Winner).answers(&boards);
-        assert!(rt; answers.len() == count, "{workers} workers, {cells} cells");
-        assert!(rt; answered(&boards, answers.as_slice()) == count);
+        let batch = batch(&rt, workers, cells, Scoring::Winner);
+        let answers = answers(&batch, boards.as_slice());
+        assert!(rt;
+            answers.len() == boards.len(),
+            "{workers} workers, {cells} cells"
+        );
         assert!(rt; are_right(answers.as_slice(), Scoring::Winner));
     }
     Ok(())
@@ -114,13 +116,15 @@ fn a_batch_that_is_not_worth_a_second_thread_is_left(rt: HostRuntime) -> Result<
     let (Some(few), Some(boards)) = (images(rt.alloc(), 4), images(rt.alloc(), 10)) else {
         panic!(rt; "no boards")
     };
-    assert!(rt; few.as_slice().len() == 16);
-    assert!(rt; batch(&rt, 16, 64, Scoring::Winner).answers(&few).is_empty());
-    assert!(rt;
-        batch(&rt, 1, 64, Scoring::Winner)
-            .answers(&boards)
-            .is_empty()
+    assert!(rt; few.len() == 16);
+    let (many, one) = (
+        batch(&rt, 16, 64, Scoring::Winner),
+        batch(&rt, 1, 64, Scoring::Winner),
     );
+    assert!(rt; Jobs::of(&many, Asked::Answer, few.as_slice()).is_none());
+    assert!(rt; answers(&many, few.as_slice()).is_empty());
+    assert!(rt; Jobs::of(&one, Asked::Answer, boards.as_slice()).is_none());
+    assert!(rt; answers(&one, boards.as_slice()).is_empty());
     Ok(())
 }
 
@@ -129,9 +133,9 @@ fn a_board_that_is_worth_all_workers_is_left(rt: HostRuntime) -> Result<(), Fail
     let (Some(mut boards), Some(large)) = (images(rt.alloc(), 9), after_least_moves(14)) else {
         panic!(rt; "no boards")
     };
-    boards.push(large);
-    assert!(rt; boards.as_slice().len() == 17);
-    let answers = batch(&rt, 2, 64, Scoring::Winner).answers(&boards);
+    boards.push(large)?;
+    assert!(rt; boards.len() == 17);
+    let answers = answers(&batch(&rt, 2, 64, Scoring::Winner), boards.as_slice());
     assert!(rt; answers.len() == 16);
     assert!(rt; answers.iter().all(|answer| answer.board.empties() <= 9));
     Ok(())

@@ -1,5 +1,5 @@
 -- What becomes of a book by the lines of an input.
-use Rattle.std.proofs.Common.{◌≡◌, ◌<◌, ◌==◌, ℕ, List, [], ◌∷◌, ◌++◌, Bool, true, false, Result, Ok, Err, if◌then◌else◌, refl, sym, ap, ◌∙◌, append-nil, append_assoc, arith, All, OnOk}
+use Rattle.std.proofs.Common.{◌≡◌, ◌<◌, ◌==◌, ℕ, List, [], ◌∷◌, ◌++◌, Bool, true, false, Result, Ok, Err, if◌then◌else◌, refl, sym, ap, ◌∙◌, append-nil, append_assoc, arith, All, OnOk, inl, inr}
 use Rattle.std.proofs.lemmas.List.Elements.{All-push, Contains-append_left, Contains-append_right}
 use Rattle.std.specs.Prelude.{nat_lt}
 use Rattle.std.proofs.lemmas.Bool.{lt-ltb, ltb-true}
@@ -16,7 +16,7 @@ use Rattle.oth_book.specs.Book.{IsTrueBook}
 use Rattle.oth_book.specs.Contents.{Contents}
 use Rattle.oth_book.specs.declared.add.AddError.{AddError}
 use Rattle.oth_book.proofs.KeepLemmas.{exact_stays, keeps_same, keeps_trans}
-use Rattle.oth_main.specs.Addition.{AnswersLine, FindsNoRoom, HasAdded, HasNoPlace, IsAdding, IsAnswered, IsRefusedLine, StopsBy, StopsReading}
+use Rattle.oth_main.specs.Addition.{AnswersLine, FindsNoRoom, HasAdded, HasNoPlace, IsAdding, IsAnswered, IsRefusedLine, IsStatus, StopsBy, StopsReading}
 use Rattle.oth_main.specs.declared.book.addition.Stop.{Stop}
 use Rattle.oth_main.specs.declared.book.addition.Stop.TheVariants.{Run, Refused}
 use Rattle.oth_run.specs.declared.fault.RunFault.TheVariants.{Read, Write, Workers, Cells}
@@ -165,12 +165,30 @@ pub stops_reading : (stop : Stop) (reader : Bool) (Full : Type 0) → IsRefusedL
 stops_reading (Run fault) reader Full is full = absurd is
 stops_reading (Refused line why) reader Full is full = full
 
+pub stops_weaker : (stop : Stop) (reader : Bool) (Full Full' : Type 0) → (Full → Full') → StopsReading stop reader Full → StopsReading stop reader Full'
+stops_weaker (Run Read) reader Full Full' f is = is
+stops_weaker (Run Write) reader Full Full' f is = is
+stops_weaker (Run Workers) reader Full Full' f is = is
+stops_weaker (Run Cells) reader Full Full' f is = is
+stops_weaker (Refused line why) reader Full Full' f is = f is
+
 pub stops_by : (stop : Stop) (reader writer : Bool) (Untouched Full : Type 0) → StopsReading stop reader Full → Untouched → StopsBy stop reader writer Untouched Full
 stops_by (Run Read) reader writer Untouched Full is same = (is, same)
 stops_by (Run Write) reader writer Untouched Full is same = absurd is
 stops_by (Run Workers) reader writer Untouched Full is same = is
 stops_by (Run Cells) reader writer Untouched Full is same = is
 stops_by (Refused line why) reader writer Untouched Full is same = (same, is)
+
+-- what statuses 0 and 3 tell
+pub is_done : (status : ℕ) (Done Failed Stopped : Type 0) → IsStatus status Done Failed Stopped → status ≡ 0 → Done
+is_done status Done Failed Stopped (inl done) is = done.1
+is_done status Done Failed Stopped (inr (inl failed)) is = absurd (omega (arith, failed.0, is))
+is_done status Done Failed Stopped (inr (inr stopped)) is = absurd (omega (arith, stopped.0, is))
+
+pub is_stopped : (status : ℕ) (Done Failed Stopped : Type 0) → IsStatus status Done Failed Stopped → status ≡ 3 → Stopped
+is_stopped status Done Failed Stopped (inl done) is = absurd (omega (arith, done.0, is))
+is_stopped status Done Failed Stopped (inr (inl failed)) is = absurd (omega (arith, failed.0, is))
+is_stopped status Done Failed Stopped (inr (inr stopped)) is = stopped.1
 
 -- two facts of an `Ok`
 pub on_ok_both : {T E A B P : Type 0} (r : Result T E) → OnOk r A → OnOk r B → (A → B → P) → OnOk r P

@@ -1,79 +1,19 @@
-//! Boards of lines that wait together, solved side by side before their lines are answered or while they are.
+//! Boards and games of lines that wait together, as jobs of other workers while the lines are answered.
 
-ghost use Rattle.std.specs.Prelude.{◌≡◌, ◌<◌, ◌↔◌, IsErr, IfOk, IfErr};
+ghost use Rattle.std.specs.Prelude.{◌≤◌, IfSome, length};
 ghost use Rattle.oth_rules.specs.Position.{empty_count};
 
 use crate::lines::split_line;
 use crate::solver::Solver;
-use crate::tuning::MOST_JOBS;
 use memchr::memchr;
-use oth_batch::{Asked, Boards, Jobs, ONE_WORKER_MAX_EMPTIES, Recent, answer_among};
+use oth_batch::{Asked, Batch, Jobs, MOST_JOBS, ONE_WORKER_MAX_EMPTIES, Recent};
+use oth_book::Book;
 use oth_pool::Gate;
 use oth_rules::Board;
-use oth_search::{Answer, TooManyEmpties};
 use oth_text::{AnalysisReader, Turn, read_solvable};
 use oth_words::Command;
 use std::alloc::Global;
 use std::thread::Threads;
-
-/// Answers of boards of the next lines. A board whose answer isn't there is solved when its line's turn comes.
-#[derive(Drop)]
-pub struct Ahead {
-    answers: Vec<Answer>,
-    /// The number of next lines whose boards were gathered.
-    lines: usize,
-}
-
-impl Ahead {
-    /// No line was gathered.
-    pub fn new(alloc: Global) -> Self {
-        Ahead {
-            answers: Vec::new(alloc),
-            lines: 0,
-        }
-    }
-
-    /// The value and all best moves of a board, found before or now.
-    pub fn find_answer<T: Threads + Sync, G: Gate>(
-        &self,
-        solver: &Solver<'_, T, G>,
-        board: &Board,
-    ) -> Result<Answer, TooManyEmpties>
-        ensures refused { IsErr result ↔ (30 < empty_count board.now) }
-        ensures counted { IfErr result (λ e. e.empties ≡ empty_count board.now) }
-        ensures board { IfOk result (λ a. a.board ≡ board.now) }
-        ensures scoring { IfOk result (λ a. a.scoring ≡ solver.now.settings.scoring) }
-    {
-        solver.awaits(board)?;
-        match answer_among(self.answers.as_slice(), board, solver.batch.scoring) {
-            Some(answer) => Ok(answer),
-            None => Ok(solver.answer_by(board, solver.batch.book)),
-        }
-    }
-
-    /// Advances past the first line in `bytes`, which may be the rest of a line. If the last batch is used up, first
-    /// solves the boards of the next lines side by side, as a new batch. Does nothing unless the command is `Solve` and
-    /// there are two workers or more.
-    pub fn advance<T: Threads + Sync, G: Gate>(&mut self, solver: &Solver<'_, T, G>, bytes: &[u8]) {
-        let asked = solver.settings.get();
-        if asked.command != Command::Solve || asked.workers < 2 {
-            return;
-        }
-        if self.lines == 0 {
-            self.look(solver, bytes);
-        }
-        self.lines = self.lines.saturating_sub(1);
-    }
-
-    // Solves the boards of the first lines in `bytes`, as many as make a batch, if there is memory for them.
-    fn look<T: Threads + Sync, G: Gate>(&mut self, solver: &Solver<'_, T, G>, bytes: &[u8]) {
-        let Ok(mut boards) = Boards::new(solver.batch.alloc) else {
-            return;
-        };
-        self.lines = fill_with_lines(&mut boards, &solver.recent, bytes);
-        self.answers = solver.batch.answers(&boards);
-    }
-}
 
 /// What a command asks of boards by a search, if it does.
 pub(crate) fn asked_by(command: Command) -> Option<Asked> {
@@ -99,17 +39,57 @@ pub(crate) fn jobs_of_lines<'b, T: Threads + Sync, G: Gate>(
         return Jobs::of_games(&solver.batch, games);
     }
     let asked = asked_by(command)?;
+    jobs_of_boards(
+        &solver.batch,
+        asked,
+        bytes,
+        |board: &Board| recent.has(board),
+    )
+}
+
+/// Makes jobs for the boards of the whole lines in `bytes`, up to `MOST_JOBS`, but for those whose answer is in the
+/// book. None where one worker is enough, or there is no memory.
+pub fn jobs_of_new_boards<'b, T: Threads + Sync, G: Gate>(
+    batch: &'b Batch<'b, T, G>,
+    bytes: &[u8],
+    book: &Book,
+) -> Option<Jobs<'b, T, G>> {
+    jobs_of_boards(
+        batch,
+        Asked::Answer,
+        bytes,
+        |board: &Board| book.find(board).is_some(),
+    )
+}
+
+// Makes jobs for the boards of the whole lines in these bytes, but for those that are known.
+fn jobs_of_boards<'b, T: Threads + Sync, G: Gate, F: Fn(&Board) -> bool>(
+    batch: &'b Batch<'b, T, G>,
+    asked: Asked,
+    bytes: &[u8],
+    is_known: F,
+) -> Option<Jobs<'b, T, G>>
+    requires { F.IsAlwaysCallable is_known }
+{
     // Boards without an empty square, as of ended games, are answered sooner than they are read.
     memchr(b'-', bytes)?;
-    let boards = of_lines(alloc, bytes, |line: &[u8]| -> Option<Board> {
-        board_of_line(recent, line)
-    });
-    Jobs::of(&solver.batch, asked, boards.as_slice())
+    let boards = of_lines(
+        batch.alloc,
+        bytes,
+        |line: &[u8]| -> Option<Board>
+            requires { F.IsAlwaysCallable is_known }
+        {
+            let board = board_of_line(line)?;
+            if is_known(&board) { None } else { Some(board) }
+        },
+    );
+    Jobs::of(batch, asked, boards.as_slice())
 }
 
 // What is read of the whole lines in these bytes, up to `MOST_JOBS` of it, as far as there is memory.
 fn of_lines<X: Drop, F: Fn(&[u8]) -> Option<X>>(alloc: Global, bytes: &[u8], read: F) -> Vec<X>
     requires { F.IsAlwaysCallable read }
+    ensures { length result.items ≤ MOST_JOBS }
 {
     let mut list = Vec::new(alloc);
     let mut rest = bytes;
@@ -127,10 +107,12 @@ fn of_lines<X: Drop, F: Fn(&[u8]) -> Option<X>>(alloc: Global, bytes: &[u8], rea
     list
 }
 
-// The board of the line, if one worker is enough for it and nothing was found of it lately.
-fn board_of_line(recent: &Recent, line: &[u8]) -> Option<Board> {
+// The board of the line, if one worker is enough for it.
+fn board_of_line(line: &[u8]) -> Option<Board>
+    ensures { IfSome result (λ b. empty_count b ≤ ONE_WORKER_MAX_EMPTIES) }
+{
     let board = read_solvable(line).ok()?.board;
-    if board.empties() > ONE_WORKER_MAX_EMPTIES || recent.has(&board) {
+    if board.empties() > ONE_WORKER_MAX_EMPTIES {
         return None;
     }
     Some(board)
@@ -147,25 +129,4 @@ fn turns_of_line(alloc: Global, recent: &Recent, last: u8, line: &[u8]) -> Optio
         return None;
     }
     turns.as_slice().to_vec(alloc).ok()
-}
-
-// Lets the boards of the whole lines in these bytes wait, up to a batch, but those of which something was found lately,
-// and gives the number of these lines, each of which has at least one byte.
-fn fill_with_lines(boards: &mut Boards, recent: &Recent, bytes: &[u8]) -> usize {
-    let mut rest = bytes;
-    for lines in 0..bytes.len() {
-        if boards.is_full() {
-            return lines;
-        }
-        let Some((line, others)) = split_line(rest) else {
-            return lines;
-        };
-        if let Ok(position) = read_solvable(line) {
-            if !recent.has(&position.board) {
-                boards.push(position.board);
-            }
-        }
-        rest = others;
-    }
-    bytes.len()
 }

@@ -9,12 +9,10 @@
 //! tested, `Lawful`, so the pool's refusals of workers and of cells are shown not to come, and no function of the
 //! engine asks for more.
 //!
-//! `Solver` (`solver`) is what boards are solved with, and how. Where `solve` or `scores` has more than one worker,
-//! the boards of the whole lines in the chunk are the jobs of other workers (`ahead`), who stay from chunk to chunk,
-//! while the engine answers these lines in their order: by an answer, or scores, of just this board and scoring, as
-//! soon as it is there, else by `Solver`. For `book-add`, whose book is written at the end and changes on the way,
-//! `Ahead` has the boards of a chunk solved side by side before the first of its lines is answered. So the report's
-//! proof knows nothing of workers but that an `Answer` is true.
+//! `Solver` (`solver`) is what boards are solved with, and how. Where there is more than one worker, the boards of the
+//! whole lines in the chunk are the jobs of other workers (`ahead`), who stay from chunk to chunk, while the engine, or
+//! `book-add`, answers these lines in their order: by an answer, or scores, of just this board and scoring, as soon as
+//! it is there, else by `Solver`. So the report's proof knows nothing of workers but that an `Answer` is true.
 #![tactic(auto)]
 
 mod ahead;
@@ -30,9 +28,11 @@ mod solver;
 mod tuning;
 mod waiting;
 
-pub use ahead::Ahead;
+pub use ahead::jobs_of_new_boards;
+pub use buffer::{long_buffer, longer};
 pub use checking::{Lawful, check_settings};
 pub use fault::RunFault;
 pub use lines::split_line;
 pub use running::{run, run_judged};
 pub use solver::Solver;
+pub use tuning::STACK_CHUNK;

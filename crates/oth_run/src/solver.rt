@@ -1,6 +1,6 @@
 //! What the boards of a run are solved with: the batch, lawful settings, and what was found of the last boards.
 
-ghost use Rattle.std.specs.Prelude.{◌≡◌, ◌≤◌, ◌<◌, ◌↔◌, IsErr, IfErr};
+ghost use Rattle.std.specs.Prelude.{◌≡◌, ◌≤◌, ◌<◌, ◌↔◌, IsErr, IfErr, IfOk};
 ghost use Rattle.std.specs.Thread.{IsSync};
 ghost use Rattle.oth_rules.specs.Position.{empty_count};
 ghost use Rattle.oth_text.specs.Analysis.{HasFewEmpties};
@@ -35,7 +35,7 @@ pub struct Solver<'s, T, G> {
 
 impl<'s, T: Threads + Sync, G: Gate> Solver<'s, T, G> {
     /// No jobs, with the lifetimes of some.
-    pub(crate) fn no_jobs(&self) -> Option<&Jobs<'s, T, G>> {
+    pub fn no_jobs(&self) -> Option<&Jobs<'s, T, G>> {
         None
     }
 
@@ -153,6 +153,21 @@ impl<'s, T: Wait + Threads + Sync, G: Gate> Solver<'s, T, G> {
                 Some(self.answer_by(board, Some(book)))
             },
         )
+    }
+
+    /// The value and all best moves of a board: those that its job found, where it is one, and else found here.
+    pub fn find_answer(
+        &self,
+        jobs: Option<&Jobs<'_, T, G>>,
+        board: &Board,
+    ) -> Result<Answer, TooManyEmpties>
+        ensures refused { IsErr result ↔ (30 < empty_count board.now) }
+        ensures counted { IfErr result (λ e. e.empties ≡ empty_count board.now) }
+        ensures board { IfOk result (λ a. a.board ≡ board.now) }
+        ensures scoring { IfOk result (λ a. a.scoring ≡ self.now.settings.scoring) }
+    {
+        self.awaits(board)?;
+        Ok(self.awaited_answer(jobs, board))
     }
 
     /// Returns the board's answer. If the board is a job, waits for the worker that has it, or takes the job; else

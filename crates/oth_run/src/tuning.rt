@@ -4,11 +4,8 @@
 /// their threads take to start, however few empty squares the boards have.
 pub(crate) const HEAP_CHUNK: usize = 262_144;
 
-/// Jobs of the lines that are read at once, at the most: more than `HEAP_CHUNK` bytes have board lines.
-pub(crate) const MOST_JOBS: usize = 4_096;
-
 /// Bytes that are read at once where there is no memory for those, on the stack.
-pub(crate) const STACK_CHUNK: usize = 4_096;
+pub const STACK_CHUNK: usize = 4_096;
 
 /// Bytes of a report that wait for one write, at the most.
 pub(crate) const WAITING_LEN: usize = 16_384;

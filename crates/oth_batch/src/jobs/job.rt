@@ -44,11 +44,6 @@ impl Job {
         self.found.get().is_some()
     }
 
-    /// What was found, if it is there.
-    pub fn found(&self) -> Option<&Found> {
-        self.found.get()?.as_ref()
-    }
-
     /// Waits until what was found is there, and returns it.
     pub fn awaited<T: Wait>(&self, rt: &T) -> Option<&Found> {
         self.found.wait(rt).as_ref()

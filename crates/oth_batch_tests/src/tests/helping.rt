@@ -1,7 +1,7 @@
 //! What those who help do: they begin each batch, and go on past jobs that others have taken.
 
-use super::{crew_for, images};
-use oth_batch::{Asked, Batch, Jobs};
+use super::images;
+use oth_batch::{Asked, Batch, Crew, Jobs};
 use oth_pool::Gate;
 use oth_rules::{Board, Scoring};
 use std::alloc::Global;
@@ -11,23 +11,29 @@ use std::test::Fail;
 use std::thread;
 use std::thread::Threads;
 
-// Counts the searches that are begun, and hears of nothing else.
+/// Counts the searches that are begun, and hears of nothing else.
 #[derive(Drop)]
-struct Begun {
+pub(super) struct Begun {
     searches: AtomicU64,
 }
 
 impl Begun {
-    fn new() -> Begun {
+    /// None is begun.
+    pub(super) fn new() -> Begun {
         Begun {
             searches: AtomicU64::new(0),
         }
     }
 
+    /// The number of searches that are begun.
+    pub(super) fn number(&self) -> u64 {
+        self.searches.load(Ordering::SeqCst)
+    }
+
     // Whether this number of searches is begun, or will be in a while.
     fn reaches(&self, searches: u64) -> bool {
         for _ in 0..10_000_000 {
-            if self.searches.load(Ordering::SeqCst) >= searches {
+            if self.number() >= searches {
                 return true;
             }
             thread::yield_now();
@@ -50,7 +56,8 @@ impl Gate for Begun {
     }
 }
 
-fn heard_batch<'b, T: Threads + Sync + AllocGlobal>(
+/// A batch for four workers, whose searches are counted.
+pub(super) fn heard_batch<'b, T: Threads + Sync + AllocGlobal>(
     rt: &'b T,
     gate: &'b Begun,
 ) -> Batch<'b, T, Begun> {
@@ -83,18 +90,15 @@ fn a_crew_begins_each_batch_by_itself(rt: HostRuntime) -> Result<(), Fail> {
     };
     let gate = Begun::new();
     let batch = heard_batch(&rt, &gate);
-    let crew = crew_for(&batch);
+    let crew = Crew::of(&batch, Jobs::of(&batch, Asked::Answer, many.as_slice()));
+    assert!(rt; crew.helpers() >= 1);
     let mut work = || {
-        let mut searches = 0u64;
-        for (boards, searched) in [
-            (many.as_slice(), 2),
-            (few.as_slice(), 48),
-            (many.as_slice(), 2),
-        ] {
-            let Some(jobs) = Jobs::of(&batch, Asked::Answer, boards) else {
-                return false;
-            };
-            crew.give(&rt, Some(jobs));
+        let mut searches = 2u64;
+        if !gate.reaches(searches) {
+            return false;
+        }
+        for (boards, searched) in [(few.as_slice(), 48), (many.as_slice(), 2)] {
+            crew.give(Jobs::of(&batch, Asked::Answer, boards));
             searches = searches.saturating_add(searched);
             if !gate.reaches(searches) {
                 return false;
@@ -102,33 +106,30 @@ fn a_crew_begins_each_batch_by_itself(rt: HostRuntime) -> Result<(), Fail> {
         }
         true
     };
-    assert!(rt; crew.beside(&rt, 1, &mut work));
+    assert!(rt; crew.beside(&mut work));
     Ok(())
 }
 
-// Whether who works does the jobs of all these boards but the first one's, which was taken.
+// Whether who works does the jobs of all these boards but the first one's, which was taken: then this
+// number of searches is begun.
 fn goes_on_past_the_first<T: Wait + Threads + Sync + AllocGlobal>(
     rt: &T,
     boards: &[Board],
+    searches: u64,
 ) -> bool {
     let gate = Begun::new();
     let batch = heard_batch(rt, &gate);
     let Some(jobs) = Jobs::of(&batch, Asked::Answer, boards) else {
         return false;
     };
-    let Some((first, others)) = boards.split_first() else {
+    let Some(first) = boards.first() else {
         return false;
     };
-    if jobs.answer_of(rt, first).is_none() {
+    if jobs.answer_of(rt, first).is_none() || gate.number() >= searches {
         return false;
     }
     jobs.work();
-    for board in others {
-        if jobs.found(board).is_none() {
-            return false;
-        }
-    }
-    true
+    gate.number() == searches
 }
 
 #[test]
@@ -136,7 +137,7 @@ fn who_works_goes_on_past_a_job_that_is_taken(rt: HostRuntime) -> Result<(), Fai
     let (Some(few), Some(many)) = (few(rt.alloc()), images(rt.alloc(), 10)) else {
         panic!(rt; "no boards")
     };
-    assert!(rt; goes_on_past_the_first(&rt, many.as_slice()));
-    assert!(rt; goes_on_past_the_first(&rt, few.as_slice()));
+    assert!(rt; goes_on_past_the_first(&rt, many.as_slice(), 2));
+    assert!(rt; goes_on_past_the_first(&rt, few.as_slice(), 48));
     Ok(())
 }

@@ -1,8 +1,8 @@
 //! Boards are answered for whoever asks, while other workers solve them.
 
-use super::helping::few;
-use super::{batch, crew_for, images};
-use oth_batch::{Asked, Jobs};
+use super::helping::{Begun, few, heard_batch};
+use super::{batch, images};
+use oth_batch::{Asked, Crew, Jobs};
 use oth_rules::{Board, Scoring};
 use oth_search::{NoCells, scores_with, solve_alone};
 use std::test::Fail;
@@ -75,14 +75,14 @@ fn nobody_is_waited_for_where_nobody_helps(rt: HostRuntime) -> Result<(), Fail> 
     let Some(boards) = images(rt.alloc(), 10) else {
         panic!(rt; "no boards")
     };
-    let batch = batch(&rt, 4, 64, Scoring::Winner);
+    let gate = Begun::new();
+    let batch = heard_batch(&rt, &gate);
     let Some(jobs) = Jobs::of(&batch, Asked::Answer, boards.as_slice()) else {
         panic!(rt; "no jobs")
     };
     for (place, board) in boards.as_slice().iter().enumerate() {
-        assert!(rt; jobs.found(board).is_some() == (place % 8 != 0));
-        assert!(rt; jobs.answer_of(&rt, board) == solve_alone(board, Scoring::Winner).ok());
-        assert!(rt; jobs.found(board).is_some());
+        assert!(rt; jobs.answer_of(&rt, board) == solve_alone(board, Scoring::Discs).ok());
+        assert!(rt; gate.number() == place as u64 / 8 + 1);
         assert!(rt; jobs.scores_of(&rt, board).is_none());
     }
     Ok(())
@@ -90,18 +90,14 @@ fn nobody_is_waited_for_where_nobody_helps(rt: HostRuntime) -> Result<(), Fail> 
 
 // Whether there are jobs of these boards, and none is begun after a stop.
 fn none_is_begun_after_a_stop<T: Threads + Sync + AllocGlobal>(rt: &T, boards: &[Board]) -> bool {
-    let batch = batch(rt, 4, 64, Scoring::Winner);
+    let gate = Begun::new();
+    let batch = heard_batch(rt, &gate);
     let Some(jobs) = Jobs::of(&batch, Asked::Answer, boards) else {
         return false;
     };
     jobs.stop();
-    jobs.do_all();
-    for board in boards {
-        if jobs.found(board).is_some() {
-            return false;
-        }
-    }
-    true
+    jobs.work();
+    gate.number() == 0
 }
 
 #[test]
@@ -117,13 +113,17 @@ fn no_job_is_begun_after_a_stop(rt: HostRuntime) -> Result<(), Fail> {
 // Its threads end without a job, so that nothing is waited for.
 #[test]
 fn a_crew_without_jobs_has_none(rt: HostRuntime) {
-    let batch = batch(&rt, 4, 64, Scoring::Winner);
-    let crew = crew_for(&batch);
-    let mut work = || {
-        crew.give(&rt, Jobs::of(&batch, Asked::Answer, &[]));
-        crew.jobs(&rt).is_none()
+    let Some(boards) = images(rt.alloc(), 10) else {
+        panic!(rt; "no boards")
     };
-    assert!(rt; crew.beside(&rt, 3, &mut work));
+    let batch = batch(&rt, 4, 64, Scoring::Winner);
+    let crew = Crew::of(&batch, Jobs::of(&batch, Asked::Answer, boards.as_slice()));
+    assert!(rt; crew.helpers() >= 1);
+    let mut work = || {
+        crew.give(Jobs::of(&batch, Asked::Answer, &[]));
+        crew.jobs().is_none()
+    };
+    assert!(rt; crew.beside(&mut work));
 }
 
 #[test]
@@ -144,12 +144,12 @@ fn boards_of_few_empty_squares_are_found_in_turn(rt: HostRuntime) -> Result<(), 
     let (Some(first), Some(second)) = (boards.as_slice().first(), boards.as_slice().get(1)) else {
         panic!(rt; "one board")
     };
-    jobs.do_all();
-    assert!(rt; jobs.found(second).is_none());
+    jobs.work();
+    assert!(rt; jobs.answer_of(&rt, second).is_none());
     for board in boards.as_slice() {
-        assert!(rt; jobs.found(board) == solve_alone(board, Scoring::Winner).ok());
+        assert!(rt; jobs.answer_of(&rt, board) == solve_alone(board, Scoring::Winner).ok());
     }
-    assert!(rt; jobs.found(first).is_none());
+    assert!(rt; jobs.answer_of(&rt, first).is_none());
     Ok(())
 }
 
@@ -210,9 +210,9 @@ fn boards_of_few_and_of_many_empty_squares_are_found_among_each_other(
     let Some(jobs) = Jobs::of(&batch, Asked::Answer, boards.as_slice()) else {
         panic!(rt; "no jobs")
     };
-    jobs.do_all();
+    jobs.work();
     for board in boards.as_slice() {
-        assert!(rt; jobs.found(board) == solve_alone(board, Scoring::Discs).ok());
+        assert!(rt; jobs.answer_of(&rt, board) == solve_alone(board, Scoring::Discs).ok());
     }
     Ok(())
 }
@@ -230,24 +230,24 @@ fn a_crew_does_the_jobs_of_one_batch_after_the_other(rt: HostRuntime) -> Result<
     }
     for workers in [2, 4, 16] {
         let batch = batch(&rt, workers, 64, Scoring::Discs);
-        let crew = crew_for(&batch);
+        let crew = Crew::of(&batch, Jobs::of(&batch, Asked::Answer, many.as_slice()));
         let mut work = || {
             let mut right = 0u32;
-            for boards in [many.as_slice(), small.as_slice(), many.as_slice()] {
-                crew.give(&rt, Jobs::of(&batch, Asked::Answer, boards));
-                let given = crew.jobs(&rt);
-                let Some(jobs) = &*given else {
-                    return 0;
-                };
+            for (boards, next) in [
+                (many.as_slice(), small.as_slice()),
+                (small.as_slice(), many.as_slice()),
+                (many.as_slice(), small.as_slice()),
+            ] {
                 for board in boards {
-                    if jobs.answer_of(&rt, board) == solve_alone(board, Scoring::Discs).ok() {
+                    if crew.answer_of(board) == solve_alone(board, Scoring::Discs).ok() {
                         right = right.saturating_add(1);
                     }
                 }
+                crew.give(Jobs::of(&batch, Asked::Answer, next));
             }
             right
         };
-        assert!(rt; crew.beside(&rt, 3, &mut work) == 80, "{workers} workers");
+        assert!(rt; crew.beside(&mut work) == 80, "{workers} workers");
     }
     Ok(())
 }

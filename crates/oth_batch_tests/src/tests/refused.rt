@@ -2,7 +2,7 @@
 
 use super::games::{games, right_answers};
 use super::verifying::SIX;
-use super::{are_right, batch, images};
+use super::{answers, are_right, batch, images};
 use oth_batch::{Asked, Jobs, verify_by};
 use oth_book::{BookFault, Wrong, read_claims};
 use oth_pool::Open;
@@ -15,8 +15,8 @@ fn a_batch(rt: HostRuntime) -> Result<(), Fail> {
     let Some(boards) = images(rt.alloc(), 10) else {
         return Ok(());
     };
-    let answers = batch(&rt, 2, 64, Scoring::Discs).answers(&boards);
-    assert!(rt; answers.len() <= boards.as_slice().len());
+    let answers = answers(&batch(&rt, 2, 64, Scoring::Discs), boards.as_slice());
+    assert!(rt; answers.len() <= boards.len());
     assert!(rt; are_right(answers.as_slice(), Scoring::Discs));
     Ok(())
 }

@@ -5,6 +5,7 @@ use oth_batch::verify_by;
 use oth_book::{Cause, Wrong, read_claims};
 use oth_pool::Open;
 use std::alloc::{AllocError, Global};
+use std::sync::Wait;
 use std::test::Fail;
 use std::thread::Threads;
 
@@ -45,7 +46,7 @@ fn wrong_at(alloc: Global, entries: &[usize]) -> Result<Vec<u8>, AllocError> {
 }
 
 // Whether this is what is wrong with the text, by each of the means; none where it is a book of six entries.
-fn is_told<R: Threads + Sync + AllocGlobal>(
+fn is_told<R: Wait + Threads + Sync + AllocGlobal>(
     rt: &R,
     text: &[u8],
     wrong: Option<Wrong>,

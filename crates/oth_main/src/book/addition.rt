@@ -2,7 +2,7 @@
 
 ghost use Rattle.std.specs.Prelude.{◌≡◌, ◌≢◌, ◌≤◌, ◌++◌, ◌∷◌, [], ℕ, List, All, false, true, IfErr, IfOk};
 ghost use Rattle.std.specs.Prelude.{OnErr, OnOk};
-ghost use Rattle.std.specs.Io.KnownBytes.{Appends, IsAtEnd};
+ghost use Rattle.std.specs.Io.KnownBytes.{Appends};
 ghost use Rattle.oth_rules.specs.Position.{empty_count};
 ghost use Rattle.oth_rules.specs.Symmetry.{canonical};
 ghost use Rattle.oth_text.specs.BoardLine.{KeepsLine, solvable_reading};
@@ -11,25 +11,23 @@ ghost use Rattle.oth_book.specs.Book.{HasExact, IsTrueBook};
 ghost use Rattle.oth_book.specs.Contents.{Contents, IsText, written};
 ghost use Rattle.oth_book.specs.declared.add.AddError.{AddError as AnyRefusal};
 ghost use Rattle.oth_main.specs.Addition.{AddsBytes, AddsLines, AnswersLine, FindsNoRoom, HasAdded, HasNoPlace};
-ghost use Rattle.oth_main.specs.Addition.{IsAdding, IsAnswered, IsFullWithin, IsRefusedLine, OfInput, StopsBy};
-ghost use Rattle.oth_main.specs.Addition.{StopsFull, StopsReading};
+ghost use Rattle.oth_main.specs.Addition.{IsAdding, IsAnswered, IsFullWithin, IsRefusedLine, StopsBy};
+ghost use Rattle.oth_main.specs.Addition.{StopsFull};
 ghost use Rattle.oth_main.specs.declared.book.addition.Stop.TheVariants.{Run};
 ghost use Rattle.oth_run.specs.Report.{lines_of};
 ghost use Rattle.oth_run.specs.declared.fault.RunFault.TheVariants.{Write};
 
+mod chunks;
+
 use super::message::Message;
 use crate::terminal::Progress;
+use oth_batch::{Batch, Jobs};
 use oth_book::{AddError, Book, write};
-use oth_pool::Gate;
-use oth_run::{Ahead, Lawful, RunFault, Solver, split_line};
+use oth_run::{Lawful, RunFault, Solver, split_line};
 use oth_search::Answer;
 use oth_text::{BoardReader, LineFault, Sink, Source, fault_line};
-use std::alloc::Global;
 use std::sync::Wait;
 use std::thread::Threads;
-
-// Bytes that are read at once.
-const BUFFER_LEN: usize = 16_384;
 
 /// Why an addition ends without a book.
 #[derive(Drop)]
@@ -40,58 +38,49 @@ pub enum Stop {
     Refused(u64, AddError),
 }
 
-// How boards are solved, and what hears of it.
+/// The book so far, and the line that has begun with its number from 1.
 #[derive(Drop)]
-struct Conditions<'p> {
-    alloc: Global,
-    settings: Lawful,
-    progress: &'p Progress,
-}
-
-impl<'p> Conditions<'p> {
-    // What boards are solved with, under the book's scoring. Of each board the book is asked first.
-    fn solver<'s, T: Threads + Sync>(&'s self, rt: &'s T, book: &'s Book) -> Solver<'s, T, Progress>
-        ensures scoring { result.settings.scoring ≡ book.now.scoring }
-    {
-        let settings = self.settings.to_solve_by(book.scoring());
-        Solver::of(rt, self.alloc, self.progress, Some(book), settings)
-    }
-}
-
-/// The book so far, the line that has begun and its number from 1, answers of the next lines, and how they are solved.
-#[derive(Drop)]
-pub struct Addition<'p> {
+pub struct Addition {
     book: Book,
     line: BoardReader,
     number: u64,
-    ahead: Ahead,
-    conditions: Conditions<'p>,
 }
 
-impl<'p> Addition<'p> {
+impl Addition {
     /// Nothing is added to the book so far.
-    pub fn of(alloc: Global, book: Book, settings: Lawful, progress: &'p Progress) -> Addition<'p>
+    pub fn of(book: Book) -> Addition
         ensures book { result.book ≡ book }
         ensures line { KeepsLine result.line [] }
     {
-        progress.begin_lines(true);
         Addition {
             book,
             line: BoardReader::new(),
             number: 1,
-            ahead: Ahead::new(alloc),
-            conditions: Conditions {
-                alloc,
-                settings,
-                progress,
-            },
         }
     }
 
-    /// Adds all lines, and writes the book.
+    // What the boards of lines are solved with, under the book's scoring: as by `solver`, but of each the book is asked
+    // first.
+    fn solver<'s, T: Threads + Sync>(
+        &'s self,
+        solver: &'s Solver<'_, T, Progress>,
+    ) -> Solver<'s, T, Progress>
+        ensures scoring { result.settings.scoring ≡ self.now.book.scoring }
+    {
+        let Batch {
+            rt,
+            alloc,
+            gate,
+            ..
+        } = solver.batch;
+        let settings = solver.settings.to_solve_by(self.book.scoring());
+        Solver::of(rt, alloc, gate, Some(&self.book), settings)
+    }
+
+    /// Adds all lines, solved as by `solver`, and writes the book.
     pub fn run<T: Wait + Threads + Sync, R: Source, W: Sink, E: Sink>(
         &mut self,
-        rt: &T,
+        solver: &Solver<'_, T, Progress>,
         reader: &mut R,
         writer: &mut W,
         errors: &mut E,
@@ -106,44 +95,17 @@ impl<'p> Addition<'p> {
             (writer.new ≡ writer.old)
             (StopsFull self.old.book (R.remaining reader.old) (R.remaining reader.new))) }
     {
-        self.read_lines(rt, reader, errors)?;
-        self.end_last(rt, errors)?;
+        solver.batch.gate.begin_lines(true);
+        self.read_lines(solver, reader, errors)?;
+        self.end_last(solver, errors)?;
         self.write_to(writer)
     }
 
-    // Adds the lines that byte 10 ends, up to the end of input.
-    fn read_lines<T: Wait + Threads + Sync, R: Source, E: Sink>(
+    // Takes further bytes of the input. The jobs are those of boards of their lines.
+    fn take_bytes<T: Wait + Threads + Sync, E: Sink>(
         &mut self,
-        rt: &T,
-        reader: &mut R,
-        errors: &mut E,
-    ) -> Result<(), Stop>
-        requires line { KeepsLine self.old.line [] }
-        requires holds { IsTrueBook self.old.book }
-        ensures ok { OnOk result (OfInput (R.remaining reader.old) (R.remaining reader.new)
-            (IsAdding self.old.book self.new.book self.new.line)) }
-        ensures at_end { OnOk result (IsAtEnd (R.remaining reader.new)) }
-        ensures works { OnOk result (R.failed reader.new ≡ R.failed reader.old) }
-        ensures err { IfErr result (λ stop. StopsReading stop (R.failed reader.new)
-            (StopsFull self.old.book (R.remaining reader.old) (R.remaining reader.new))) }
-    {
-        let mut buffer = [0u8; BUFFER_LEN];
-        for _ in rt.forever() {
-            let Ok(count) = reader.read(&mut buffer) else {
-                return Err(Stop::Run(RunFault::Read));
-            };
-            if count == 0 {
-                break;
-            }
-            self.take_bytes(rt, &buffer[..count], errors)?;
-        }
-        Ok(())
-    }
-
-    // Takes further bytes of the input.
-    fn take_bytes<T: Threads + Sync, E: Sink>(
-        &mut self,
-        rt: &T,
+        solver: &Solver<'_, T, Progress>,
+        jobs: Option<&Jobs<'_, T, Progress>>,
         bytes: &[u8],
         errors: &mut E,
     ) -> Result<(), Stop>
@@ -153,9 +115,7 @@ impl<'p> Addition<'p> {
     {
         let mut rest = bytes;
         while let Some((line, others)) = split_line(rest) {
-            self.ahead
-                .advance(&self.conditions.solver(rt, &self.book), rest);
-            self.take_line(rt, line, errors)?;
+            self.take_line(solver, jobs, line, errors)?;
             rest = others;
         }
         self.line.push(rest);
@@ -163,9 +123,10 @@ impl<'p> Addition<'p> {
     }
 
     // Takes the last part of a line, and ends the line.
-    fn take_line<T: Threads + Sync, E: Sink>(
+    fn take_line<T: Wait + Threads + Sync, E: Sink>(
         &mut self,
-        rt: &T,
+        solver: &Solver<'_, T, Progress>,
+        jobs: Option<&Jobs<'_, T, Progress>>,
         part: &[u8],
         errors: &mut E,
     ) -> Result<(), Stop>
@@ -176,11 +137,15 @@ impl<'p> Addition<'p> {
         ensures refused { IfErr result IsRefusedLine }
     {
         self.line.push(part);
-        self.end_line(rt, errors)
+        self.end_line(solver, jobs, errors)
     }
 
     // Adds the last line, unless it is empty.
-    fn end_last<T: Threads + Sync, E: Sink>(&mut self, rt: &T, errors: &mut E) -> Result<(), Stop>
+    fn end_last<T: Wait + Threads + Sync, E: Sink>(
+        &mut self,
+        solver: &Solver<'_, T, Progress>,
+        errors: &mut E,
+    ) -> Result<(), Stop>
         ensures ok { OnOk result ((before : Contents) (input : List ℕ)
             → IsAdding before self.old.book self.old.line input
             → HasAdded before self.new.book input) }
@@ -192,24 +157,34 @@ impl<'p> Addition<'p> {
         if self.line.is_empty() {
             return Ok(());
         }
-        self.end_line(rt, errors)
+        self.end_line(solver, solver.no_jobs(), errors)
     }
 
     // Ends the line that has begun, and begins a new one.
-    fn end_line<T: Threads + Sync, E: Sink>(&mut self, rt: &T, errors: &mut E) -> Result<(), Stop>
+    fn end_line<T: Wait + Threads + Sync, E: Sink>(
+        &mut self,
+        solver: &Solver<'_, T, Progress>,
+        jobs: Option<&Jobs<'_, T, Progress>>,
+        errors: &mut E,
+    ) -> Result<(), Stop>
         ensures ok { OnOk result (AddsBytes self.old.book self.old.line self.new.book self.new.line (10 ∷ [])) }
         ensures full { OnErr result (IsFullWithin self.old.book self.old.line (10 ∷ [])) }
         ensures refused { IfErr result IsRefusedLine }
     {
-        self.add_line(rt, errors)?;
+        self.add_line(solver, jobs, errors)?;
         self.line.clear();
         self.number = self.number.saturating_add(1);
-        self.conditions.progress.count_line();
+        solver.batch.gate.count_line();
         Ok(())
     }
 
     // Adds the answer of the line that has begun, or prints its fault.
-    fn add_line<T: Threads + Sync, E: Sink>(&mut self, rt: &T, errors: &mut E) -> Result<(), Stop>
+    fn add_line<T: Wait + Threads + Sync, E: Sink>(
+        &mut self,
+        solver: &Solver<'_, T, Progress>,
+        jobs: Option<&Jobs<'_, T, Progress>>,
+        errors: &mut E,
+    ) -> Result<(), Stop>
         ensures line { self.new.line ≡ self.old.line }
         ensures kept { Keeps self.old.book self.new.book }
         ensures holds { IsTrueBook self.old.book → IsTrueBook self.new.book }
@@ -218,7 +193,7 @@ impl<'p> Addition<'p> {
         ensures full { OnErr result ((line : List ℕ) → KeepsLine self.old.line line → HasNoPlace self.old.book line) }
         ensures refused { IfErr result IsRefusedLine }
     {
-        match self.answer(rt) {
+        match self.answer(solver, jobs) {
             Ok(answer) => self.add(&answer),
             Err(fault) => {
                 Message::of(b"line ")
@@ -232,16 +207,18 @@ impl<'p> Addition<'p> {
     }
 
     // The answer of the line that has begun, under the book's scoring.
-    fn answer<T: Threads + Sync>(&self, rt: &T) -> Result<Answer, LineFault>
+    fn answer<T: Wait + Threads + Sync>(
+        &self,
+        solver: &Solver<'_, T, Progress>,
+        jobs: Option<&Jobs<'_, T, Progress>>,
+    ) -> Result<Answer, LineFault>
         ensures answers { (line : List ℕ) → KeepsLine self.now.line line → AnswersLine (solvable_reading line) result }
         ensures scoring { IfOk result (λ a. a.scoring ≡ self.now.book.scoring) }
         ensures few { IfOk result (λ a. empty_count a.board ≤ 30) }
     {
         let position = self.line.read()?;
         let board = &position.board;
-        let found = self
-            .ahead
-            .find_answer(&self.conditions.solver(rt, &self.book), board);
+        let found = self.solver(solver).find_answer(jobs, board);
         match found {
             Ok(answer) => Ok(answer),
             Err(many) => Err(LineFault::Empties(many.empties)),

@@ -16,7 +16,7 @@ use super::message::Message;
 use super::reasons::{Errors, Reason};
 use crate::terminal::Progress;
 use oth_book::Book;
-use oth_run::{Lawful, RunFault};
+use oth_run::{Lawful, RunFault, Solver};
 use oth_text::{Sink, Source};
 use oth_words::{DEFAULT_CELLS, Settings};
 use std::alloc::Global;
@@ -32,7 +32,7 @@ const WORKERS: u8 = 4;
 /// Prints `book ok n` for a book of n entries, each solved anew by as many workers as there are processors, at most 16;
 /// or why the file is no book. Returns the status of the program: 0, or 1 where the writer fails, or 3 where the file
 /// is refused. `progress` hears of each entry.
-pub fn book_verify<T: Threads + Sync, W: Sink, E: Sink>(
+pub fn book_verify<T: Wait + Threads + Sync, W: Sink, E: Sink>(
     rt: &T,
     alloc: Global,
     file: &[u8],
@@ -78,15 +78,15 @@ fn tell_book<W: Sink>(book: &Book, writer: &mut W) -> bool
 /// or an answer is refused. Unless it is 0 no book is written, save for what a writer took before it failed. `progress`
 /// hears of each entry and of each line.
 #[inline(never)]
-pub fn book_add<T: Wait + Threads + Sync, R: Source, W: Sink, E: Sink>(
-    rt: &T,
+pub fn book_add<'p, T: Wait + Threads + Sync, R: Source, W: Sink, E: Sink>(
+    rt: &'p T,
     alloc: Global,
     file: &[u8],
     reader: &mut R,
     writer: &mut W,
     errors: &mut Errors<E>,
     settings: &Settings,
-    progress: &Progress,
+    progress: &'p Progress,
 ) -> u8
     ensures lawful { result ≡ 2 ↔ (AreLawful settings.now → ⊥) }
     ensures untouched { result ≡ 2 → (reader.new ≡ reader.old) × (writer.new ≡ writer.old) }
@@ -105,13 +105,11 @@ pub fn book_add<T: Wait + Threads + Sync, R: Source, W: Sink, E: Sink>(
     };
     let Settings { workers, cells, .. } = *settings;
     match open_book(rt, alloc, file, workers, cells, progress) {
-        Ok(book) => add_lines(
-            rt,
-            Addition::of(alloc, book, lawful, progress),
-            reader,
-            writer,
-            errors,
-        ),
+        Ok(book) => {
+            let settings = lawful.to_solve_by(book.scoring());
+            let solver = Solver::of(rt, alloc, progress, None, settings);
+            add_lines(&solver, Addition::of(book), reader, writer, errors)
+        }
         Err(refusal) => {
             print_refusal(&refusal, errors);
             REFUSED
@@ -147,8 +145,8 @@ fn processors<T: Threads>(rt: &T) -> u8 {
 
 // Adds the lines of the input to the book, and writes it.
 fn add_lines<T: Wait + Threads + Sync, R: Source, W: Sink, E: Sink>(
-    rt: &T,
-    addition: Addition<'_>,
+    solver: &Solver<'_, T, Progress>,
+    addition: Addition,
     reader: &mut R,
     writer: &mut W,
     errors: &mut Errors<E>,
@@ -156,15 +154,15 @@ fn add_lines<T: Wait + Threads + Sync, R: Source, W: Sink, E: Sink>(
     requires line { KeepsLine addition.line [] }
     requires holds { IsTrueBook addition.book }
     ensures status { IsStatus result
-        (AddsLines addition.entry.book (R.remaining reader.old) (R.remaining reader.new)
+        (AddsLines addition.book (R.remaining reader.old) (R.remaining reader.new)
         (W.contents writer.old) (W.contents writer.new))
         (DeviceFails (R.failed reader.new) (W.failed writer.new) (writer.new ≡ writer.old))
-        ((writer.new ≡ writer.old) × StopsFull addition.entry.book (R.remaining reader.old) (R.remaining reader.new)) }
+        ((writer.new ≡ writer.old) × StopsFull addition.book (R.remaining reader.old) (R.remaining reader.new)) }
     ensures works { result ≡ 0 → (R.failed reader.new ≡ R.failed reader.old)
         × (W.failed writer.new ≡ false) × (W.flushed writer.new ≡ true) }
 {
     let mut addition = addition;
-    match addition.run(rt, reader, writer, &mut errors.sink) {
+    match addition.run(solver, reader, writer, &mut errors.sink) {
         Ok(()) => STATUS_DONE,
         Err(Stop::Run(fault)) => print_run_fault(fault, errors),
         Err(Stop::Refused(line, error)) => {

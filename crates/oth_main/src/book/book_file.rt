@@ -15,6 +15,7 @@ use oth_batch::verify_by;
 use oth_book::{Book, BookFault, Wrong, read_claims};
 use oth_text::Sink;
 use std::alloc::Global;
+use std::sync::Wait;
 use std::thread::Threads;
 
 /// The most bytes that are read of a book's file: one more than the longest book has.
@@ -34,7 +35,7 @@ pub enum BookRefusal {
 
 /// Returns the book of a file's bytes, each entry solved anew by `workers` workers over tables of at most `cells`
 /// cells, of which `progress` hears. The text of a true book is refused when out of memory alone.
-pub fn open_book<T: Threads + Sync>(
+pub fn open_book<T: Wait + Threads + Sync>(
     rt: &T,
     alloc: Global,
     file: &[u8],

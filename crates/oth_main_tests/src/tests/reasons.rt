@@ -11,6 +11,7 @@ use oth_rules::Scoring;
 use oth_text::fakes::ByteSink;
 use std::alloc::Global;
 use std::io::{Error, ErrorKind};
+use std::sync::Wait;
 use std::thread::Threads;
 
 // Each refusal of a book, and what is told of it.
@@ -224,7 +225,7 @@ fn a_refused_file_keeps_its_reason(rt: HostRuntime) {
 }
 
 // What is told of the scoring of a book that is under `winner`.
-fn told_of_scoring<R: Threads + Sync + AllocGlobal>(
+fn told_of_scoring<R: Wait + Threads + Sync + AllocGlobal>(
     rt: &R,
     asked: Scoring,
     in_words: bool,

@@ -39,7 +39,7 @@ impl Engine {
         let Some(crew) = crew else {
             return self.take_bytes(solver, solver.no_jobs(), writer, bytes);
         };
-        let given = crew.jobs(solver.batch.rt);
+        let given = crew.jobs();
         let Some(jobs) = &*given else {
             return self.take_bytes(solver, solver.no_jobs(), writer, bytes);
         };
@@ -50,13 +50,7 @@ impl Engine {
                 (W.contents writer.entry.now) (W.contents writer.exit.now) bytes.entry.now) }
             ensures works { OnOk result (W.failed writer.exit.now ≡ W.failed writer.entry.now) }
             ensures fails { OnErr result (W.failed writer.exit.now ≡ true) }
-        {
-            let taken = self.take_bytes(solver, Some(jobs), writer, bytes);
-            if taken.is_err() {
-                jobs.stop();
-            }
-            taken
-        };
+        { self.take_bytes(solver, Some(jobs), writer, bytes) };
         jobs.beside(crew.helpers(), &mut work)
     }
 
@@ -167,12 +161,7 @@ impl Engine {
         ensures devices { FailsBy result (R.failed reader.new) (W.failed writer.new) }
     {
         let jobs = jobs_of_lines(&*solver, &buffer[..count]);
-        let helpers = match &jobs {
-            Some(jobs) => jobs.helpers(),
-            None => 0,
-        };
-        let crew = Crew::new();
-        crew.give(solver.batch.rt, jobs);
+        let crew = Crew::of(&solver.batch, jobs);
         let mut work = || -> Result<(), RunFault>
             requires room { 0 < length buffer.now }
             requires count { count ≤ length buffer.now }
@@ -192,7 +181,7 @@ impl Engine {
                 Err(_) => Err(RunFault::Write),
             }
         };
-        crew.beside(solver.batch.rt, helpers, &mut work)
+        crew.beside(&mut work)
     }
 
     /// Reads all lines that byte 10 ends, up to the end of input, and writes their reports. What is gathered is written
@@ -243,6 +232,6 @@ fn give_jobs<'s, T: Wait + Threads + Sync, G: Gate>(
     bytes: &[u8],
 ) {
     if let Some(crew) = crew {
-        crew.give(solver.batch.rt, jobs_of_lines(solver, bytes));
+        crew.give(jobs_of_lines(solver, bytes));
     }
 }

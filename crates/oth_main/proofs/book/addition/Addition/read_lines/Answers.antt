@@ -1,34 +1,32 @@
-use Rattle.std.proofs.Common.{[], ◌++◌, ◌∙◌, refl, rules}
-use Rattle.std.proofs.KnownBytes.{Consumes-nil, Consumes-trans}
-use Rattle.std.proofs.lemmas.Result.{err_from_is_err_and}
-use Rattle.oth_main.proofs.AdditionLemmas.{adding_none, full_of, stops_reading}
+use Rattle.std.proofs.Common.{[], ◌++◌}
+use Rattle.std.proofs.KnownBytes.{Consumes-trans}
+use Rattle.std.proofs.lemmas.Result.{IfErr-weaker, on_ok_weaker}
+use Rattle.oth_main.proofs.AdditionLemmas.{adding_none, full_of, stops_weaker}
 use Rattle.oth_main.proofs.book.addition.Addition.read_lines.Goals as goal
 
-pub loop-init : goal.loop-init
-loop-init g c = record {
-  iterator = (tt, tt);
-  done = ([], Consumes-nil _, adding_none _ _ c.requires.holds c.requires.line);
-  works = refl;
-}
+pub returns-then-solver-lt2-clause-ok : goal.returns-then-solver-lt2-clause-ok
+returns-then-solver-lt2-clause-ok g c =
+    on_ok_weaker c.read_on.result (λ d. (d.0, d.1, d.2 _ [] (adding_none _ _ c.requires.holds c.requires.line))) c.read_on.ensures.ok
 
-pub loop-preserved : goal.loop-preserved
-loop-preserved g c =
-    let done = c.loop.invariant.done in
-    record {
-      iterator = (tt, tt);
-      done = (done.0 ++ _, Consumes-trans _ _ _ _ _ done.1 c.in-Ok.ensures.bytes.0, c.in_ok-take_bytes.ensures.ok _ done.0 done.2);
-      works = c.in-Ok.ensures.works ∙ c.loop.invariant.works;
-    }
+pub returns-then-solver-lt2-clause-err : goal.returns-then-solver-lt2-clause-err
+returns-then-solver-lt2-clause-err g c =
+    IfErr-weaker c.read_on.result _ _ (λ stop. stops_weaker stop _ _ _ (λ d.
+    record { input = d.0; read = d.1; full = full_of _ _ (d.2 _ [] (adding_none _ _ c.requires.holds c.requires.line)) })) c.read_on.ensures.err
 
-pub returns-in_err-take_bytes-clause-err : goal.returns-in_err-take_bytes-clause-err
-returns-in_err-take_bytes-clause-err g c =
-    let p = err_from_is_err_and c.from_residual.result c.from_residual.ensures.1 in
-    let done = c.loop.invariant.done in
-    rw (p.1, p.2) (stops_reading c.in_err-take_bytes.field-0.0 _ _ c.in_err-take_bytes.ensures.refused (record {
-      input = done.0 ++ _;
-      read = Consumes-trans _ _ _ _ _ done.1 c.in-Ok.ensures.bytes.0;
-      full = full_of _ _ (c.in_err-take_bytes.ensures.full _ done.0 done.2);
-    }))
+pub returns-then-count-eq0-clause-ok : goal.returns-then-count-eq0-clause-ok
+returns-then-count-eq0-clause-ok g c =
+    (_, c.in-Ok.ensures.bytes.0, rw c.if-count-eq0.true (adding_none _ _ c.requires.holds c.requires.line))
 
-pub returns-clause-at_end : goal.returns-clause-at_end
-returns-clause-at_end g c = search rules
+pub returns-clause-ok : goal.returns-clause-ok
+returns-clause-ok g c = on_ok_weaker c.read_from.result (λ d. (
+  _ ++ d.0,
+  Consumes-trans _ _ _ _ _ c.in-Ok.ensures.bytes.0 d.1,
+  d.2 _ [] (adding_none _ _ c.requires.holds c.requires.line),
+)) c.read_from.ensures.ok
+
+pub returns-clause-err : goal.returns-clause-err
+returns-clause-err g c = IfErr-weaker c.read_from.result _ _ (λ stop. stops_weaker stop _ _ _ (λ d. record {
+  input = _ ++ d.0;
+  read = Consumes-trans _ _ _ _ _ c.in-Ok.ensures.bytes.0 d.1;
+  full = full_of _ _ (d.2 _ [] (adding_none _ _ c.requires.holds c.requires.line));
+})) c.read_from.ensures.err

@@ -1,5 +1,5 @@
 use Rattle.std.proofs.Common.{rules}
-use Rattle.oth_main.proofs.book.addition.Conditions.solver.Goals as goal
+use Rattle.oth_main.proofs.book.addition.Addition.solver.Goals as goal
 
 pub returns : goal.returns
 returns g c = search rules
