@@ -14,11 +14,12 @@ use std::fs::File;
 use std::io;
 use std::io::{ErrorKind, Read};
 use std::rt::Files;
+use std::sync::Wait;
 use std::thread::Threads;
 
 /// The book of a file, or the status where there is none. The settings are tested before the file is read. `progress`
 /// hears of each entry.
-pub fn book_of<T: Threads + Sync + Files + AllocGlobal, E: Sink>(
+pub fn book_of<T: Wait + Threads + Sync + Files + AllocGlobal, E: Sink>(
     rt: &T,
     settings: &Settings,
     name: &str,

@@ -234,7 +234,7 @@ fn obey<
 }
 
 // The book of this name, if one is named, or the status where that is none.
-fn named_book<T: Threads + Sync + Files + AllocGlobal, S: Sink + Send, E: Sink>(
+fn named_book<T: Wait + Threads + Sync + Files + AllocGlobal, S: Sink + Send, E: Sink>(
     host: &Host<'_, T, S>,
     settings: &Settings,
     name: &Option<String>,
