@@ -142,7 +142,7 @@ def explained(folder):
     given = f"{START[:64]}_X\n{START} f5f5\n".encode()
     yield Case("faults in words: play", ["play", "--explain"], given, wrote=wrote, said=said)
     wrote = b"1 error 3 at 2\n1 lost X 0 O 0\n2 error 2 at 1\n2 lost X 0 O 0\n"
-    said = b"line 1: move 2 is illegal\nline 2: pair 1 is no square, or byte 1 is none of 'X', 'O' and '-'\n"
+    said = b"line 1: move 2 is illegal\nline 2: pair 1 is no square\n"
     yield Case("faults in words: analyse", ["analyse", "--explain"], b"f5f5\n..\n", wrote=wrote, said=said)
     half = file_of(folder, "explained.txt", b"XX")
     said = b"line 1: a board line has 66 bytes\nline 2: a board line has 66 bytes\n"

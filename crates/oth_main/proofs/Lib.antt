@@ -1,5 +1,4 @@
 pub mod AdditionLemmas
 pub mod ApartLemmas
 pub mod FileLemmas
-pub mod HeardLemmas
 pub mod JoinedLemmas

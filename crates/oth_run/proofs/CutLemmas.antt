@@ -203,6 +203,10 @@ pub last-some : (reply : ℕ → List ℕ → List ℕ) (n : ℕ) (text : List �
 last-some reply n [] b is isnt = absurd (let bad : true ≡ false = sym is ∙ isnt in cc)
 last-some reply n (x ∷ xs) b is isnt = refl
 
+pub last-none : (reply : ℕ → List ℕ → List ℕ) (n : ℕ) (text : List ℕ) (b : Bool) → b ≡ is_nil text → b ≡ true → last_report reply n text ≡ []
+last-none reply n [] b is empty = refl
+last-none reply n (x ∷ xs) b is empty = absurd (let bad : true ≡ false = sym empty ∙ is in cc)
+
 -- ---- a run
 
 -- nothing is read and gathered yet

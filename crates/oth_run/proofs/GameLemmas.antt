@@ -7,6 +7,7 @@ use Rattle.oth_rules.specs.declared.scoring.Scoring.{Scoring}
 use Rattle.oth_text.specs.Analysis.{analysis_of, fault_of, fault_part, if_by, loss, lost_by, lost_line, lost_text, told_turns, turn_line, turn_part}
 use Rattle.oth_device.specs.Device.{AppendsBeginning}
 use Rattle.oth_text.specs.declared.analysis.Turn.{Turn}
+use Rattle.oth_text.specs.declared.fault.Fault.{Fault}
 use Rattle.oth_text.specs.declared.position.Side.{Side}
 use Rattle.oth_text.specs.declared.position.Side.TheVariants.{Black, White}
 use Rattle.oth_run.specs.Gathered.{IsGathered}
@@ -56,12 +57,13 @@ module _ (before sink : Option (List ℕ)) (n : ℕ) (g : Scoring) (ts : List Tu
 
 -- ---- the parts of the analysis
 
-pub whole : (n : ℕ) (g : Scoring) (last : ℕ) (line : List ℕ) (ts : List Turn) (text : List ℕ) (black white : ℕ) → ts ≡ told_turns last line
-    → black ≡ lost_by Black g ts → white ≡ lost_by White g ts → text ≡ lost_text n black white
-    → flat_map (turn_part n g) ts ++ fault_part n (fault_of line) ++ text ≡ analysis_of n g last line
+pub whole : (n : ℕ) (g : Scoring) (last : ℕ) (line : List ℕ) (ts : List Turn) (fault : Option Fault) (text : List ℕ) (black white : ℕ) → ts ≡ told_turns last line
+    → fault ≡ fault_of line → black ≡ lost_by Black g ts → white ≡ lost_by White g ts → text ≡ lost_text n black white
+    → flat_map (turn_part n g) ts ++ fault_part n fault ++ text ≡ analysis_of n g last line
 unfolding analysis_of
-whole n g last line ts text black white are is_black is_white is =
-    ap (λ l. flat_map (turn_part n g) ts ++ fault_part n (fault_of line) ++ l) (is ∙ ap₂ (lost_text n) is_black is_white)
+whole n g last line ts fault text black white are same is_black is_white is =
+    ap (λ f. flat_map (turn_part n g) ts ++ fault_part n f ++ text) same
+    ∙ ap (λ l. flat_map (turn_part n g) ts ++ fault_part n (fault_of line) ++ l) (is ∙ ap₂ (lost_text n) is_black is_white)
     ∙ ap (λ us. flat_map (turn_part n g) us ++ fault_part n (fault_of line) ++ lost_line n g us) are
 
 three : (done first second third : List ℕ) → ((done ++ first) ++ second) ++ third ≡ done ++ ((first ++ second) ++ third)

@@ -36,6 +36,9 @@ pub gathers_as : (before now : Option (List ℕ)) (waiting rest text told : List
     → Gathers before now waiting rest told
 gathers_as before now waiting rest text told is = subst (λ t. Gathers before now waiting rest t) is
 
+pub stops_as : (before now : Option (List ℕ)) (waiting text told : List ℕ) → text ≡ told → StopsInText before now waiting text → StopsInText before now waiting told
+stops_as before now waiting text told is = subst (λ t. StopsInText before now waiting t) is
+
 -- what waits begins what waits and a text
 pub stops_in : (before now : Option (List ℕ)) (waiting told : List ℕ) → StopsInWaiting before now waiting → StopsInText before now waiting told
 stops_in before now waiting told stops = λ first done gathered. beginning_within first now done (done ++ told) (stops first done gathered) (told, refl)

@@ -12,11 +12,12 @@ mod chunks;
 
 use crate::line::Line;
 use crate::lines::split_line;
+use crate::report_sink::ReportSink;
 use crate::solver::Solver;
 use crate::waiting::Waiting;
 use oth_batch::Jobs;
 use oth_pool::Gate;
-use oth_text::{Failed, Sink};
+use oth_text::Failed;
 use oth_words::Command;
 use std::sync::Wait;
 use std::thread::Threads;
@@ -51,8 +52,9 @@ impl Engine {
         self.is_faulty
     }
 
-    // Answers the line that has begun, and begins a new one.
-    fn end_line<T: Wait + Threads + Sync, W: Sink, G: Gate>(
+    // Answers the line that has begun, and begins a new one. What is gathered is written before an answer that may take
+    // time, and that answer at once.
+    fn end_line<T: Wait + Threads + Sync, W: ReportSink, G: Gate>(
         &mut self,
         solver: &Solver<'_, T, G>,
         jobs: Option<&Jobs<'_, T, G>>,
@@ -71,16 +73,21 @@ impl Engine {
         ensures works { OnOk result (W.failed writer.new ≡ W.failed writer.old) }
         ensures fails { OnErr result (W.failed writer.new ≡ true) }
     {
-        self.line.tell(solver, jobs, &mut self.waiting, writer)?;
+        let reading = self.line.read();
+        let (fault, takes_time) = (reading.fault(), reading.takes_time());
+        self.waiting.write_if(takes_time, writer)?;
+        reading.tell(solver, jobs, &mut self.waiting, writer)?;
         self.waiting.push_end(writer)?;
-        self.is_faulty |= self.line.is_faulty();
+        let is_told = fault.is_some() && writer.tells_faults();
+        self.waiting.write_if(takes_time || is_told, writer)?;
+        writer.answered(self.line.number(), fault);
+        self.is_faulty |= fault.is_some();
         self.line.clear();
         Ok(())
     }
 
-    // Takes the last part of a line and answers the line. What is gathered is written before an answer that may take
-    // time, and that answer at once.
-    fn take_line<T: Wait + Threads + Sync, W: Sink, G: Gate>(
+    // Takes the last part of a line and answers the line.
+    fn take_line<T: Wait + Threads + Sync, W: ReportSink, G: Gate>(
         &mut self,
         solver: &Solver<'_, T, G>,
         jobs: Option<&Jobs<'_, T, G>>,
@@ -96,15 +103,12 @@ impl Engine {
         ensures fails { OnErr result (W.failed writer.new ≡ true) }
     {
         self.line.push(part);
-        let takes_time = self.line.takes_time();
-        self.waiting.write_if(takes_time, writer)?;
         self.end_line(solver, jobs, writer)?;
-        self.waiting.write_if(takes_time, writer)?;
         Ok(())
     }
 
     // Takes further bytes of the input, and gathers the reports of the lines that end in them.
-    fn take_bytes<T: Wait + Threads + Sync, W: Sink, G: Gate>(
+    fn take_bytes<T: Wait + Threads + Sync, W: ReportSink, G: Gate>(
         &mut self,
         solver: &Solver<'_, T, G>,
         jobs: Option<&Jobs<'_, T, G>>,
@@ -128,7 +132,7 @@ impl Engine {
     }
 
     // Answers the last line, unless it is empty.
-    fn end_last<T: Wait + Threads + Sync, W: Sink, G: Gate>(
+    fn end_last<T: Wait + Threads + Sync, W: ReportSink, G: Gate>(
         &mut self,
         solver: &Solver<'_, T, G>,
         writer: &mut W,
@@ -150,7 +154,7 @@ impl Engine {
     }
 
     /// Answers the last line, unless it is empty, writes what is left of the report, and flushes.
-    pub fn finish<T: Wait + Threads + Sync, W: Sink, G: Gate>(
+    pub fn finish<T: Wait + Threads + Sync, W: ReportSink, G: Gate>(
         &mut self,
         solver: &Solver<'_, T, G>,
         writer: &mut W,

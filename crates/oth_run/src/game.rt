@@ -1,20 +1,20 @@
 //! A game that is analysed.
 
-ghost use Rattle.std.specs.Prelude.{◌≡◌, ◌≤◌, ◌++◌, ℕ, List, [], All, length, is_some, IfOk, OnOk, OnErr, true};
+ghost use Rattle.std.specs.Prelude.{◌≡◌, ◌≤◌, ℕ, List, All, length, IfOk, OnOk, OnErr, true};
 ghost use Rattle.std.specs.List.{flat_map};
 ghost use Rattle.oth_text.specs.Analysis.{HasFewEmpties, KeepsAnalysed, analysis_of, fault_of, fault_part, lost_by};
 ghost use Rattle.oth_text.specs.Analysis.{turn_part};
-ghost use Rattle.oth_text.specs.Transcript.{is_nil};
 ghost use Rattle.oth_text.specs.declared.position.Side.TheVariants.{Black, White};
 ghost use Rattle.oth_run.specs.Gathered.{Gathers, StopsInText};
-ghost use Rattle.oth_run.specs.Report.{next_number};
 
 use crate::solver::Solver;
 use crate::waiting::Waiting;
 use oth_batch::Jobs;
 use oth_book::Book;
 use oth_pool::Gate;
-use oth_text::{AnalysisReader, Failed, Losses, Sink, Turn, game_line, lost_line, turn_line};
+use oth_text::{
+    AnalysisReader, Failed, Fault, Losses, Sink, Turn, game_line, lost_line, turn_line,
+};
 use std::sync::Wait;
 use std::thread::Threads;
 
@@ -25,63 +25,20 @@ struct KnownTurns<'t> {
     book: &'t Book,
 }
 
-/// The line of a game that has begun, to be analysed from `last` empty squares on.
+/// The line of a game that is analysed, and has ended.
 #[derive(Drop)]
-pub struct BegunGame {
-    reader: AnalysisReader,
-    last: u8,
-    /// The number of the line, from 1; it stays at the greatest number.
-    number: u64,
+pub struct Game<'l> {
+    /// The number of the line.
+    pub number: u64,
+    /// What was read of it.
+    pub reader: &'l AnalysisReader,
+    /// It is analysed from this number of empty squares on.
+    pub last: u8,
+    /// Its fault, if it has one.
+    pub fault: Option<Fault>,
 }
 
-impl BegunGame {
-    /// The first line, with no byte yet.
-    pub fn new(last: u8) -> Self
-        ensures reader { KeepsAnalysed result.reader [] }
-        ensures last { result.last ≡ last }
-        ensures number { result.number ≡ 1 }
-    {
-        BegunGame {
-            reader: AnalysisReader::new(),
-            last,
-            number: 1,
-        }
-    }
-
-    /// Begins the next line.
-    pub fn clear(&mut self)
-        ensures reader { KeepsAnalysed self.new.reader [] }
-        ensures last { self.new.last ≡ self.old.last }
-        ensures number { self.new.number ≡ next_number self.old.number }
-    {
-        self.reader.clear();
-        self.number = self.number.saturating_add(1);
-    }
-
-    /// Takes the next bytes of the line.
-    pub fn push(&mut self, bytes: &[u8])
-        ensures reader { (line : List ℕ) → KeepsAnalysed self.old.reader line
-            → KeepsAnalysed self.new.reader (line ++ bytes.now) }
-        ensures last { self.new.last ≡ self.old.last }
-        ensures number { self.new.number ≡ self.old.number }
-    {
-        self.reader.push(bytes);
-    }
-
-    /// Whether the line has no byte.
-    pub fn is_empty(&self) -> bool
-        ensures { (line : List ℕ) → KeepsAnalysed self.now.reader line → result ≡ is_nil line }
-    {
-        self.reader.is_empty()
-    }
-
-    /// Whether the game has a fault.
-    pub fn is_faulty(&self) -> bool
-        ensures { (line : List ℕ) → KeepsAnalysed self.now.reader line → result ≡ is_some (fault_of line) }
-    {
-        self.reader.fault().is_some()
-    }
-
+impl<'l> Game<'l> {
     /// Adds the analysis of the game to what waits, without its last byte 10. That of a game that is one of the jobs is
     /// awaited. Never inlined, so that its turns are not on the stack while lines of other commands are answered.
     #[inline(never)]
@@ -92,10 +49,12 @@ impl BegunGame {
         waiting: &mut Waiting,
         writer: &mut W,
     ) -> Result<(), Failed>
-        ensures ok { OnOk result ((line : List ℕ) → KeepsAnalysed self.now.reader line
+        ensures ok { OnOk result ((line : List ℕ) → KeepsAnalysed self.now.reader.now line
+            → self.now.fault ≡ fault_of line
             → Gathers (W.contents writer.old) (W.contents writer.new) waiting.old.bytes.items waiting.new.bytes.items
             (analysis_of self.now.number solver.now.settings.scoring self.now.last line)) }
-        ensures err { OnErr result ((line : List ℕ) → KeepsAnalysed self.now.reader line
+        ensures err { OnErr result ((line : List ℕ) → KeepsAnalysed self.now.reader.now line
+            → self.now.fault ≡ fault_of line
             → StopsInText (W.contents writer.old) (W.contents writer.new) waiting.old.bytes.items
             (analysis_of self.now.number solver.now.settings.scoring self.now.last line)) }
         ensures works { OnOk result (W.failed writer.new ≡ W.failed writer.old) }
@@ -144,20 +103,15 @@ impl BegunGame {
 
     // Adds the line of the game's fault, if it has one.
     fn tell_fault<W: Sink>(&self, waiting: &mut Waiting, writer: &mut W) -> Result<(), Failed>
-        ensures ok { OnOk result ((line : List ℕ) → KeepsAnalysed self.now.reader line
-            → Gathers (W.contents writer.old) (W.contents writer.new) waiting.old.bytes.items waiting.new.bytes.items
-            (fault_part self.now.number (fault_of line))) }
-        ensures err { OnErr result ((line : List ℕ) → KeepsAnalysed self.now.reader line
-            → StopsInText (W.contents writer.old) (W.contents writer.new) waiting.old.bytes.items
-            (fault_part self.now.number (fault_of line))) }
+        ensures ok { OnOk result (Gathers (W.contents writer.old) (W.contents writer.new)
+            waiting.old.bytes.items waiting.new.bytes.items (fault_part self.now.number self.now.fault)) }
+        ensures err { OnErr result (StopsInText (W.contents writer.old) (W.contents writer.new)
+            waiting.old.bytes.items (fault_part self.now.number self.now.fault)) }
         ensures works { OnOk result (W.failed writer.new ≡ W.failed writer.old) }
         ensures fails { OnErr result (W.failed writer.new ≡ true) }
     {
-        match self.reader.fault() {
-            Some(fault) => waiting.push_line(
-                writer,
-                game_line(self.number, fault.as_slice()).as_slice(),
-            ),
+        match &self.fault {
+            Some(fault) => waiting.push_line(writer, game_line(self.number, fault).as_slice()),
             None => Ok(()),
         }
     }

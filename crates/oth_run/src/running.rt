@@ -8,10 +8,11 @@ ghost use Rattle.oth_run.specs.Run.{FailsBy, Judges, OnRefusal, RefusesBy, Write
 use crate::checking::Lawful;
 use crate::engine::Engine;
 use crate::fault::RunFault;
+use crate::report_sink::ReportSink;
 use crate::solver::Solver;
 use oth_book::Book;
 use oth_pool::Gate;
-use oth_text::{Sink, Source};
+use oth_text::Source;
 use oth_words::Settings;
 use std::alloc::Global;
 use std::sync::Wait;
@@ -28,8 +29,9 @@ use std::thread::Threads;
 /// A board is solved by `settings.workers` workers over a table of at most `settings.cells` cells, and a book that is
 /// given is asked first. Boards of lines that wait together may be solved side by side, each by one worker over such a
 /// table. A reply that takes time is written as soon as it and those before it are known. None of this changes the
-/// report, nor does the gate, nor refused memory or threads. A line takes no memory, however long it is.
-pub fn run<T: Wait + Threads + Sync, R: Source, W: Sink, G: Gate>(
+/// report, nor does the gate, nor refused memory or threads. A line takes no memory, however long it is. The writer
+/// hears of each line that is answered.
+pub fn run<T: Wait + Threads + Sync, R: Source, W: ReportSink, G: Gate>(
     rt: &T,
     alloc: Global,
     reader: &mut R,
@@ -56,7 +58,7 @@ pub fn run<T: Wait + Threads + Sync, R: Source, W: Sink, G: Gate>(
 }
 
 /// As `run`, and tells at `Ok` whether a line has a fault, with which it is answered.
-pub fn run_judged<T: Wait + Threads + Sync, R: Source, W: Sink, G: Gate>(
+pub fn run_judged<T: Wait + Threads + Sync, R: Source, W: ReportSink, G: Gate>(
     rt: &T,
     alloc: Global,
     reader: &mut R,

@@ -9,7 +9,7 @@ ghost use Rattle.oth_text.specs.Ranking.{scores_line_of};
 use crate::ahead::asked_by;
 use crate::checking::Lawful;
 use arrayvec::ArrayVec;
-use oth_batch::{Asked, Batch, Jobs, Recent, known_by, workers_for};
+use oth_batch::{Asked, Batch, Crew, Jobs, Recent, known_by, workers_for};
 use oth_book::Book;
 use oth_pool::Gate;
 use oth_rules::Board;
@@ -36,6 +36,11 @@ pub struct Solver<'s, T, G> {
 impl<'s, T: Threads + Sync, G: Gate> Solver<'s, T, G> {
     /// No jobs, with the lifetimes of some.
     pub fn no_jobs(&self) -> Option<&Jobs<'s, T, G>> {
+        None
+    }
+
+    /// No crew, with the lifetimes of one.
+    pub fn no_crew(&self) -> Option<&Crew<'s, T, G>> {
         None
     }
 

@@ -4,6 +4,7 @@ mod batches;
 mod devices;
 mod games;
 mod gates;
+mod heard;
 mod refused;
 mod rows;
 

@@ -17,13 +17,15 @@ use Rattle.oth_rules.specs.Score.{score_of}
 use Rattle.oth_rules.specs.Value.{value}
 use Rattle.oth_rules.specs.declared.scoring.Scoring.{Scoring}
 use Rattle.oth_text.specs.BoardLine.{is_cell, most_empties, reading, side_byte}
-use Rattle.oth_text.specs.FaultLine.{game_fault_line_of, transcript_fault_line_of}
+use Rattle.oth_text.specs.FaultLine.{any_fault_line_of}
 use Rattle.oth_text.specs.Game.{KeepsGame, board_part, game_reading, moves_part}
 use Rattle.oth_text.specs.Report.{report_line_of, score_text, square_name}
 use Rattle.oth_text.specs.Sides.{opponent, start}
 use Rattle.oth_text.specs.Transcript.{StandsFor, after_move, pair_fault, square_of, transcript_reading, with_forced_pass}
 use Rattle.oth_text.specs.declared.analysis.Turn.{Turn}
 use Rattle.oth_text.specs.declared.analysis_reader.AnalysisReader.{AnalysisReader}
+use Rattle.oth_text.specs.declared.fault.Fault.{Fault}
+use Rattle.oth_text.specs.declared.fault.Fault.TheVariants.{Game, Transcript}
 use Rattle.oth_text.specs.declared.fault.GameFault.{GameFault}
 use Rattle.oth_text.specs.declared.fault.LineFault.{LineFault}
 use Rattle.oth_text.specs.declared.fault.TranscriptFault.{TranscriptFault}
@@ -132,23 +134,23 @@ lost_line n g turns = lost_text n (lost_by Black g turns) (lost_by White g turns
 abbrev pub numbered_line : ℕ → List ℕ → List ℕ
 numbered_line n text = decimal n ++ 32 ∷ text ++ 10 ∷ []
 
--- what is told of a transcript's first fault, if it has one
-abbrev pub transcript_fault_of : Result Position TranscriptFault → Option (List ℕ)
+-- a transcript's first fault, if it has one
+abbrev pub transcript_fault_of : Result Position TranscriptFault → Option Fault
 transcript_fault_of (Ok p) = None
-transcript_fault_of (Err fault) = Some (transcript_fault_line_of fault)
+transcript_fault_of (Err fault) = Some (Transcript fault)
 
--- what is told of a game's first fault, if it has one
-abbrev pub game_fault_of : Result Position GameFault → Option (List ℕ)
+-- the first fault of a board line with its moves, if it has one
+abbrev pub game_fault_of : Result Position GameFault → Option Fault
 game_fault_of (Ok p) = None
-game_fault_of (Err fault) = Some (game_fault_line_of fault)
+game_fault_of (Err fault) = Some (Game fault)
 
--- the fault of a game, in the words that `transcript` and `play` have for it
-unfoldable pub fault_of : List ℕ → Option (List ℕ)
+-- the fault of a game that is analysed: that of `play` or of `transcript`
+unfoldable pub fault_of : List ℕ → Option Fault
 fault_of line = if begins_board line then game_fault_of (game_reading line) else transcript_fault_of (transcript_reading line)
 
 -- the line that tells the fault of line n, if it has one
-abbrev pub fault_part : ℕ → Option (List ℕ) → List ℕ
-fault_part n (Some text) = numbered_line n text
+abbrev pub fault_part : ℕ → Option Fault → List ℕ
+fault_part n (Some fault) = numbered_line n (any_fault_line_of fault)
 fault_part n None = []
 
 -- as turn_line, with byte 10

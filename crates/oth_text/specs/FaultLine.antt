@@ -6,6 +6,8 @@ use Rattle.oth_text.specs.declared.fault.TranscriptFault.{TranscriptFault}
 use Rattle.oth_text.specs.declared.fault.TranscriptFault.TheVariants.{OddLength, BadPair, Illegal, Over}
 use Rattle.oth_text.specs.declared.fault.GameFault.{GameFault}
 use Rattle.oth_text.specs.declared.fault.GameFault.TheVariants.{Board, Moves}
+use Rattle.oth_text.specs.declared.fault.Fault.{Fault}
+use Rattle.oth_text.specs.declared.fault.Fault.TheVariants.{Game, Transcript}
 
 -- what is told of a line that is no board line, or whose board has too many empty squares
 abbrev pub fault_line_of : LineFault → List ℕ
@@ -33,3 +35,8 @@ moves_fault_line_of (Over pair) = codes "error 24 at " ++ decimal pair
 abbrev pub game_fault_line_of : GameFault → List ℕ
 game_fault_line_of (Board fault) = fault_line_of fault
 game_fault_line_of (Moves fault) = moves_fault_line_of fault
+
+-- what is told of a line of any command
+abbrev pub any_fault_line_of : Fault → List ℕ
+any_fault_line_of (Game fault) = game_fault_line_of fault
+any_fault_line_of (Transcript fault) = transcript_fault_line_of fault

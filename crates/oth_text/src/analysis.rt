@@ -3,10 +3,13 @@
 ghost use Rattle.std.specs.Prelude.{◌≡◌, ◌+◌, ◌≤◌, ◌++◌, ◌∷◌, length, decimal};
 ghost use Rattle.arrayvec.specs.ArrayVec.{array_vec_len};
 ghost use Rattle.oth_text.specs.Analysis.{disc_number, if_by, loss, lost_text, name_played, score_of_turn, turn_line};
+ghost use Rattle.oth_text.specs.FaultLine.{any_fault_line_of};
 ghost use Rattle.oth_text.specs.OneLine.{IsOneLine};
 ghost use Rattle.oth_text.specs.declared.position.Side.TheVariants.{Black, White};
 
 use crate::board_line::side_byte;
+use crate::fault::Fault;
+use crate::fault_text::any_fault_line;
 use crate::position::{Position, Side};
 use crate::report::{push_name, push_report_line, push_signed, push_text};
 use arrayvec::ArrayVec;
@@ -143,16 +146,14 @@ pub fn lost_line(number: u64, lost: &Losses) -> ArrayVec<u8, LOST_LINE_LEN>
 }
 
 /// The number of the game's line, a space, and its fault.
-pub fn game_line(number: u64, fault: &[u8]) -> ArrayVec<u8, LOST_LINE_LEN>
-    requires short { length fault.now ≤ 24 }
-    requires line { IsOneLine fault.now }
-    ensures text { result.items ≡ decimal number ++ 32 ∷ fault.now }
+pub fn game_line(number: u64, fault: &Fault) -> ArrayVec<u8, LOST_LINE_LEN>
+    ensures text { result.items ≡ decimal number ++ 32 ∷ any_fault_line_of fault.now }
     ensures one_line { IsOneLine result.items }
 {
     let mut line = ArrayVec::new();
     push_text(&mut line, Buffer::new().format(number).as_bytes());
     line.push(b' ');
-    push_text(&mut line, fault);
+    push_text(&mut line, any_fault_line(fault).as_slice());
     line
 }
 

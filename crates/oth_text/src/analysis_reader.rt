@@ -3,20 +3,18 @@
 //! The first byte tells which. The front of a line, 195 bytes, has every legal move, since each takes an empty square;
 //! the readers of both forms go on to the end, for the fault.
 
-ghost use Rattle.std.specs.Prelude.{◌≡◌, ◌+◌, ◌≤◌, ◌<◌, ℕ, List, [], ◌∷◌, ◌++◌, Some, None, Ok, All, IfSome};
-ghost use Rattle.std.specs.Prelude.{filter, MatchOption};
+ghost use Rattle.std.specs.Prelude.{◌≡◌, ◌+◌, ◌≤◌, ◌<◌, ℕ, List, [], ◌∷◌, ◌++◌, Ok, All, filter};
 ghost use Rattle.oth_rules.specs.Position.{empty_count};
 ghost use Rattle.arrayvec.specs.ArrayVec.{array_vec_len};
 ghost use Rattle.oth_text.specs.Analysis.{HasFewEmpties, KeepsAnalysed, begins_board, fault_of, is_told};
 ghost use Rattle.oth_text.specs.Analysis.{pass_turns, told_turns};
 ghost use Rattle.oth_text.specs.Analysis.{turns_from};
 ghost use Rattle.oth_text.specs.BoardLine.{is_cell};
-ghost use Rattle.oth_text.specs.OneLine.{IsOneLine};
 ghost use Rattle.oth_text.specs.Transcript.{is_nil};
 
 use crate::analysis::Turn;
 use crate::board_line::read_board;
-use crate::fault_text::{FAULT_LINE_LEN, game_fault_line, transcript_fault_line};
+use crate::fault::Fault;
 use crate::game::{GameReader, parts};
 use crate::position::Position;
 use crate::transcript::{TranscriptReader, move_of_pair, with_forced_pass};
@@ -79,21 +77,19 @@ impl AnalysisReader {
         self.transcript.is_empty()
     }
 
-    /// The fault of the line, as `transcript` and `play` have it.
-    pub fn fault(&self) -> Option<ArrayVec<u8, FAULT_LINE_LEN>>
-        ensures fault { (line : List ℕ) → KeepsAnalysed self.now line
-            → MatchOption result (fault_of line ≡ None) (λ l. fault_of line ≡ Some l.items) }
-        ensures one_line { IfSome result (λ l. IsOneLine l.items) }
+    /// The first fault of the line, if it has one, as `play` or `transcript` has it.
+    pub fn fault(&self) -> Option<Fault>
+        ensures { (line : List ℕ) → KeepsAnalysed self.now line → result ≡ fault_of line }
     {
         if self.begins_board() {
             return match self.game.read() {
                 Ok(_) => None,
-                Err(fault) => Some(game_fault_line(&fault)),
+                Err(fault) => Some(Fault::Game(fault)),
             };
         }
         match self.transcript.read() {
             Ok(_) => None,
-            Err(fault) => Some(transcript_fault_line(&fault)),
+            Err(fault) => Some(Fault::Transcript(fault)),
         }
     }
 

@@ -1,6 +1,7 @@
 //! Board lines: 64 cells row by row from a1, a space, and who moves.
 
-ghost use Rattle.std.specs.Prelude.{◌≡◌, ◌<◌, ◌↔◌, ℕ, List, IfOk, IfErr, Ok, Err, bit_and, length};
+ghost use Rattle.std.specs.Prelude.{◌≡◌, ◌<◌, ◌≤◌, ◌↔◌, ℕ, List, IfOk, IfErr, Ok, Err, bit_and, length};
+ghost use Rattle.oth_rules.specs.Position.{empty_count};
 ghost use Rattle.oth_text.specs.declared.position.Position.{Position as PositionShown};
 ghost use Rattle.oth_text.specs.declared.fault.LineFault.{LineFault as Fault};
 ghost use Rattle.oth_text.specs.BoardLine.{IsBoardLine, IsFirstFault, IsSolvableFault, IsSolvableLine, board_line};
@@ -33,13 +34,15 @@ pub fn read_solvable(text: &[u8]) -> Result<Position, LineFault>
     ensures reading { result ≡ solvable_reading text.now }
     ensures line { (p : PositionShown) → (result ≡ Ok p) ↔ IsSolvableLine text.now p }
     ensures fault { (f : Fault) → (result ≡ Err f) ↔ IsSolvableFault text.now f }
+    ensures few { IfOk result (λ p. empty_count p.board ≤ 30) }
 {
     if_solvable(read_board(text))
 }
 
 // What was read, where it doesn't have too many empty squares.
 fn if_solvable(read: Result<Position, LineFault>) -> Result<Position, LineFault>
-    ensures { result ≡ if_solvable read }
+    ensures reading { result ≡ if_solvable read }
+    ensures few { IfOk result (λ p. empty_count p.board ≤ 30) }
 {
     let position = read?;
     let empties = position.board.empties();

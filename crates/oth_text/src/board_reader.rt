@@ -3,7 +3,8 @@
 //! The first 67 bytes tell all (`KeepsLine kept line` is `kept ≡ take 67 line`), since a line of 67 bytes or more
 //! is refused by its length alone.
 
-ghost use Rattle.std.specs.Prelude.{◌≡◌, ◌==◌, ℕ, List, [], ◌++◌, length};
+ghost use Rattle.std.specs.Prelude.{◌≡◌, ◌==◌, ◌≤◌, ℕ, List, [], ◌++◌, IfOk, length};
+ghost use Rattle.oth_rules.specs.Position.{empty_count};
 ghost use Rattle.oth_text.specs.BoardLine.{KeepsLine, reading, solvable_reading};
 ghost use Rattle.oth_text.specs.Transcript.{is_nil};
 
@@ -81,7 +82,8 @@ impl BoardReader {
 
     /// The reading of the whole line, as `read_solvable` gives it.
     pub fn read_solvable(&self) -> Result<Position, LineFault>
-        ensures { (line : List ℕ) → KeepsLine self.now line → result ≡ solvable_reading line }
+        ensures reading { (line : List ℕ) → KeepsLine self.now line → result ≡ solvable_reading line }
+        ensures few { IfOk result (λ p. empty_count p.board ≤ 30) }
     {
         read_solvable(self.kept.as_slice())
     }

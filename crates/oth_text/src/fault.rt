@@ -49,3 +49,14 @@ pub enum GameFault {
     #[error("{0}")]
     Moves(TranscriptFault),
 }
+
+/// The first fault of a line of any command.
+#[derive(Clone, Copy, Debug, PartialEq, Eq, Error)]
+pub enum Fault {
+    /// Of a board line, or of the moves behind one.
+    #[error("{0}")]
+    Game(GameFault),
+    /// Of a transcript.
+    #[error("{0}")]
+    Transcript(TranscriptFault),
+}

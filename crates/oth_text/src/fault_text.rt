@@ -3,16 +3,27 @@
 ghost use Rattle.std.specs.Prelude.{◌≡◌, ◌+◌, ◌≤◌, ◌++◌, length, decimal};
 ghost use Rattle.arrayvec.specs.ArrayVec.{array_vec_len};
 ghost use Rattle.oth_text.specs.OneLine.{IsOneLine};
-ghost use Rattle.oth_text.specs.FaultLine.{fault_line_of, game_fault_line_of, moves_fault_line_of};
-ghost use Rattle.oth_text.specs.FaultLine.{transcript_fault_line_of};
+ghost use Rattle.oth_text.specs.FaultLine.{any_fault_line_of, fault_line_of, game_fault_line_of};
+ghost use Rattle.oth_text.specs.FaultLine.{moves_fault_line_of, transcript_fault_line_of};
 
-use crate::fault::{GameFault, LineFault, TranscriptFault};
+use crate::fault::{Fault, GameFault, LineFault, TranscriptFault};
 use crate::report::push_text;
 use arrayvec::ArrayVec;
 use itoa::Buffer;
 
 /// The most bytes of a fault line.
 pub const FAULT_LINE_LEN: usize = 24;
+
+/// The fault as `game_fault_line` or `transcript_fault_line` has it.
+pub fn any_fault_line(fault: &Fault) -> ArrayVec<u8, FAULT_LINE_LEN>
+    ensures text { result.items ≡ any_fault_line_of fault.now }
+    ensures one_line { IsOneLine result.items }
+{
+    match fault {
+        Fault::Game(fault) => game_fault_line(fault),
+        Fault::Transcript(fault) => transcript_fault_line(fault),
+    }
+}
 
 /// `error` and the number of the fault, then ` at` and the place of a bad cell, or the number of empty squares.
 pub fn fault_line(fault: &LineFault) -> ArrayVec<u8, FAULT_LINE_LEN>

@@ -27,8 +27,10 @@ pub use analysis::{
 pub use analysis_reader::{AnalysisReader, Turns};
 pub use board_line::{BOARD_LINE_LEN, read_board, read_solvable, write_board};
 pub use board_reader::BoardReader;
-pub use fault::{GameFault, LineFault, TranscriptFault};
-pub use fault_text::{FAULT_LINE_LEN, fault_line, game_fault_line, transcript_fault_line};
+pub use fault::{Fault, GameFault, LineFault, TranscriptFault};
+pub use fault_text::{
+    FAULT_LINE_LEN, any_fault_line, fault_line, game_fault_line, transcript_fault_line,
+};
 pub use game::{GameReader, read_game};
 pub use oth_device::{Failed, FromRead, Sink, Source, ToWrite, fakes, write_all};
 pub use position::{Position, Side};

@@ -14,7 +14,7 @@ use crate::books::{book_of, file_of, tested_file_of};
 use crate::inputs::{STANDARD_INPUT, inputs_of};
 use oth_book::Book;
 use oth_main::{
-    Errors, Hearing, Input, Joined, Report, STATUS_DONE, Scene, Settings, Telling, Watch, Words,
+    Errors, Input, Joined, Report, ReportSink, STATUS_DONE, Scene, Settings, Telling, Watch, Words,
     book_add, book_verify, check_settings, print_run_fault, run_judged,
 };
 use oth_text::{FromRead, Sink, Source, ToWrite};
@@ -56,7 +56,7 @@ fn main(rt: HostRuntime) -> ExitCode {
     let in_words = is_watched || explains(&words);
     let watch = Watch::on(ToWrite::new(rt.stderr()), is_watched, cuts_rows(&rt));
     let printed = ToWrite::new(rt.stderr());
-    let printed = Report::of(&rt, &watch, printed, is_watched, Hearing::nothing());
+    let printed = Report::of(&rt, &watch, printed, is_watched, false);
     let mut errors = Errors::new(printed, in_words);
     let inputs = match inputs_of(&rt, rt.stdin(), &words, &mut errors) {
         Ok(inputs) => inputs,
@@ -67,7 +67,7 @@ fn main(rt: HostRuntime) -> ExitCode {
     };
     let mut input = Input::of(watch.gate(), inputs);
     let (writer, shares_terminal) = (ToWrite::new(rt.stdout()), rt.stdout().is_terminal());
-    let mut report = Report::of(&rt, &watch, writer, shares_terminal, hearing_of(&words));
+    let mut report = Report::of(&rt, &watch, writer, shares_terminal, explains(&words));
     let host = Host {
         rt: &rt,
         watch: &watch,
@@ -84,19 +84,11 @@ fn main(rt: HostRuntime) -> ExitCode {
     ExitCode::from(status)
 }
 
-// What is heard of what the words have written.
-fn hearing_of(words: &Words) -> Hearing {
-    match words {
-        Words::Run(settings, telling, _, _) => Hearing::of(settings.command, telling.explains),
-        Words::Verify(_, _) | Words::Add(_, _, _) => Hearing::nothing(),
-    }
-}
-
 // Does what the words ask for, and shows how far it is where standard error is a terminal.
 fn obey_watched<
     T: Wait + Threads + Clock + Sync + Files + AllocGlobal,
     R: Source,
-    W: Sink,
+    W: ReportSink,
     S: Sink + Send,
     E: Sink,
 >(
@@ -174,7 +166,7 @@ fn file_name(words: &Words) -> &str {
 fn obey<
     T: Wait + Threads + Sync + Files + AllocGlobal,
     R: Source,
-    W: Sink,
+    W: ReportSink,
     S: Sink + Send,
     E: Sink,
 >(
@@ -265,7 +257,13 @@ fn greet<T, S, E: Sink>(
 }
 
 // Reports the lines of the input.
-fn report<T: Wait + Threads + Sync + AllocGlobal, R: Source, W: Sink, S: Sink + Send, E: Sink>(
+fn report<
+    T: Wait + Threads + Sync + AllocGlobal,
+    R: Source,
+    W: ReportSink,
+    S: Sink + Send,
+    E: Sink,
+>(
     host: &Host<'_, T, S>,
     task: &Task,
     book: Option<&Book>,

@@ -6,9 +6,10 @@ ghost use denote.Param.Send.{IsSend, IsSync};
 use super::look::Times;
 use super::progress::Progress;
 use super::row::Row;
-use crate::hearing::{Faults, FaultyLine, Hearing};
-use oth_text::{Failed, Sink, write_all};
+use oth_run::ReportSink;
+use oth_text::{Failed, Fault, Sink, write_all};
 use std::alloc::Global;
+use std::fmt;
 use std::sync::{Mutex, MutexGuard, Wait};
 use std::thread::{Threads, join_mut};
 use std::time::Clock;
@@ -127,6 +128,21 @@ impl<E: Sink + Send> Watch<E> {
     }
 }
 
+/// A faulty line of the input, told as `line`, its number and its fault in words.
+#[derive(Clone, Copy, Debug, PartialEq, Eq, Drop)]
+pub struct FaultyLine {
+    /// The number of the line, counted from 1.
+    pub number: u64,
+    /// Its fault.
+    pub fault: Fault,
+}
+
+impl fmt::Display for FaultyLine {
+    fn fmt<W: fmt::Write>(&self, f: &mut fmt::Formatter<W>) -> fmt::Result {
+        write!(f, "line {}: {}", self.number, self.fault)
+    }
+}
+
 /// An output of a run that is watched. Where it goes to a terminal, the line is taken away before each write; else no
 /// write waits for the terminal that shows the line.
 #[derive(Drop)]
@@ -135,19 +151,13 @@ pub struct Report<'w, R, W, E> {
     watch: &'w Watch<E>,
     writer: W,
     is_terminal: bool,
-    hearing: Hearing,
+    explains: bool,
 }
 
 impl<'w, R: Wait + AllocGlobal, W: Sink, E: Sink> Report<'w, R, W, E> {
-    /// A sink that hands all on to the writer, which is a terminal or not. The faults that are heard in it are told in
-    /// words where the line is shown, on a terminal or not.
-    pub fn of(
-        rt: &'w R,
-        watch: &'w Watch<E>,
-        writer: W,
-        is_terminal: bool,
-        hearing: Hearing,
-    ) -> Self
+    /// A sink that hands all on to the writer, which is a terminal or not. `explains`: the faults that it hears of are
+    /// told in words where the line is shown, on a terminal or not.
+    pub fn of(rt: &'w R, watch: &'w Watch<E>, writer: W, is_terminal: bool, explains: bool) -> Self
         ensures contents { ⟦<Report<'w, R, W, E> as Sink>⟧.contents result ≡ W.contents writer }
         ensures failed { ⟦<Report<'w, R, W, E> as Sink>⟧.failed result ≡ W.failed writer }
         ensures flushed { ⟦<Report<'w, R, W, E> as Sink>⟧.flushed result ≡ W.flushed writer }
@@ -157,7 +167,7 @@ impl<'w, R: Wait + AllocGlobal, W: Sink, E: Sink> Report<'w, R, W, E> {
             watch,
             writer,
             is_terminal,
-            hearing,
+            explains,
         }
     }
 
@@ -185,49 +195,13 @@ impl<'w, R: Wait + AllocGlobal, W: Sink, E: Sink> Report<'w, R, W, E> {
         Some(screen)
     }
 
-    // Counts the lines of the input that these bytes answer.
-    fn count_lines(&mut self, written: &[u8])
-        ensures { self.new.writer ≡ self.old.writer }
-    {
-        if !self.watch.progress.is_shown() {
-            return;
+    // Writes the fault of a line in words in place of the line that shows how far the run is.
+    fn tell(&self, faulty: &FaultyLine) {
+        if let Ok(text) = format!(in self.rt.alloc(); "{faulty}\n") {
+            let mut screen = self.watch.screen.lock(self.rt);
+            screen.clear();
+            screen.write(text.as_bytes());
         }
-        if let Some(answered) = &mut self.hearing.answered {
-            answered.hear_all(written);
-            self.watch.progress.answered(answered.lines());
-        }
-    }
-
-    // Tells the faults of the lines that these bytes end.
-    fn explain(&mut self, written: &[u8])
-        ensures { self.new.writer ≡ self.old.writer }
-    {
-        if let Some(faults) = &mut self.hearing.faults {
-            tell_faults(self.rt, self.watch, faults, written);
-        }
-    }
-}
-
-// Tells the faults of the report's lines that these bytes end.
-fn tell_faults<R: Wait + AllocGlobal, E: Sink>(
-    rt: &R,
-    watch: &Watch<E>,
-    faults: &mut Faults,
-    written: &[u8],
-) {
-    for byte in written {
-        if let Some(faulty) = faults.hear(*byte) {
-            tell_fault(rt, watch, &faulty);
-        }
-    }
-}
-
-// Writes the fault in words in place of the line.
-fn tell_fault<R: Wait + AllocGlobal, E: Sink>(rt: &R, watch: &Watch<E>, faulty: &FaultyLine) {
-    if let Ok(text) = format!(in rt.alloc(); "{faulty}\n") {
-        let mut screen = watch.screen.lock(rt);
-        screen.clear();
-        screen.write(text.as_bytes());
     }
 }
 
@@ -239,15 +213,8 @@ impl<'w, R: Wait + AllocGlobal, W: Sink, E: Sink> Sink for Report<'w, R, W, E> {
     ghost flushed = { λ s. W.flushed s.writer };
 
     fn write(&mut self, buffer: &[u8]) -> Result<usize, Failed> {
-        let screen = self.cleared();
-        let written = self.writer.write(buffer);
-        let Ok(count) = written else {
-            return written;
-        };
-        self.count_lines(&buffer[..count]);
-        drop(screen);
-        self.explain(&buffer[..count]);
-        written
+        let _screen = self.cleared();
+        self.writer.write(buffer)
     }
 
     fn flush(&mut self) -> Result<(), Failed> {
@@ -256,5 +223,21 @@ impl<'w, R: Wait + AllocGlobal, W: Sink, E: Sink> Sink for Report<'w, R, W, E> {
 
     fn failed(&self) -> bool {
         self.writer.failed()
+    }
+}
+
+impl<'w, R: Wait + AllocGlobal, W: Sink, E: Sink> ReportSink for Report<'w, R, W, E> {
+    fn tells_faults(&self) -> bool {
+        self.explains
+    }
+
+    fn answered(&mut self, number: u64, fault: Option<Fault>) {
+        if self.watch.progress.is_shown() {
+            self.watch.progress.answered(number);
+        }
+        match fault {
+            Some(fault) if self.explains => self.tell(&FaultyLine { number, fault }),
+            _ => {}
+        }
     }
 }

@@ -1,9 +1,9 @@
 //! The line that shows how far a run is: its words, the bytes that put it on a terminal, and what is counted for it.
 
 use super::NO_FAILURE;
-use oth_main::{Answered, Command, Input, Progress, Reached, Row, Shown};
-use oth_text::Source;
-use oth_text::fakes::BrokenSource;
+use oth_main::{Input, Progress, Reached, Report, ReportSink, Row, Shown, Watch};
+use oth_text::fakes::{BrokenSource, ByteSink};
+use oth_text::{Fault, Source, TranscriptFault};
 use std::test::Fail;
 
 // How far a run is, for how many seconds it has worked, and the line.
@@ -79,31 +79,18 @@ fn the_longest_row_has_120_columns(rt: HostRuntime) {
     assert!(rt; row.cleared().len() == 132);
 }
 
-// Reports, and the number of lines of the input that each answers. A game is answered by several lines.
-const ANSWERED: [(Command, &[u8], u64); 6] = [
-    (Command::Solve, b"", 0),
-    (Command::Solve, b"+64 a1 h1", 0),
-    (Command::Solve, b"+64 a1 h1\nerror 1\n-2", 2),
-    (Command::Transcript, b"9\n\n\n", 3),
-    (
-        Command::Analyse(20),
-        b"1 58 X h1 -50 -50 h1\n1 lost X 0 O 0\n2 er",
-        1,
-    ),
-    (
-        Command::Analyse(20),
-        b"9 lost X 0 O 0\n10 error 2 at 7\n10 lost X 0 O 0\n",
-        10,
-    ),
-];
-
 #[test]
 fn answered_lines_are_counted(rt: HostRuntime) {
-    for (command, report, lines) in ANSWERED {
-        let mut answered = Answered::of(command);
-        answered.hear_all(report);
-        assert!(rt; answered.lines() == lines);
-    }
+    let watch = Watch::on(ByteSink::<64>::new(NO_FAILURE), true, true);
+    let mut input = Input::of(watch.gate(), BrokenSource::new(b"a\nb\nc\n", NO_FAILURE));
+    let _ = input.read(&mut [0; 16]);
+    let mut report = Report::of(&rt, &watch, ByteSink::<64>::new(NO_FAILURE), false, false);
+    assert!(rt; watch.gate().reached() == Some(Reached::Line(1, 3)));
+    report.answered(1, None);
+    assert!(rt; watch.gate().reached() == Some(Reached::Line(2, 3)));
+    report.answered(2, Some(Fault::Transcript(TranscriptFault::OddLength)));
+    assert!(rt; watch.gate().reached() == Some(Reached::Line(3, 3)));
+    assert!(rt; report.writer().taken().is_empty());
 }
 
 // The line that is awaited and how many were read, after each byte of three lines, the last one without its end, and at

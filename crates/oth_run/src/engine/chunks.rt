@@ -11,18 +11,19 @@ use super::Engine;
 use crate::ahead::jobs_of_lines;
 use crate::buffer::{long_buffer, longer};
 use crate::fault::RunFault;
+use crate::report_sink::ReportSink;
 use crate::solver::Solver;
 use crate::tuning::STACK_CHUNK;
 use oth_batch::Crew;
 use oth_pool::Gate;
-use oth_text::{Failed, Sink, Source};
+use oth_text::{Failed, Source};
 use std::sync::Wait;
 use std::thread::Threads;
 
 impl Engine {
     // As `take_bytes`, while the crew, if there is one, and further workers where these pay, do the jobs that were
     // given to it, until a write fails.
-    fn take_beside<T: Wait + Threads + Sync, W: Sink, G: Gate>(
+    fn take_beside<T: Wait + Threads + Sync, W: ReportSink, G: Gate>(
         &mut self,
         solver: &Solver<'_, T, G>,
         crew: Option<&Crew<'_, T, G>>,
@@ -56,7 +57,7 @@ impl Engine {
 
     // Takes further bytes of the input, and writes the reports of the lines that end in them, those of boards that take
     // long as soon as they are known. The jobs that were given to the crew are those of these lines.
-    fn take_chunk<T: Wait + Threads + Sync, W: Sink, G: Gate>(
+    fn take_chunk<T: Wait + Threads + Sync, W: ReportSink, G: Gate>(
         &mut self,
         solver: &Solver<'_, T, G>,
         crew: Option<&Crew<'_, T, G>>,
@@ -78,7 +79,7 @@ impl Engine {
 
     // Reads on to the end of input, a chunk at a time, and writes the reports of the lines that byte 10 ends. Each
     // chunk's jobs are given to the crew, if there is one.
-    fn run_on<'s, T: Wait + Threads + Sync, R: Source, W: Sink, G: Gate>(
+    fn run_on<'s, T: Wait + Threads + Sync, R: Source, W: ReportSink, G: Gate>(
         &mut self,
         solver: &'s Solver<'s, T, G>,
         crew: Option<&Crew<'s, T, G>>,
@@ -115,7 +116,7 @@ impl Engine {
 
     // Takes the `count` bytes that were read first, reads on to the end of input, and writes the reports of the lines
     // that byte 10 ends.
-    fn run_alone<T: Wait + Threads + Sync, R: Source, W: Sink, G: Gate>(
+    fn run_alone<T: Wait + Threads + Sync, R: Source, W: ReportSink, G: Gate>(
         &mut self,
         solver: &Solver<'_, T, G>,
         reader: &mut R,
@@ -134,14 +135,14 @@ impl Engine {
         ensures end { OnOk result (IsAtEnd (R.remaining reader.new)) }
         ensures devices { FailsBy result (R.failed reader.new) (W.failed writer.new) }
     {
-        match self.take_chunk(solver, no_crew(solver), writer, &buffer[..count]) {
-            Ok(()) => self.run_on(solver, no_crew(solver), reader, writer, buffer),
+        match self.take_chunk(solver, solver.no_crew(), writer, &buffer[..count]) {
+            Ok(()) => self.run_on(solver, solver.no_crew(), reader, writer, buffer),
             Err(_) => Err(RunFault::Write),
         }
     }
 
     // As `run_alone`, with a crew: workers that pay for the lines of the first bytes stay to the end.
-    fn run_from<T: Wait + Threads + Sync, R: Source, W: Sink, G: Gate>(
+    fn run_from<T: Wait + Threads + Sync, R: Source, W: ReportSink, G: Gate>(
         &mut self,
         solver: &Solver<'_, T, G>,
         reader: &mut R,
@@ -186,7 +187,7 @@ impl Engine {
 
     /// Reads all lines that byte 10 ends, up to the end of input, and writes their reports. What is gathered is written
     /// before each read, which may wait.
-    pub fn run_ended<T: Wait + Threads + Sync, R: Source, W: Sink, G: Gate>(
+    pub fn run_ended<T: Wait + Threads + Sync, R: Source, W: ReportSink, G: Gate>(
         &mut self,
         solver: &Solver<'_, T, G>,
         reader: &mut R,
@@ -218,11 +219,6 @@ impl Engine {
         }
         self.run_from(solver, reader, writer, buffer, count)
     }
-}
-
-// No crew, with the lifetimes of one.
-fn no_crew<'c, 's, T, G>(_solver: &'c Solver<'s, T, G>) -> Option<&'c Crew<'s, T, G>> {
-    None
 }
 
 // Gives the crew, if there is one, the jobs of the lines in these bytes.

@@ -38,7 +38,7 @@ fn is_turn(reader: &AnalysisReader, last: u8, place: usize, scoring: Scoring, li
 // Whether the line has this fault, or none.
 fn has_fault(front: &[u8], back: &[u8], fault: &[u8]) -> bool {
     match read(front, back).fault() {
-        Some(line) => game_line(7, line.as_slice()).as_slice() == fault,
+        Some(found) => game_line(7, &found).as_slice() == fault,
         None => fault.is_empty(),
     }
 }

@@ -141,7 +141,7 @@ impl Addition {
         let mut short = [0; STACK_CHUNK];
         let buffer = longer(long.as_mut_slice(), &mut short);
         if solver.batch.workers < 2 {
-            return self.read_on(solver, no_crew(solver), reader, errors, buffer);
+            return self.read_on(solver, solver.no_crew(), reader, errors, buffer);
         }
         let Ok(count) = reader.read(buffer) else {
             return Err(Stop::Run(RunFault::Read));
@@ -151,9 +151,4 @@ impl Addition {
         }
         self.read_from(solver, reader, errors, buffer, count)
     }
-}
-
-// No crew, with the lifetimes of one.
-fn no_crew<'c, 's, T, G>(_solver: &'c Solver<'s, T, G>) -> Option<&'c Crew<'s, T, G>> {
-    None
 }

@@ -1,5 +1,5 @@
 use Rattle.std.proofs.Common.{rules}
 use Rattle.oth_text.proofs.board_line.if_solvable.Goals as goal
 
-pub returns : goal.returns
-returns c = search rules
+pub returns-clause-reading : goal.returns-clause-reading
+returns-clause-reading c = search rules

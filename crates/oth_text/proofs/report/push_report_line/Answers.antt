@@ -1,5 +1,5 @@
 use Rattle.std.proofs.Common.{◌∷◌, [], ◌++◌, ◌∙◌, ap, append_assoc, refl}
-use Rattle.oth_text.specs.Report.{moves_or_word, report_line_of, score_text, squares_of}
+use Rattle.oth_text.specs.Report.{moves_or_word, squares_of}
 use Rattle.oth_text.proofs.ReportLemmas.{report_line_is}
 use Rattle.oth_text.proofs.report.push_report_line.Goals as goal
 

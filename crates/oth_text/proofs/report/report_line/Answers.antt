@@ -1,4 +1,4 @@
-use Rattle.std.proofs.Common.{◌≡◌, ◌++◌, ◌∙◌, ap, refl}
+use Rattle.std.proofs.Common.{◌≡◌, ◌++◌, ◌∙◌, ap}
 use Rattle.oth_text.specs.Report.{report_line_of}
 use Rattle.oth_text.proofs.OneLineLemmas.{report_line-one}
 use Rattle.oth_text.proofs.report.report_line.Goals as goal

@@ -1,4 +1,4 @@
-use Rattle.std.proofs.Common.{[], ◌++◌, append_assoc, append-nil, take}
+use Rattle.std.proofs.Common.{[], append_assoc, append-nil, take}
 use Rattle.std.proofs.KnownBytes.{Consumes-nil}
 use Rattle.oth_run.proofs.engine.Engine.run_alone.Goals as goal
 

@@ -1,30 +1,16 @@
-use Rattle.std.proofs.Common.{refl}
 use Rattle.oth_run.proofs.CutLemmas.{behind_line, part_of_line, up_to_line}
-use Rattle.oth_run.proofs.GatherLemmas.{beginning_within, on_err_always}
+use Rattle.oth_run.proofs.GatherLemmas.{on_err_always}
 use Rattle.oth_run.specs.Reply.{reply}
 use Rattle.oth_run.proofs.engine.Engine.take_line.Goals as goal
 
-pub returns-in_err-write_if-clause-err : goal.returns-in_err-write_if-clause-err
-returns-in_err-write_if-clause-err g c = on_err_always c.from_residual.result (λ before input so_far.
-    part_of_line (reply c.args.solver.now.settings) before input _ c.requires.part _
-    (beginning_within before _ _ _ (c.in_err-write_if.ensures.err before _ so_far.gathered) (_, refl)))
-
 pub returns-in_err-end_line-clause-err : goal.returns-in_err-end_line-clause-err
-returns-in_err-end_line-clause-err g c = on_err_always c.from_residual-in_err-end_line.result (λ before input so_far.
+returns-in_err-end_line-clause-err g c = on_err_always c.from_residual.result (λ before input so_far.
     let held = c.push.ensures c.args.solver.now.settings.command _ _ so_far.lines.held in
-    let written = c.in_ok-write_if.ensures.ok before _ so_far.gathered in
-    part_of_line (reply c.args.solver.now.settings) before input _ c.requires.part _ (c.in_err-end_line.ensures.err before _ _ _ held written))
-
-pub returns-in_err-write_if-2-clause-err : goal.returns-in_err-write_if-2-clause-err
-returns-in_err-write_if-2-clause-err g c = on_err_always c.from_residual-in_err-write_if-2.result (λ before input so_far.
-    let held = c.push.ensures c.args.solver.now.settings.command _ _ so_far.lines.held in
-    let written = c.in_ok-write_if.ensures.ok before _ so_far.gathered in
-    part_of_line (reply c.args.solver.now.settings) before input _ c.requires.part _ (c.in_err-write_if-2.ensures.err before _ (c.in_ok-end_line.ensures.ok before _ _ _ held written)))
+    part_of_line (reply c.args.solver.now.settings) before input _ c.requires.part _ (c.in_err-end_line.ensures.err before _ _ _ held so_far.gathered))
 
 pub returns-clause-ok : goal.returns-clause-ok
 returns-clause-ok g c = λ before input so_far.
     let held = c.push.ensures c.args.solver.now.settings.command _ _ so_far.lines.held in
-    let written = c.in_ok-write_if.ensures.ok before _ so_far.gathered in
     up_to_line (reply c.args.solver.now.settings) before input _ c.requires.part _ _ _
-    (c.in_ok-write_if-2.ensures.ok before _ (c.in_ok-end_line.ensures.ok before _ _ _ held written))
+    (c.in_ok-end_line.ensures.ok before _ _ _ held so_far.gathered)
     (behind_line c.args.solver.now.settings _ _ _ _ _ so_far.lines.faulty (c.in_ok-end_line.ensures.line _ _ held) (c.in_ok-end_line.ensures.faulty _ _ held))
