@@ -4,6 +4,7 @@ Where dpkg-deb, pkg-config or lintian isn't installed, what needs it is passed o
 """
 import gzip
 import os
+import re
 import shutil
 import sys
 import tarfile
@@ -12,6 +13,7 @@ import time
 
 import c_library
 import installed
+import recipes
 from running import TOP, VERSION, ran, text_of, version_line
 
 PACKAGE = f"{TOP}/package"
@@ -19,8 +21,9 @@ FOLDER, FILE = f"pahkrin-{VERSION}", f"pahkrin_{VERSION}_amd64"
 DEB, TAR = f"{FILE}.deb", f"{FILE}.tar.gz"
 DEBIAN_LIB = "lib/x86_64-linux-gnu"
 DOC = "share/doc/pahkrin"
-# What of the repository is packed, and what that was built of its crates.
+# What of the repository is packed, the pages by themselves, and what that was built of its crates.
 SOURCES = "CHANGELOG.md completions crates.txt docs/othsolve.1 examples include install package".split()
+PAGES = ("FORMATS", "LIBRARY", "RECIPES", "RULES")
 BUILT = ("othsolve/out/othsolve", "oth_c/out/liboth_c.a")
 # What is in a package below its prefix, without the libraries, the completion for zsh and, for Debian, what lintian is told.
 FILES = f"""bin/othsolve
@@ -28,21 +31,32 @@ include/othsolve.h
 share/bash-completion/completions/othsolve
 share/man/man1/othsolve.1.gz
 {DOC}/CHANGELOG.md.gz
+{DOC}/FORMATS.md
+{DOC}/LIBRARY.md
+{DOC}/RECIPES.md
+{DOC}/RULES.md
 {DOC}/changelog.gz
 {DOC}/copyright
 {DOC}/examples/boards.txt
+{DOC}/examples/diagram.txt
+{DOC}/examples/games.ggf
 {DOC}/examples/games.txt
+{DOC}/examples/games.wtb
+{DOC}/examples/problems.obf
 {DOC}/examples/python/analyse.py
 {DOC}/examples/python/othsolve/__init__.py
 {DOC}/examples/python/othsolve/py.typed
 {DOC}/examples/python/pyproject.toml
 {DOC}/examples/python/wheel_of_this.py
+{DOC}/examples/to_lines.py
 {DOC}/examples/worked.book
 {DOC}/examples/worked.c
 """.split()
 LIBRARIES = ("libothsolve.a", "libothsolve.so", installed.SONAME, f"libothsolve.so.{VERSION}", "pkgconfig/othsolve.pc")
 OF_DEBIAN = ["share/zsh/vendor-completions/_othsolve", "share/lintian/overrides/pahkrin"]
 MODES = ["-rw-r--r--", "-rwxr-xr-x", "drwxr-xr-x", "lrwxrwxrwx"]
+# A link of a page, behind its text.
+LINK = re.compile(r"\]\(([A-Za-z_./#0-9-]+)\)")
 # A time for sources that are in no clone.
 SOME_TIME = "1700000000"
 
@@ -77,7 +91,7 @@ def commit_time():
 
 def make_copy(crates, to):
     """Copies what is packed into this folder; the time of each copy is the present."""
-    for name in SOURCES:
+    for name in (*SOURCES, *(f"docs/{page}.md" for page in PAGES)):
         os.makedirs(os.path.dirname(f"{to}/{name}"), exist_ok=True)
         if os.path.isdir(f"{TOP}/{name}"):
             shutil.copytree(f"{TOP}/{name}", f"{to}/{name}", copy_function=shutil.copy)
@@ -141,6 +155,14 @@ def debian(root, deb, seconds):
         yield "lintian isn't installed", None
 
 
+def dead_links(page, source):
+    """Tells which links of a page lead nowhere, or what else of its source the page lacks, if anything."""
+    text = installed.read(page)
+    names = [target.partition("#")[0] for target in LINK.findall(text)]
+    dead = [name for name in names if name and not os.path.isfile(f"{os.path.dirname(page)}/{name}")]
+    return installed.differs((dead, LINK.sub("", text).replace("[", "")), ([], LINK.sub("", source).replace("[", "")))
+
+
 def archive(folder, file, seconds):
     """Tests the archive: what is in it and whose that is, and that it works wherever it is unpacked."""
     with tarfile.open(file) as members:
@@ -165,6 +187,11 @@ def works(prefix, lib, how):
     yield f"its version in {kind}", c_library.ran_wrong([program, "--version"], "", version_line(program))
     with gzip.open(f"{prefix}/share/man/man1/othsolve.1.gz", "rt", encoding="utf-8") as page:
         yield f"its page in {kind}", installed.differs(page.read(), installed.read(f"{TOP}/docs/othsolve.1"))
+    for page in PAGES:
+        yield f"links of {page} in {kind}", dead_links(f"{doc}/{page}.md", installed.read(f"{TOP}/docs/{page}.md"))
+    begin = "".join(code for code, _ in recipes.recipes()[recipes.BEGIN])
+    words = ["bash", "-c", f"{begin}examples/to_lines.py wthor examples/games.wtb | cmp - examples/games.txt"]
+    yield f"recipes begin in {kind}", c_library.ran_wrong(words, cwd=doc, env={**os.environ, "TMPDIR": os.path.dirname(prefix)})
     paths = [path.encode() for path in (TOP, prefix, "/tmp/")]
     inside = [name for name in installed.files(prefix) if any(path in bytes_of(f"{prefix}/{name}") for path in paths)]
     yield f"no path of this machine in {kind}", installed.differs(inside, [])

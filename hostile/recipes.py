@@ -5,13 +5,18 @@ write the block marked `text` that comes right behind it, word for word, or noth
 with a copy of examples, and with `othsolve` on the PATH. One whose tool isn't installed is passed over, and its step is named so. What is
 written to standard error isn't compared.
 """
+import contextlib
 import os
+import random
 import re
 import shutil
+import signal
 import subprocess
 import tempfile
+import time
 
-from running import TOP
+import seen
+from running import EMPTY_BOOK, TOP, board_lines, file_of, ran
 
 PAGE = f"{TOP}/docs/RECIPES.md"
 SECTION = re.compile(r"^## (.*)$", re.MULTILINE)
@@ -19,8 +24,8 @@ BLOCK = re.compile(r"^```bash\n(.*?)^```\n(?:\n```text\n(.*?)^```\n)?", re.MULTI
 BEGIN = "Begin here"
 SEVERAL = "A collection on several machines"
 BOOK = "Keep and extend a book"
-TOOLS = ("parallel", "ssh", "iconv", "flock")
-LEAST = 16
+TOOLS = ("parallel", "ssh", "flock")
+LEAST = 17
 PATIENCE = 20
 
 # In place of ssh: every machine is this one, but some are lost.
@@ -51,6 +56,11 @@ book_add my.book < collection.txt; echo $?
 cmp my.book old.book && ls
 """
 LEFT = "3\ncollection.txt\nexamples\nmy.book\nmy.book.lock\nold.book\n"
+
+# Additions in portions: boards, and how often they are ended, as a whole or the shell alone.
+PORTIONS, OF_A_PORTION, PORTIONS_EMPTIES, SEED, ENDS = 8, 5, 8, 20261201, 20
+# Lines that leave the longest book room for one portion of two boards, and no room for the next one.
+ROOM = 2
 
 
 def recipes():
@@ -100,6 +110,13 @@ def begin(blocks):
 
 def cooked(program, blocks, stand_in=None):
     """Tells what is wrong with a recipe, if anything."""
+    with kitchen(program, stand_in) as (folder, environment):
+        return wrong(blocks, folder, environment)
+
+
+@contextlib.contextmanager
+def kitchen(program, stand_in=None):
+    """Makes a folder with a copy of examples, and an environment with the program on the PATH, and something in place of ssh."""
     with tempfile.TemporaryDirectory() as folder, tempfile.TemporaryDirectory() as tools:
         shutil.copytree(f"{TOP}/examples", f"{folder}/examples")
         os.symlink(program, f"{tools}/othsolve")
@@ -107,7 +124,7 @@ def cooked(program, blocks, stand_in=None):
             with open(f"{tools}/ssh", "w", encoding="ascii") as file:
                 file.write(stand_in)
             os.chmod(f"{tools}/ssh", 0o755)
-        return wrong(blocks, folder, {"HOME": tools, "PATH": f"{tools}:{os.environ['PATH']}"})
+        yield folder, {"HOME": tools, "PATH": f"{tools}:{os.environ['PATH']}"}
 
 
 def wrong(blocks, folder, environment):
@@ -150,6 +167,95 @@ def book_kept(program, blocks):
     first, further = blocks[0], (AT_ONCE, "book ok 16\n")
     yield "a book that eight add to at once", cooked(program, [first, further])
     yield "a book-add that fails", cooked(program, [first, (FAILING, LEFT)])
+    with kitchen(program) as (folder, environment):
+        yield f"additions in portions that TERM ends {ENDS} times", Additions(program, blocks, folder, environment).wrong_when_ended()
+    with kitchen(program) as (folder, environment):
+        yield "additions in portions to a book that gets full", Additions(program, blocks, folder, environment).wrong_when_full()
+
+
+class Additions:
+    """The recipe's way to add a collection in portions."""
+
+    def __init__(self, program, blocks, folder, environment):
+        self.program, self.folder, self.book = program, folder, f"{folder}/my.book"
+        page = "".join(code for code, _ in blocks)
+        function = re.search(r"^book_add\(\).*?^\)$", page, re.MULTILINE | re.DOTALL)[0]
+        self.script = f"{function}\n{re.search(r'^for portion in .*$', page, re.MULTILINE)[0]}\n"
+        self.how = {"cwd": folder, "env": {**os.environ, **environment}, "stdin": subprocess.DEVNULL, "stderr": subprocess.DEVNULL}
+        self.draw = random.Random(SEED)
+
+    def begin(self, book, portions):
+        """Puts this book and these portions into the folder."""
+        file_of(self.folder, "my.book", book)
+        for number, lines in enumerate(portions):
+            file_of(self.folder, f"portion.a{chr(ord('a') + number)}", lines)
+
+    def left(self):
+        """Returns the portions that are left."""
+        return sorted(name for name in os.listdir(self.folder) if name.startswith("portion."))
+
+    def text(self):
+        """Returns the book's text, once nobody adds to it."""
+        subprocess.run(["flock", f"{self.book}.lock", "true"], check=True, timeout=PATIENCE)
+        with open(self.book, "rb") as file:
+            return file.read()
+
+    def go_on(self, seconds=None):
+        """Adds what is left; if it is not done by then, TERM ends the shell, alone or with all that it runs. Tells whether that was so."""
+        with subprocess.Popen(["bash", "-c", self.script], start_new_session=True, **self.how) as shell:
+            try:
+                shell.wait(seconds if seconds is not None else PATIENCE)
+            except subprocess.TimeoutExpired:
+                if self.draw.random() < 0.5:
+                    os.killpg(shell.pid, signal.SIGTERM)
+                else:
+                    shell.terminate()
+        return shell.returncode == -signal.SIGTERM
+
+    def books(self, portions):
+        """Returns the books that none, one, two .. portions make."""
+        books = [EMPTY_BOOK]
+        for lines in portions:
+            books.append(ran([self.program, "book-add", file_of(self.folder, "before.book", books[-1])], lines).wrote)
+        return books
+
+    def wrong_when_ended(self):
+        """Tells what is wrong where TERM ends the additions at random times, if anything."""
+        lines = board_lines(SEED, PORTIONS * OF_A_PORTION, PORTIONS_EMPTIES).splitlines(keepends=True)
+        portions = [b"".join(lines[at : at + OF_A_PORTION]) for at in range(0, len(lines), OF_A_PORTION)]
+        books, whole = self.books(portions), self.books([b"".join(lines)])[-1]
+        self.begin(EMPTY_BOOK, portions)
+        begun = time.monotonic()
+        self.go_on()
+        seconds, ends = time.monotonic() - begun, 0
+        if self.left() or not self.text() == whole == books[-1]:
+            return f"portions make another book than one run, and {self.left()} are left"
+        while ends < ENDS:
+            self.begin(EMPTY_BOOK, portions)
+            while self.left():
+                ends += self.go_on(self.draw.uniform(0, seconds / 2) if ends < ENDS else None)
+                done, text = PORTIONS - len(self.left()), self.text()
+                verified = ran([self.program, "book-verify", self.book]).wrote
+                if text not in books[done : done + 2] or not verified.startswith(b"book ok "):
+                    return f"end {ends}: {done} portions are done, {verified}, {len(text)} bytes"
+            if self.text() != whole:
+                return f"end {ends}: another book than that of one run"
+        return None
+
+    def wrong_when_full(self):
+        """Tells what is wrong where the second of three portions finds the book full, if anything."""
+        entries = seen.longest_book().splitlines(keepends=True)[1 : -1 - ROOM]
+        lines = board_lines(SEED, 3 * ROOM, PORTIONS_EMPTIES).splitlines(keepends=True)
+        portions = [b"".join(lines[at : at + ROOM]) for at in range(0, len(lines), ROOM)]
+        self.begin(b"".join((b"OBOOK2 W\n", *entries, f"END {len(entries):06}\n".encode())), portions)
+        self.go_on()
+        verified = ran([self.program, "book-verify", self.book]).wrote
+        if verified != b"book ok 100000\n" or self.left() != ["portion.ab", "portion.ac"]:
+            return f"{verified}, and {self.left()} are left"
+        file_of(self.folder, "my.book", EMPTY_BOOK)
+        self.go_on()
+        right = self.text() == self.books(portions[1:])[-1] and not self.left()
+        return None if right else f"a new book has {len(self.text())} bytes, and {self.left()} are left"
 
 
 def among(blocks, machines):

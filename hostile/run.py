@@ -5,7 +5,7 @@
 
 CRATES is the folder of the crates, `crates` if not given. Each step is a line, `ok` or `FAILED` and its name, and after a failure what is
 wrong. Where parts are named only their steps are run: `statuses`, `texts`, `flow`, `limits`, `seen`, `terminal`, `progress`,
-`differential`, `small_boards`, `recipes`, `refusals`, `c_library`, `installed`, `packed`. As many parts run at once as there are
+`differential`, `small_boards`, `recipes`, `foreign`, `refusals`, `c_library`, `installed`, `packed`. As many parts run at once as there are
 processors, but for `small_boards`, which compares times: it runs first, with nothing beside it. The lines come in the order of the parts.
 The last line is `N passed, M failed`; the exit status is 1 where a step failed.
 """
@@ -20,6 +20,7 @@ import sys
 import c_library
 import differential
 import flow
+import foreign
 import installed
 import limits
 import packed
@@ -51,6 +52,7 @@ def every_part(crates):
         "differential": lambda: differential.steps(program),
         "small_boards": lambda: small_boards.steps(program),
         "recipes": lambda: recipes.steps(program),
+        "foreign": lambda: foreign.steps(program),
         "refusals": lambda: refusals.steps(crates),
         "c_library": lambda: c_library.steps(crates),
         "installed": lambda: installed.steps(crates),

@@ -23,7 +23,7 @@ OUTSIDE = {
     "Rattle": "assumption data ensures ghost ground let omega requires std::simd Sync u16 u64::MAX u8 unsafe Vec::with_capacity",
     "the kit's crates and its allocator": "join_seat rattle_alloc split_seat ValueValidation",
     "C and Python": "calloc ctypes malloc",
-    "tools": "ar awk cc cp flock gzip iconv ldconfig lintian nm parallel paste pip readelf rustc sed tar tr",
+    "tools": "ar awk cc cp flock gzip ldconfig lintian nm parallel paste pip readelf rustc tar",
     "files and words of other programs": "pa scores.c",
 }
 
