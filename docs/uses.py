@@ -5,8 +5,8 @@
 
 In front of each block stands a line with the file's name alone, as `crates/oth_uses/src/solved_board.rt`, in backquotes and with a colon. A
 block has to be that file word for word, and each caller of crates/oth_uses and the C example's build line have to be shown, or linked. The
-line of `crates.txt` above a caller that is shown has to name the crates that it uses. Each problem is a line; the last line is `N passed, M
-failed`, and the exit status is 1 where something failed. With `--write` the blocks are first filled from the files.
+line of `crates.txt` beside each caller has to name the crates that it uses. Each problem is a line; the last line is `N passed, M failed`,
+and the exit status is 1 where something failed. With `--write` the blocks are first filled from the files.
 """
 import argparse
 import glob
@@ -18,8 +18,10 @@ TOP = os.path.dirname(os.path.dirname(os.path.abspath(__file__)))
 PAGE = "docs/LIBRARY.md"
 BLOCK = re.compile(r"^`([^`\n]+)`:\n\n```(\w+)\n(.*?)^```$", re.MULTILINE | re.DOTALL)
 LINE = re.compile(r"^Its line is `mine: ([^`\n]+)`\.\n\n`([^`\n]+)`:$", re.MULTILINE)
+LINE_OF_LINKED = re.compile(r"\]\(\.\./([^)\n]+\.rt)\)[^\n]*; its line is `mine: ([^`\n]+)`")
 NOT_SHOWN = ("lib.rt",)
-LINKED = tuple(f"crates/oth_uses/src/{name}.rt" for name in ("analysis", "game", "in_time", "own_sink", "shared_table"))
+LINKED_NAMES = ("analysis", "book_and_workers", "engine_cells", "game", "in_time", "own_sink", "shared_table")
+LINKED = tuple(f"crates/oth_uses/src/{name}.rt" for name in LINKED_NAMES)
 BUILD = re.compile(r"cc -O2 -I\. worked\.c libothsolve\.a -o worked")
 
 
@@ -55,7 +57,8 @@ def problems():
         else:
             yield None if text == read(name) else f"{PAGE}: the block of {name} is not that file"
     listed = {line[2]: set(line[1].split()) for line in LINE.finditer(page)}
-    for name in (name for name in wanted() if name not in LINKED):
+    listed |= {line[1]: set(line[2].split()) for line in LINE_OF_LINKED.finditer(page)}
+    for name in wanted():
         used = set(re.findall(r"^(?:ghost )?use (?:Rattle\.)?(\w+)", read(name), re.MULTILINE)) - {"std", "crate"}
         yield None if used <= listed.get(name, set()) else f"{PAGE}: the line of {name} doesn't name each of {', '.join(sorted(used))}"
     for name in ("include/othsolve.h", "examples/c/worked.c", "examples/c/library.sh", PAGE):
