@@ -24,7 +24,7 @@ It tests, in each document and, where it says so, in the code:
 - of docs/GLOSSARY.md: that each identifier of the column `In the code` is a word of the code or of `specs/`;
 - of docs/ARCHITECTURE.md: that the lemmas which it lists for a crate are those that proofs of other crates import;
 - that each lemma and each definition is named somewhere else than at its own statement, but those of `Examples`;
-- of docs/DECISIONS.md: that each number from 1 to the last is that of one entry, or of one row of its table;
+- of docs/DECISIONS.md: that each entry has a title, which no other one has;
 - of docs/TESTED.md: that each test stands in the crate and the module that are named with it;
 - of docs/WRONG_BODIES.md: that each name of the column of what refuses a body at each gate is a test of the crate that is named before
   it, or an edit in must-fail/ of it, and each other name with an underscore an edit, a function or a part of a crate;

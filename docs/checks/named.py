@@ -20,7 +20,7 @@ NAMED = re.compile(
 TOUR = ROOT / "docs/ARCHITECTURE.md"
 # What pages name that isn't of this tree, by whose it is.
 OUTSIDE = {
-    "Rattle": "assumption data ensures ghost ground let omega requires std::simd Sync u16 u64::MAX u8 unsafe Vec::with_capacity",
+    "Rattle": "assumption data ensures ghost ground let omega requires std::simd Sync u16 u64::MAX u8 unsafe",
     "the kit's crates and its allocator": "join_seat rattle_alloc split_seat ValueValidation",
     "C and Python": "calloc ctypes malloc",
     "tools": "ar awk cc cp flock gzip ldconfig lintian nm parallel paste pip readelf rustc tar",

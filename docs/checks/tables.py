@@ -1,7 +1,7 @@
-"""Tests rows of tables against the code, and numbers that have to be whole: board lines, and the entries of docs/DECISIONS.md."""
+"""Tests rows of tables against the code, the length of board lines, and the titles of docs/DECISIONS.md."""
 import re
 
-from checks.shared import ROOT, shown, source_files, text_of, unless
+from checks.shared import ROOT, lines_of, shown, source_files, text_of, unless
 
 VALUE = re.compile(r"^\| `([A-Z_]+)` \| `([^`]+)` \| `([^`]+)` \|")
 PART = re.compile(r"^\| `([^`]*[^`A-Z_][^`]*)` \| `(crates/[^`]+\.rt)` \|")
@@ -45,12 +45,11 @@ def constant_faults():
 
 
 def decision_faults():
-    """Tests that each number from 1 to the last is that of one entry of docs/DECISIONS.md, or of one row of its table."""
-    text = text_of(ROOT / "docs/DECISIONS.md")
-    found = [int(number) for number in re.findall(r"(?m)^### (\d+)\. ", text)]
-    for row in re.findall(r"(?m)^\| (\d+(?:, \d+)*) \|", text):
-        found += [int(number) for number in row.split(", ")]
-    missing = sorted(set(range(1, max(found) + 1)) - set(found))
-    twice = sorted({number for number in found if found.count(number) > 1})
-    yield unless(not missing, f"docs/DECISIONS.md: there is no entry {missing}")
-    yield unless(not twice, f"docs/DECISIONS.md: more than one entry {twice}")
+    """Tests that each entry of docs/DECISIONS.md, a section or an item of a list, begins with a title that no other entry has."""
+    entries = re.findall(r"(?m)^(?:#{2,3}|-) (.*)", text_of(ROOT / "docs/DECISIONS.md"))
+    lines = [line for line in lines_of(ROOT / "docs/DECISIONS.md") if line.startswith("- ")]
+    for line in lines:
+        yield unless(line.startswith("- **"), f"docs/DECISIONS.md: an entry without a title: {line[:40]}")
+    titles = [re.match(r"(?:\*\*)?([^*]*)", entry).group(1) for entry in entries]
+    twice = sorted({title for title in titles if titles.count(title) > 1})
+    yield unless(not twice, f"docs/DECISIONS.md: more than one entry {', '.join(twice)}")
