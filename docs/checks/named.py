@@ -10,7 +10,7 @@ from checks.shared import ROOT, cells_below, crate_folders, documents, lines_of,
 SNAKE = re.compile(r"[a-z]\w*_\w*")
 TEST = re.compile(r"#\[test\]\s*(?:#\[[^\]]*\]\s*)*fn (\w+)")
 # The column of docs/WRONG_BODIES.md that names edits, and the folder in which these stand.
-COLUMN, TIER = "Refused at each gate by", "must-fail"
+COLUMN, TIER = "Tests that refuse it", "must-fail"
 # What a page may name that stands alone between backquotes: a word, a file, an option, or an edit with its crate. A letter is a variable.
 NAMED = re.compile(
     r"(?P<word>[A-Za-z_]\w+(?:::[A-Za-z_]\w*)*)(?:\(\))?|(?P<file>[\w.-]+\.(?:antt|c|edit|h|md|obf|py|rt|sh|toml|txt))"
