@@ -16,8 +16,8 @@ It tests, in each document and, where it says so, in the code:
   of them, as `docs/definitions.py` prints them, has words of its own and names only what stands before it; and that the page says of each
   word of the kit that these name what it is;
 - that each board line has 64 cells;
-- that in each row `| `CONSTANT` | `PATH` | `VALUE` |` of a table the file gives the constant that value, and that in each row
-  `| `EXPRESSION` | `PATH` |` the file has this text, that each constant of a `tuning.rt` has a row in docs/TUNING.md, and that no two
+- that in each row `| `CONSTANT` | `VALUE` |` of a table the code gives the constant that value, and that in each row
+  `| `EXPRESSION` | `PATH` |` the file has this text, that each constant of a `tuning.rt` has a comment above it, and that no two
   constants of the code have one name;
 - that no page, nor the C header, says one of the phrases that docs/GLOSSARY.md replaces, that no comment of the code begins with "The
   same", nor a line of one, and that no code, specification, proof or script says "so many";

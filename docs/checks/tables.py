@@ -1,23 +1,35 @@
 """Tests rows of tables against the code, the length of board lines, and the titles of docs/DECISIONS.md."""
+import functools
 import re
 
 from checks.shared import ROOT, lines_of, shown, source_files, text_of, unless
 
-VALUE = re.compile(r"^\| `([A-Z_]+)` \| `([^`]+)` \| `([^`]+)` \|")
+VALUE = re.compile(r"^\| `([A-Z_]+)` \| `([^`]+)` \|")
 PART = re.compile(r"^\| `([^`]*[^`A-Z_][^`]*)` \| `(crates/[^`]+\.rt)` \|")
 
 
 def value_faults(document, number, line):
-    """Tests that the file gives the constant of a row its value, and that it has the expression of a row."""
+    """Tests that the code gives the constant of a row its value, and that a file has the expression of a row."""
     row = VALUE.match(line)
     if row:
-        name, path, value = row.groups()
-        found = re.findall(rf"\bconst {name}: \w+ = (.*);", text_of(ROOT / path))
-        yield unless(found == [value], f"{shown(document)}:{number}: {name} of {path} isn't {value}")
+        name, value = row.groups()
+        found = values().get(name)
+        yield unless(found == [value], f"{shown(document)}:{number}: {name} isn't {value}, but {found}")
     part = PART.match(line)
     if part:
         expression, path = part.groups()
         yield unless(expression in text_of(ROOT / path), f"{shown(document)}:{number}: {path} has no {expression}")
+
+
+@functools.cache
+def values():
+    """Returns the values that the code gives each constant, but in crates of tests: one, since constants have names of their own."""
+    found = {}
+    for path in source_files():
+        if not path.relative_to(ROOT / "crates").parts[0].endswith("_tests"):
+            for name, value in re.findall(r"(?m)^(?:pub(?:\([a-z]+\))? )?const ([A-Z][A-Z0-9_]*): [^=]+ = (.*);", text_of(path)):
+                found.setdefault(name, []).append(value)
+    return found
 
 
 def board_faults(document, number, line):
@@ -27,7 +39,7 @@ def board_faults(document, number, line):
 
 
 def constant_faults():
-    """Tests that each constant of the code has a name of its own, and each of a `tuning.rt` a row in docs/TUNING.md.
+    """Tests that each constant of the code has a name of its own, and that a comment above each of a `tuning.rt` says what it does.
 
     Crates of tests and associated constants of types may take the name of another one."""
     homes = {}
@@ -37,11 +49,12 @@ def constant_faults():
                 homes.setdefault(name, []).append(shown(path))
     for name, files in homes.items():
         yield unless(len(files) == 1, f"{' and '.join(files)}: constants of the name {name}")
-    table = text_of(ROOT / "docs/TUNING.md")
     for path in sorted(ROOT.glob("crates/*/src/tuning.rt")):
-        for name in re.findall(r"\bconst (\w+):", text_of(path)):
-            there = f"| `{name}` | `{shown(path)}` |" in table
-            yield unless(there, f"docs/TUNING.md: no row for {name} of {shown(path)}")
+        lines = lines_of(path)
+        for above, line in zip(lines, lines[1:], strict=False):
+            constant = re.match(r"(?:pub(?:\([a-z]+\))? )?const (\w+):", line)
+            if constant:
+                yield unless(above.startswith("/// "), f"{shown(path)}: no comment above {constant.group(1)}")
 
 
 def decision_faults():
