@@ -17,7 +17,7 @@ import sys
 TOP = os.path.dirname(os.path.dirname(os.path.abspath(__file__)))
 PAGE = "docs/LIBRARY.md"
 BLOCK = re.compile(r"^`([^`\n]+)`:\n\n```(\w+)\n(.*?)^```$", re.MULTILINE | re.DOTALL)
-LINE = re.compile(r"^Its line is `mine: ([^`\n]+)`\.\n\n`([^`\n]+)`:$", re.MULTILINE)
+LINE = re.compile(r"^The caller's line of `crates\.txt` is `mine: ([^`\n]+)`\.\n\n`([^`\n]+)`:$", re.MULTILINE)
 LINE_OF_LINKED = re.compile(r"\]\(\.\./([^)\n]+\.rt)\)[^\n]*; its line is `mine: ([^`\n]+)`")
 NOT_SHOWN = ("lib.rt",)
 LINKED_NAMES = ("analysis", "book_and_workers", "engine_cells", "game", "in_time", "own_sink", "shared_table")
