@@ -12,16 +12,14 @@
 //!       |
 //!     workers         each: draw a number -> search the item and its move, each new item announced -> reply
 //!       |               no number left -> search what is still open of the root's moves
-//!       |               all read and raise one floor, and meet in one table
-//!     replies         those of the workers; the caller searches the numbers left (announced)
-//!       |
-//!     combine         bounds of the boards after the root's moves, by workers and by replies; each raises the floor
+//!       |               all read and raise one floor, tell bounds of the root's moves, and meet in one table
+//!     told            these bounds and the floor: they settle each move, unless memory was refused
 //!       |
 //!     solve_moves     searches only what is neither exact nor strictly below the score
 //!
 //! By one worker the caller searches alone, by `solve_moves`, with no floor and no deques. Whoever is about to search
 //! an item for the first time announces it (`Announced`), however it came there; the items that no search needed come
-//! last.
+//! last. Replies are what `run_workers` returns; `solve` needs none.
 #![tactic(auto)]
 
 mod above_book;

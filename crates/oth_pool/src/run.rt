@@ -9,12 +9,10 @@ ghost use Rattle.oth_pool.specs.Working.{HasLists, AreGathered};
 
 use crate::draw_order::ranks;
 use crate::means::Means;
-use crate::work::{
-    collect_replies, duties_of, found_by_workers, hands_in, run_duties, told_by_all,
-};
+use crate::work::{collect_replies, duties_of, hands_in, run_duties, told_by_all};
 use oth_pieces::floor::Root;
 use oth_pieces::{Drawn, Floor, FloorSeat, Frontier, Reply, Tasks};
-use oth_search::{RootMove, RootMoves, Solved};
+use oth_search::{RootMoves, Solved};
 use oth_table::TableCells;
 use oth_walk::{
     Announced, Announcer, BoundsSeat, Gate, HintSeat, Hints, MoveBounds, RootBound, Search, Seats,
@@ -80,7 +78,7 @@ pub fn run_workers<'t, R: Threads + Sync, G: Gate>(
         bounds: &bounds,
         announced: &announced,
     };
-    let gathered = run(&means, &search, links, seat, table).0;
+    let gathered = run(&means, &search, links, seat, table);
     pass_over(&announced, &gathered.drawn, gate);
     gathered
 }
@@ -95,7 +93,7 @@ fn pass_over<G: Gate>(announced: &Announced, drawn: &Drawn, gate: &G) {
 }
 
 /// As `run_workers`, for a prepared search by workers that share `links`, with a floor as high as what is known of the
-/// root. Returns also what they found of the root's moves.
+/// root. What they find of the root's moves they tell the bounds of `links`.
 #[inline(never)]
 pub(crate) fn run<'w, 't, R: Threads + Sync, G: Gate>(
     means: &Means<'w, R, G>,
@@ -103,13 +101,13 @@ pub(crate) fn run<'w, 't, R: Threads + Sync, G: Gate>(
     links: Links<'w>,
     seat: &mut FloorSeat,
     table: &mut Option<TableCells<'t>>,
-) -> (Gathered, Vec<RootMove>)
+) -> Gathered
     requires seat { IsSeatOf links.floor.now seat.old }
     requires raised { links.root.now.interval.lower ≤ℤ floor_after seat.old.seen }
     ensures seat { LendsFloor seat.old seat.new }
     ensures table { LendsTable table.old table.new }
-    ensures gathered { AreGathered search.now.frontier.now search.now.scoring result.0 }
-    ensures lists { HasLists means.now.workers result.0.drawn }
+    ensures gathered { AreGathered search.now.frontier.now search.now.scoring result }
+    ensures lists { HasLists means.now.workers result.drawn }
 {
     let alloc = means.alloc;
     let ranks = ranks(search);
@@ -128,16 +126,15 @@ pub(crate) fn run<'w, 't, R: Threads + Sync, G: Gate>(
     ) else {
         let drawn = tasks.close(hands);
         let replies = Vec::new(alloc);
-        return (Gathered { drawn, replies }, Vec::new(alloc));
+        return Gathered { drawn, replies };
     };
     let duties = duties_of(alloc, search, hands, workers, duties);
     let duties = run_duties(means, search, &tasks, duties);
     let replies = collect_replies(duties.as_slice(), replies);
     let replies = told_by_all(duties.as_slice(), replies.as_slice(), told);
-    let found = found_by_workers(alloc, duties.as_slice());
     let hands = hands_in(room, duties);
     let drawn = tasks.close(hands);
-    (Gathered { drawn, replies }, found)
+    Gathered { drawn, replies }
 }
 
 /// Makes the hints that several workers share. None where there is one worker, which needs none, or no memory.
@@ -163,15 +160,14 @@ pub(crate) fn bounds_for<R, G>(means: &Means<R, G>, root: &Solved) -> Option<Mov
 
 // What is gathered where nobody drew anything: all items are left.
 #[inline(never)]
-fn nothing_drawn(alloc: Global, search: &Search) -> (Gathered, Vec<RootMove>)
-    ensures gathered { AreGathered search.now.frontier.now search.now.scoring result.0 }
-    ensures lists { lists_of result.0.drawn ≡ [] }
+fn nothing_drawn(alloc: Global, search: &Search) -> Gathered
+    ensures gathered { AreGathered search.now.frontier.now search.now.scoring result }
+    ensures lists { lists_of result.drawn ≡ [] }
 {
-    let gathered = Gathered {
+    Gathered {
         drawn: Drawn::nothing(alloc, search.frontier.len()),
         replies: Vec::new(alloc),
-    };
-    (gathered, Vec::new(alloc))
+    }
 }
 
 // Makes the workers, which have searched nothing yet. None where there is no memory for them or for their seats of the

@@ -11,20 +11,18 @@ ghost use Rattle.oth_pieces.specs.Watch.{IsSeatOf};
 use crate::above_book::{ask_higher, start_of_several};
 use crate::book_lookup::{answer_in, bounds_in, moves_by_book};
 use crate::means::Means;
-use crate::run::{Gathered, Links, bounds_for, hints_for, run};
+use crate::run::{Links, bounds_for, hints_for, run};
 use crate::tuning::{CREW_MIN_EMPTIES, cells_for};
-use crate::work::room_for;
 use oth_book::Book;
 use oth_pieces::{Floor, FloorSeat, Frontier, is_crew};
 use oth_rules::{Board, Scoring};
 use oth_search::{
-    Answer, Cells, Kind, MOST_EMPTIES, NoPeers, RootMove, RootMoves, Solved, backed_up_from,
-    before_pass, ended, is_few, solve_few, solve_moves,
+    Answer, Kind, MOST_EMPTIES, NoPeers, RootMoves, Solved, before_pass, ended, is_few, solve_few,
+    solve_moves,
 };
 use oth_table::{SharedTable, TableCells, is_size};
 use oth_walk::{
-    Alone, Announced, Announcer, BoundsSeat, Gate, HintSeat, RootBound, Search, Seats, Sharing,
-    Worker, search_item, worker_cells,
+    Alone, Announced, BoundsSeat, Gate, MoveBounds, RootBound, Search, Sharing, worker_cells,
 };
 use std::alloc::Global;
 use std::thread::Threads;
@@ -212,8 +210,8 @@ fn answer_alone<'t, R: Threads + Sync, G: Gate>(
     answer
 }
 
-// Returns the answer by what the workers find of the items and by the caller's search of what they left open. None
-// where there is no memory for a frontier or a floor.
+// Returns the answer by what the workers tell of the root's moves and by the caller's search of what they left open.
+// None where there is no memory for a frontier or a floor.
 #[inline(never)]
 fn answer_together<'t, R: Threads + Sync, G: Gate>(
     means: &Means<R, G>,
@@ -250,43 +248,28 @@ fn answer_together<'t, R: Threads + Sync, G: Gate>(
         gate: means.gate,
         workers: means.workers,
     };
-    let together = run(&means, &search, links, &mut seat, access);
-    let cells = worker_cells(alloc, by_book.board.empties(), sharing, access);
-    let seats = Seats {
-        root_bound: RootBound::of(&floor, seat),
-        hints: HintSeat::none(),
-        bounds: BoundsSeat::none(),
-        announcer: Announcer::of(alloc, &announced),
-    };
-    let worker = Worker::of(&search, alloc, cells, seats, means.gate);
-    let mut cells = take_in_found(alloc, &search, together, worker, &mut moves);
+    let _ = run(&means, &search, links, &mut seat, access);
+    take_in_told(&bounds, &mut moves);
+    moves.narrow_root(&RootBound::of(&floor, seat).root());
+    let mut cells = worker_cells(alloc, by_book.board.empties(), sharing, access);
     let mut alone = Alone::of(alloc, means.gate, &announced);
     let answer = solve_moves(moves, &mut cells, &mut alone);
     announced.finish(means.gate);
     Some(answer)
 }
 
-// Narrows the moves to what the workers found of them and of the items, and to what `worker`, the caller's own, finds
-// of the items that none took. Returns the cells that it searched over.
-fn take_in_found<G: Gate, C: Cells>(
-    alloc: Global,
-    search: &Search,
-    together: (Gathered, Vec<RootMove>),
-    mut worker: Worker<C, G>,
-    moves: &mut RootMoves,
-) -> C
+// Narrows the moves to what the workers told of them: all that they found, where there is memory for the bounds.
+fn take_in_told(bounds: &Option<MoveBounds>, moves: &mut RootMoves)
     ensures { moves.new ≡ moves.old }
 {
-    let (gathered, found) = together;
-    for root_move in found.as_slice() {
-        worker.update(root_move.square, &root_move.child);
+    let mut seat = BoundsSeat::of(bounds);
+    for place in 0..moves.len() {
+        if let Some(root_move) = moves.get(place) {
+            if let Some(told) = seat.hear(root_move.square) {
+                moves.narrow(place, &told);
+            }
+        }
     }
-    let replies = found_replies(alloc, search, &gathered, &mut worker);
-    take_in_items(search, replies.as_slice(), &mut worker);
-    moves.narrow_root(&worker.root());
-    let (cells, known) = worker.into_parts();
-    moves.take_in(known.as_slice());
-    cells
 }
 
 // Makes the frontier of the board on the heap, which leaves the stack to the search. None where there is no memory.
@@ -307,34 +290,4 @@ fn raised_floor(alloc: Global, by_book: &Solved) -> Option<(Floor, FloorSeat)>
     let (floor, mut seat) = Floor::new(alloc, &by_book.board, by_book.scoring).ok()?;
     floor.raise(&mut seat, by_book).ok()?;
     Some((floor, seat))
-}
-
-// Returns what the workers found of the items, and the caller of those that none took, as far as there is room for it.
-fn found_replies<G: Gate, C: Cells>(
-    alloc: Global,
-    search: &Search,
-    gathered: &Gathered,
-    worker: &mut Worker<C, G>,
-) -> Vec<Solved> {
-    let mut replies = room_for(alloc, search.frontier.len());
-    for reply in gathered.replies.as_slice() {
-        let _ = replies.push(reply.solved);
-    }
-    for number in gathered.drawn.left.as_slice() {
-        if let Some(item) = search.frontier.entry(*number) {
-            let _ = replies.push(search_item(search, *number, &item, worker));
-        }
-    }
-    replies
-}
-
-// Backs up what was found of the items to the board after each move that isn't settled, and gives it to the caller's
-// worker.
-fn take_in_items<G: Gate, C: Cells>(search: &Search, items: &[Solved], worker: &mut Worker<C, G>) {
-    for root_move in search.moves.as_slice() {
-        if !worker.is_settled(root_move.square) {
-            let found = backed_up_from(root_move.child.board, 1, items, search.scoring);
-            worker.update(root_move.square, &found);
-        }
-    }
 }

@@ -9,7 +9,7 @@ ghost use Rattle.oth_pool.specs.Working.{Holds, IsReplyOf, numbers_of, times_by}
 use crate::means::Means;
 use crate::workers::work_all;
 use oth_pieces::{Hand, Reply, Tasks};
-use oth_search::{Cells, RootMove};
+use oth_search::Cells;
 use oth_walk::{Gate, Search, Worker};
 use std::alloc::Global;
 use std::thread::Threads;
@@ -128,18 +128,6 @@ fn told_of<'w, G: Gate, C: Cells>(duties: &[Duty<'w, C, G>], reply: &Reply) -> R
         number: reply.number,
         solved,
     }
-}
-
-/// Returns what the workers found of the root's moves, as far as there is memory.
-pub(crate) fn found_by_workers<'w, C, G>(
-    alloc: Global,
-    duties: &[Duty<'w, C, G>],
-) -> Vec<RootMove> {
-    let mut found = Vec::new(alloc);
-    for duty in duties {
-        let _ = found.extend_from_slice(duty.worker.moves.as_slice());
-    }
-    found
 }
 
 /// Moves the hands of the duties into `room`.

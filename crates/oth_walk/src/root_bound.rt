@@ -42,7 +42,7 @@ impl<'f> RootBound<'f> {
     }
 
     /// The root with the floor as its lower bound.
-    pub(crate) fn root(&mut self) -> Solved {
+    pub fn root(&mut self) -> Solved {
         above(self.floor, &mut self.seat)
     }
 

@@ -92,11 +92,6 @@ impl<'w, C: Cells, G: Gate> Worker<'w, C, G> {
         self.peers.settled()
     }
 
-    /// The cells, and the root's moves, when nothing more is to be searched.
-    pub fn into_parts(self) -> (C, RootMoves) {
-        (self.cells, self.moves)
-    }
-
     /// Takes in bounds of the board after the root's move to this square: raises the floor by them, and tells the
     /// others if the move needs no further search.
     pub fn update(&mut self, square: Square, found: &Solved) {
