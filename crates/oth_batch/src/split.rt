@@ -79,33 +79,29 @@ impl Split {
         }
         let crew = (total / EFFORT_OF_A_THREAD).min(workers as u64);
         let most = total / crew.max(1);
+        let crew = crew as usize;
+        let split = Split { crew, asked, most };
         Split {
-            crew: count_to(asked, boards, most).min(crew as usize),
-            asked,
-            most,
+            crew: split.count(boards).min(crew),
+            ..split
         }
     }
 
     /// Whether one worker solves this board as a job. One that takes longer than a worker's share of the batch is left
     /// to all of them, and one of few empty squares to whoever asks for it.
     pub fn is_for_one(&self, board: &Board) -> bool {
-        is_for_one(self.asked, board, self.most)
+        let effort = effort(self.asked, board);
+        effort > 0 && effort <= self.most
     }
-}
 
-// Whether a job pays for the board, and its effort is at most `most`.
-fn is_for_one(asked: Asked, board: &Board, most: u64) -> bool {
-    let effort = effort(asked, board);
-    effort > 0 && effort <= most
-}
-
-// The number of boards for which a job pays, and whose effort is at most `most`.
-fn count_to(asked: Asked, boards: &[Board], most: u64) -> usize {
-    let mut count = 0usize;
-    for board in boards {
-        if is_for_one(asked, board, most) {
-            count = count.saturating_add(1);
+    // The number of boards that one worker solves as jobs.
+    fn count(&self, boards: &[Board]) -> usize {
+        let mut count = 0usize;
+        for board in boards {
+            if self.is_for_one(board) {
+                count = count.saturating_add(1);
+            }
         }
+        count
     }
-    count
 }

@@ -30,34 +30,29 @@ pub(crate) struct Spot {
 }
 
 impl Bundles {
-    // No bundles.
-    fn none(alloc: Global, asked: Asked) -> Bundles {
-        Bundles {
-            asked,
-            list: Vec::new(alloc),
-            next: AtomicU64::new(0),
-            turn: AtomicU64::new(0),
-        }
-    }
-
     /// Bundles of those of the boards that one worker solves and that are asked for in turn; the last one may be
     /// shorter. None where there is no memory.
     pub fn of(alloc: Global, asked: Asked, boards: &[Board], split: Split) -> Option<Bundles> {
-        let mut bundles = Bundles::none(alloc, asked);
+        let mut list = Vec::new(alloc);
         let mut bundle = BundleBoards::new();
         for board in boards {
             if is_asked_in_turn(asked, board) && split.is_for_one(board) {
                 bundle.try_push(*board).ok()?;
                 if bundle.is_full() {
-                    bundles.list.push(Bundle::of(bundle)).ok()?;
+                    list.push(Bundle::of(bundle)).ok()?;
                     bundle = BundleBoards::new();
                 }
             }
         }
         if !bundle.is_empty() {
-            bundles.list.push(Bundle::of(bundle)).ok()?;
+            list.push(Bundle::of(bundle)).ok()?;
         }
-        Some(bundles)
+        Some(Bundles {
+            asked,
+            list,
+            next: AtomicU64::new(0),
+            turn: AtomicU64::new(0),
+        })
     }
 
     /// The number of bundles.
