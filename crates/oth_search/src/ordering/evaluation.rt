@@ -10,7 +10,7 @@ use crate::tuning::{
     LOOKAHEAD_MIN_EMPTIES, LOOKAHEAD_THREE_MIN_EMPTIES, MARGIN, MOVE, OPEN_TO_MOVER,
     OPPOSING_X_SQUARE, STABLE_EDGE_DISC,
 };
-use oth_rules::{Board, NOT_H, Twin};
+use oth_rules::{Board, Twin};
 
 /// How well a board seems to stand for its mover, -6,400 to 6,400 points.
 #[derive(Clone, Copy)]
@@ -155,57 +155,46 @@ fn strength(board: &Board, moves: u64) -> u16
         + CORNER_MOVE * count(moves & CORNERS)
         + OPEN_TO_MOVER * count(around(board.opp()) & board.empty_squares())
         + CORNER_TAKEN * count(board.own() & CORNERS)
-        + STABLE_EDGE_DISC * count(stable_edge_discs(board.own()))
+        + STABLE_EDGE_DISC * stable_edge_discs(board.own())
         + OPPOSING_X_SQUARE * count(board.opp() & diagonal_to(board.empty_squares() & CORNERS))
 }
 
-// The first and the last row.
-const END_ROWS: u64 = 0xff00_0000_0000_00ff;
+// The squares of the column a.
+const COLUMN_A: u64 = 0x0101_0101_0101_0101;
 
-// The first square of each of them.
-const ROW_STARTS: u64 = 0x0100_0000_0000_0001;
+// Gathers the squares of the column a in the highest eight bits of a product.
+const COLUMN_FACTOR: u64 = 0x0102_0408_1020_4080;
 
-// The squares of the columns a and h.
-const END_COLUMNS: u64 = 0x8181_8181_8181_8181;
+// By the squares of an edge, a bit each: how many of them stand in a row from one of its ends, without a gap.
+static HELD_ALONG: [u8; 256] = [
+    0, 1, 0, 2, 0, 1, 0, 3, 0, 1, 0, 2, 0, 1, 0, 4, 0, 1, 0, 2, 0, 1, 0, 3, 0, 1, 0, 2, 0, 1, 0, 5,
+    0, 1, 0, 2, 0, 1, 0, 3, 0, 1, 0, 2, 0, 1, 0, 4, 0, 1, 0, 2, 0, 1, 0, 3, 0, 1, 0, 2, 0, 1, 0, 6,
+    0, 1, 0, 2, 0, 1, 0, 3, 0, 1, 0, 2, 0, 1, 0, 4, 0, 1, 0, 2, 0, 1, 0, 3, 0, 1, 0, 2, 0, 1, 0, 5,
+    0, 1, 0, 2, 0, 1, 0, 3, 0, 1, 0, 2, 0, 1, 0, 4, 0, 1, 0, 2, 0, 1, 0, 3, 0, 1, 0, 2, 0, 1, 0, 7,
+    1, 2, 1, 3, 1, 2, 1, 4, 1, 2, 1, 3, 1, 2, 1, 5, 1, 2, 1, 3, 1, 2, 1, 4, 1, 2, 1, 3, 1, 2, 1, 6,
+    1, 2, 1, 3, 1, 2, 1, 4, 1, 2, 1, 3, 1, 2, 1, 5, 1, 2, 1, 3, 1, 2, 1, 4, 1, 2, 1, 3, 1, 2, 1, 7,
+    2, 3, 2, 4, 2, 3, 2, 5, 2, 3, 2, 4, 2, 3, 2, 6, 2, 3, 2, 4, 2, 3, 2, 5, 2, 3, 2, 4, 2, 3, 2, 7,
+    3, 4, 3, 5, 3, 4, 3, 6, 3, 4, 3, 5, 3, 4, 3, 7, 4, 5, 4, 6, 4, 5, 4, 7, 5, 6, 5, 7, 6, 7, 7, 8,
+];
 
-// The squares of the set that stand without a gap in a row with a corner of the set, along an edge: discs there are
-// never flipped.
-fn stable_edge_discs(set: u64) -> u64 {
-    let corners = set & CORNERS;
-    if corners == 0 {
-        return 0;
-    }
-    let rows = set & END_ROWS;
-    let columns = set & END_COLUMNS;
-    let eastwards = rows & !rows.wrapping_add(ROW_STARTS);
-    eastwards
-        | westwards(corners, rows & NOT_H)
-        | northwards(corners, columns)
-        | southwards(corners, columns)
+// How many squares of the set stand without a gap in a row with a corner of the set, along an edge: discs there are
+// never flipped. A corner stands on two edges.
+fn stable_edge_discs(set: u64) -> u16
+    ensures { result ≤ 32 }
+{
+    let columns = [set & COLUMN_A, (set >> 7) & COLUMN_A];
+    let on_edges = held_along(set)
+        + held_along(set >> 56)
+        + held_along(columns[0].wrapping_mul(COLUMN_FACTOR) >> 56)
+        + held_along(columns[1].wrapping_mul(COLUMN_FACTOR) >> 56);
+    on_edges.saturating_sub(count(set & CORNERS))
 }
 
-// The squares of `from`, and those of the set that follow them to the west without a gap.
-fn westwards(from: u64, set: u64) -> u64 {
-    let one = from | (set & (from >> 1));
-    let pairs = set & (set >> 1);
-    let three = one | (pairs & (one >> 2));
-    three | (pairs & (pairs >> 2) & (three >> 4))
-}
-
-// As `westwards`, to the north.
-fn northwards(from: u64, set: u64) -> u64 {
-    let one = from | (set & (from >> 8));
-    let pairs = set & (set >> 8);
-    let three = one | (pairs & (one >> 16));
-    three | (pairs & (pairs >> 16) & (three >> 32))
-}
-
-// As `westwards`, to the south.
-fn southwards(from: u64, set: u64) -> u64 {
-    let one = from | (set & (from << 8));
-    let pairs = set & (set << 8);
-    let three = one | (pairs & (one << 16));
-    three | (pairs & (pairs << 16) & (three << 32))
+// How many squares of the edge that the lowest eight bits tell stand without a gap in a row from one of its ends.
+fn held_along(edge: u64) -> u16
+    ensures { result ≤ 8 }
+{
+    u16::from(HELD_ALONG[(edge & 255) as usize])
 }
 
 // The squares diagonal to these corners.

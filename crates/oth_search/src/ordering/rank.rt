@@ -69,15 +69,9 @@ fn points_in(set: u64, square: Square, points: u16) -> u16
     if set & square.word() != 0 { points } else { 0 }
 }
 
-/// The squares beside those of the set, in all eight directions.
+/// The squares of the set and those beside them, in all eight directions.
 pub fn around(set: u64) -> u64 {
     let inner = set & INNER;
-    (inner << 1)
-        | (inner >> 1)
-        | (set << 8)
-        | (set >> 8)
-        | (inner << 7)
-        | (inner >> 7)
-        | (inner << 9)
-        | (inner >> 9)
+    let rows = set | (inner << 1) | (inner >> 1);
+    rows | (rows << 8) | (rows >> 8)
 }
