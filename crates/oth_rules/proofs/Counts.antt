@@ -1,5 +1,5 @@
 -- How many squares a set has, and how the counts of a position change.
-use Rattle.std.proofs.Common.{◌≡◌, ℕ, zero, suc, ◌+◌, ◌*◌, ◌<◌, ◌^◌, Bool, true, false, not, cond, ◌&&◌, ◌||◌, List, [], ◌∷◌, ◌++◌, refl, sym, ap, ◌∙◌, inl, inr, arith}
+use Rattle.std.proofs.Common.{◌≡◌, ℕ, zero, suc, ◌+◌, ◌*◌, ◌<◌, ◌≤◌, ◌^◌, Bool, true, false, not, cond, ◌&&◌, ◌||◌, List, [], ◌∷◌, ◌++◌, refl, sym, ap, ◌∙◌, inl, inr, arith}
 use Rattle.std.specs.Prelude.{count_by, count_ones, ◌==◌, if◌then◌else◌}
 use Rattle.std.specs.Int.Count.{ones}
 use Rattle.std.specs.List.{list_any, range_with_len}
@@ -93,6 +93,18 @@ and_no false y e = refl
 pub and_keep : (x y : Bool) → y ≡ false → (x && not y) ≡ x
 and_keep true y e = ap not e
 and_keep false y e = refl
+
+pub count_upto-most : (n : ℕ) (f : ℕ → Bool) → count_upto n f ≤ n
+unfolding count_upto
+count_upto-most zero f = omega arith
+count_upto-most (suc n) f = more (f n) (count_upto n f) n (count_upto-most n f)
+  where
+    more : (b : Bool) (x m : ℕ) → x ≤ m → cond b 1 0 + x ≤ suc m
+    more true x m l = omega (arith, l)
+    more false x m l = omega (arith, l)
+
+pub count_most : (f : ℕ → Bool) → count_by f squares ≤ 64
+count_most f = omega (arith, count_by-squares f, count_upto-most 64 f)
 
 pub count_upto-without : (f : ℕ → Bool) (s n : ℕ) → s < n → f s ≡ true → count_upto n f ≡ suc (count_upto n (λ q. f q && not (q == s)))
 unfolding count_upto

@@ -1,24 +1,25 @@
--- The flips of a move to the only empty square, counted along the four lines through it.
-use Rattle.std.proofs.Common.{◌≡◌, ℕ, zero, suc, ◌+◌, ◌/◌, ◌%◌, ◌<◌, ◌≤◌, ◌^◌, Bool, true, false, cond, not, ◌&&◌, ◌||◌, List, [], ◌∷◌, ◌++◌, length, refl, sym, ap, subst, inl, inr, ◌∙◌, arith}
+-- The flips of a move to the only empty square by either side, counted along the four lines through it.
+use Rattle.std.proofs.Common.{◌≡◌, ℕ, zero, suc, ◌+◌, ◌*◌, ◌/◌, ◌%◌, ◌<◌, ◌≤◌, ◌^◌, Bool, true, false, cond, not, ◌&&◌, ◌||◌, List, [], ◌∷◌, ◌++◌, length, refl, sym, ap, subst, inl, inr, ◌∙◌, arith}
 use Rattle.std.specs.Prelude.{if◌then◌else◌, bit_and, nat_lt, ◌==◌, slice_index_or, map, count_by}
-use Rattle.std.specs.List.{list_any}
+use Rattle.std.specs.List.{list_any, list_all}
 use Rattle.std.proofs.lemmas.Bool.{cases_Bool, eqb-true, eq-eqb, ltb-true, and_parts, or_cases, agree_below, agree_below_at, false≢true}
 use Rattle.std.proofs.lemmas.Nat.{or_disjoint, and_le_l, and_le_r, pow_below}
 use Rattle.std.proofs.lemmas.List.{length-append, length-map}
+use Rattle.std.proofs.lemmas.List.Folds.{list_all_at}
 use Rattle.oth_rules.specs.Square.{Direction, Back, Stay, Forth, has, word_of, next, stepped, square_at, squares, directions, ray_from, ray, is_in}
-use Rattle.oth_rules.specs.Position.{Position, IsBoard, Cell, Mine, Theirs, Empty, cell, is_mine, is_theirs, is_empty, is_mine_cell}
-use Rattle.oth_rules.specs.Position.{is_theirs_cell, is_empty_cell, opposite_cell, mine_count, theirs_count}
+use Rattle.oth_rules.specs.Position.{Position, IsBoard, Cell, Mine, Theirs, Empty, cell, is_mine, is_theirs, is_empty, is_mine_cell, pass}
+use Rattle.oth_rules.specs.Position.{is_theirs_cell, is_empty_cell, opposite_cell, mine_count, theirs_count, empty_count}
 use Rattle.oth_rules.specs.Move.{outflanked, flipped_along, is_flipped, is_legal, after}
 use Rattle.oth_rules.specs.Line.{reversed}
 use Rattle.oth_rules.specs.LastMove.{IsLast, gathered}
-use Rattle.oth_rules.specs.declared.tables.line_counts.TheConstants.{LINE_COUNTS, LINE_FACTORS}
+use Rattle.oth_rules.specs.declared.tables.line_counts.TheConstants.{LINE_COUNTS, LINE_FACTORS, LINE_STARTS}
 use Rattle.oth_rules.specs.declared.tables.line_masks.TheConstants.{LINE_MASKS}
 use Rattle.oth_rules.proofs.Bits.{has-and, has-zero, has-pow, has-word_of, word_of-lt, is_word_of, word_of-same}
 use Rattle.oth_rules.proofs.Words.{or_word}
 use Rattle.oth_rules.proofs.Legal.{any_square, any_picks_square}
 use Rattle.oth_rules.proofs.Positions.{is_mine-has, cell-position_of, after-is}
 use Rattle.oth_rules.proofs.Rays.{front, is_closed, outflanked-is, in_front, and_false, or_true}
-use Rattle.oth_rules.proofs.Counts.{count_upto, count_by-squares, count_upto-same, count_upto-without, count_by-same, flipped_theirs, theirs_not_empty}
+use Rattle.oth_rules.proofs.Counts.{counts, count_upto, count_by-squares, count_upto-same, count_upto-without, count_by-same, flipped_theirs, theirs_not_empty, empty-pass}
 
 -- ---- lists of truth values
 
@@ -58,73 +59,89 @@ closed_in bs = if some bs then before bs else 0
 
 -- ---- the counts of the table, computed: for each square, all discs along a line
 
-unfoldable counts_right : ℕ → (ℕ → ℕ) → Direction → ℕ → Bool
-counts_right i place d s =
+-- what a move flips along both ends of a line: the mover's flips, and 256 times those of the other side if it moves there
+unfoldable both_closed : List Bool → List Bool → ℕ
+both_closed xs ys = (closed_in xs + closed_in ys) + 256 * (closed_in (map not xs) + closed_in (map not ys))
+
+-- the look at the table for these discs of a line
+abbrev look : ℕ → ℕ → ℕ → ℕ
+look i s discs =
+    slice_index_or LINE_COUNTS (slice_index_or (slice_index_or LINE_STARTS s []) i 0 + gathered discs (slice_index_or (slice_index_or LINE_FACTORS s []) i 0)) 0
+
+unfoldable counts_right : ℕ → Direction → ℕ → Bool
+counts_right i d s =
     let up = ray d s in
     let down = ray (reversed d) s in
     let factor = slice_index_or (slice_index_or LINE_FACTORS s []) i 0 in
-    let counts = slice_index_or LINE_COUNTS (place s) [] in
-    every (length up) (λ xs. every (length down) (λ ys. slice_index_or counts (gathered (picked xs up + picked ys down) factor) 0 == closed_in xs + closed_in ys))
+    let start = slice_index_or (slice_index_or LINE_STARTS s []) i 0 in
+    every (length up) (λ xs. every (length down) (λ ys. slice_index_or LINE_COUNTS (start + gathered (picked xs up + picked ys down) factor) 0 == both_closed xs ys))
 
-abbrev column_of : ℕ → ℕ
-column_of s = s % 8
-
-abbrev row_of : ℕ → ℕ
-row_of s = s / 8
-
-rows_right : agree_below (counts_right 0 column_of (record { columns = Forth; rows = Stay })) (λ _. true) 64 ≡ true
-unfolding counts_right every picked before some closed_in ray ray_from next stepped square_at
+rows_right : agree_below (counts_right 0 (record { columns = Forth; rows = Stay })) (λ _. true) 64 ≡ true
+unfolding counts_right every picked before some closed_in both_closed ray ray_from next stepped square_at
 rows_right = refl
 
-falling_right : agree_below (counts_right 1 column_of (record { columns = Forth; rows = Forth })) (λ _. true) 64 ≡ true
-unfolding counts_right every picked before some closed_in ray ray_from next stepped square_at
+falling_right : agree_below (counts_right 1 (record { columns = Forth; rows = Forth })) (λ _. true) 64 ≡ true
+unfolding counts_right every picked before some closed_in both_closed ray ray_from next stepped square_at
 falling_right = refl
 
-columns_right : agree_below (counts_right 2 row_of (record { columns = Stay; rows = Forth })) (λ _. true) 64 ≡ true
-unfolding counts_right every picked before some closed_in ray ray_from next stepped square_at
+columns_right : agree_below (counts_right 2 (record { columns = Stay; rows = Forth })) (λ _. true) 64 ≡ true
+unfolding counts_right every picked before some closed_in both_closed ray ray_from next stepped square_at
 columns_right = refl
 
-rising_right : agree_below (counts_right 3 column_of (record { columns = Back; rows = Forth })) (λ _. true) 64 ≡ true
-unfolding counts_right every picked before some closed_in ray ray_from next stepped square_at
+rising_right : agree_below (counts_right 3 (record { columns = Back; rows = Forth })) (λ _. true) 64 ≡ true
+unfolding counts_right every picked before some closed_in both_closed ray ray_from next stepped square_at
 rising_right = refl
 
-counts_at : (i : ℕ) (place : ℕ → ℕ) (d : Direction) (s : ℕ) (g : ℕ → Bool) → agree_below (counts_right i place d) (λ _. true) 64 ≡ true → s < 64 →
-    slice_index_or (slice_index_or LINE_COUNTS (place s) [])
-    (gathered (picked (map g (ray d s)) (ray d s) + picked (map g (ray (reversed d) s)) (ray (reversed d) s)) (slice_index_or (slice_index_or LINE_FACTORS s []) i 0))
-    0
-    ≡ closed_in (map g (ray d s)) + closed_in (map g (ray (reversed d) s))
+counts_at : (i : ℕ) (d : Direction) (s : ℕ) (g : ℕ → Bool) → agree_below (counts_right i d) (λ _. true) 64 ≡ true → s < 64 →
+    look i s (picked (map g (ray d s)) (ray d s) + picked (map g (ray (reversed d) s)) (ray (reversed d) s))
+    ≡ both_closed (map g (ray d s)) (map g (ray (reversed d) s))
 unfolding counts_right
-counts_at i place d s g computed l =
+counts_at i d s g computed l =
     let up = ray d s in
     let down = ray (reversed d) s in
     let factor = slice_index_or (slice_index_or LINE_FACTORS s []) i 0 in
-    let counts = slice_index_or LINE_COUNTS (place s) [] in
+    let start = slice_index_or (slice_index_or LINE_STARTS s []) i 0 in
     let xs = map g up in
     let ys = map g down in
-    eqb-true (slice_index_or counts (gathered (picked xs up + picked ys down) factor) 0) (closed_in xs + closed_in ys)
-    (every-map g down (λ zs. slice_index_or counts (gathered (picked xs up + picked zs down) factor) 0 == closed_in xs + closed_in zs)
-    (every-map g up (λ zs. every (length down) (λ ys. slice_index_or counts (gathered (picked zs up + picked ys down) factor) 0 == closed_in zs + closed_in ys))
-    (agree_below_at (counts_right i place d) (λ _. true) 64 s computed l)))
+    eqb-true (slice_index_or LINE_COUNTS (start + gathered (picked xs up + picked ys down) factor) 0) (both_closed xs ys)
+    (every-map g down (λ zs. slice_index_or LINE_COUNTS (start + gathered (picked xs up + picked zs down) factor) 0 == both_closed xs zs)
+    (every-map g up (λ zs. every (length down) (λ ys. slice_index_or LINE_COUNTS (start + gathered (picked zs up + picked ys down) factor) 0 == both_closed zs ys))
+    (agree_below_at (counts_right i d) (λ _. true) 64 s computed l)))
 
--- no count is above 6
+-- no side has more than 6 flips along a line
 
-count_small : ℕ → ℕ → Bool
-count_small place m = nat_lt (slice_index_or (slice_index_or LINE_COUNTS place []) m 0) 7
+is_small : ℕ → Bool
+is_small n = nat_lt n 1543
 
-row_small : ℕ → Bool
-row_small place = agree_below (count_small place) (λ _. true) 256
-
-all_small : agree_below row_small (λ _. true) 8 ≡ true
-unfolding row_small count_small
+all_small : list_all is_small LINE_COUNTS ≡ true
+unfolding is_small
 all_small = refl
 
-pub counted_most : (place discs factor : ℕ) → place < 8 → slice_index_or (slice_index_or LINE_COUNTS place []) (gathered discs factor) 0 ≤ 6
-unfolding row_small count_small
-counted_most place discs factor l =
-    let m = gathered discs factor in
-    let at = ltb-true (slice_index_or (slice_index_or LINE_COUNTS place []) m 0) 7
-    (agree_below_at (count_small place) (λ _. true) 256 m (agree_below_at row_small (λ _. true) 8 place all_small l) (omega arith)) in
-    omega (arith, at)
+pub counted_most : (start discs factor : ℕ) → start ≤ 2506 → slice_index_or LINE_COUNTS (start + gathered discs factor) 0 ≤ 1542
+unfolding is_small
+counted_most start discs factor l =
+    let m = start + gathered discs factor in
+    elim (cases_Bool (is_small (slice_index_or LINE_COUNTS m 0))) [
+      | inl small ↦ let at = ltb-true (slice_index_or LINE_COUNTS m 0) 1543 small in omega (arith, at)
+      | inr large ↦ absurd (false≢true (sym (list_all_at is_small LINE_COUNTS m 0 (omega (arith, l)) large) ∙ all_small))
+    ]
+
+starts_fit : ℕ → Bool
+starts_fit s = list_all (λ n. nat_lt n 2507) (slice_index_or LINE_STARTS s [])
+
+all_fit : agree_below starts_fit (λ _. true) 64 ≡ true
+unfolding starts_fit
+all_fit = refl
+
+-- each line's counts stand in the table
+pub start_fits : (starts : List ℕ) (s i : ℕ) → s < 64 → i < length starts → starts ≡ slice_index_or LINE_STARTS s [] → slice_index_or starts i 0 ≤ 2506
+unfolding starts_fit
+start_fits starts s i l k e =
+    elim (cases_Bool (nat_lt (slice_index_or starts i 0) 2507)) [
+      | inl small ↦ let at = ltb-true (slice_index_or starts i 0) 2507 small in omega (arith, at)
+      | inr large ↦ absurd (false≢true (sym (list_all_at (λ n. nat_lt n 2507) starts i 0 k large) ∙ ap (list_all (λ n. nat_lt n 2507)) e
+          ∙ agree_below_at starts_fit (λ _. true) 64 s all_fit l))
+    ]
 
 -- ---- the squares of a line are apart
 
@@ -355,27 +372,76 @@ closed_outflanked p line f =
     ∙ ap (λ n. if is_closed p line then n else 0) (before_front p line f)
     ∙ sym (ap length (outflanked-is p line) ∙ length_if (is_closed p line) (front p line))
 
--- the count of the table, for a line and the board's discs
-counted_line : (i : ℕ) (place : ℕ → ℕ) (d : Direction) (p : Position) (s : ℕ) → agree_below (counts_right i place d) (λ _. true) 64 ≡ true
-    → agree_below (mask_right i d) (λ _. true) 64 ≡ true → IsBoard p → IsLast p s →
-    slice_index_or (slice_index_or LINE_COUNTS (place s) []) (gathered (bit_and p.own (slice_index_or (slice_index_or LINE_MASKS s []) i 0)) (slice_index_or (slice_index_or LINE_FACTORS s []) i 0)) 0
-    ≡ length (flipped_along p s d) + length (flipped_along p s (reversed d))
-unfolding flipped_along
-counted_line i place d p s counts masks b last =
-    ap (λ w. slice_index_or (slice_index_or LINE_COUNTS (place s) []) (gathered w (slice_index_or (slice_index_or LINE_FACTORS s []) i 0)) 0) (masked i d s p.own masks last.on_board b.own_fits)
-    ∙ counts_at i place d s (has p.own) counts last.on_board
-    ∙ ap (λ n. n + closed_in (map (has p.own) (ray (reversed d) s)))
-    (closed_outflanked p (ray d s) (λ q h. full q (in_append (ray d s) (ray (reversed d) s) q ∙ ap (λ x. x || is_in (ray (reversed d) s) q) h)))
-    ∙ ap (λ n. length (outflanked p (ray d s)) + n)
-    (closed_outflanked p (ray (reversed d) s) (λ q h. full q (in_append (ray d s) (ray (reversed d) s) q ∙ or_true (is_in (ray d s) q) (is_in (ray (reversed d) s) q) h)))
+-- the other side's discs are those that are not the mover's
+others_mine : (f g : ℕ → Bool) (line : List ℕ) → ((q : ℕ) → is_in line q ≡ true → not (f q) ≡ g q) → map not (map f line) ≡ map g line
+others_mine f g [] h = refl
+others_mine f g (q ∷ rest) h =
+    ap (λ b. b ∷ map not (map f rest)) (h q (in_first q rest))
+    ∙ ap (λ bs. g q ∷ bs) (others_mine f g rest (λ t k. h t (in_rest q rest t k)))
+
+mine_opposite : (c : Cell) → is_mine_cell (opposite_cell c) ≡ is_theirs_cell c
+unfolding is_mine_cell is_theirs_cell opposite_cell
+mine_opposite Mine = refl
+mine_opposite Theirs = refl
+mine_opposite Empty = refl
+
+mine_pass : (p : Position) (q : ℕ) → q < 64 → is_mine (pass p) q ≡ is_theirs p q
+unfolding pass is_mine is_theirs
+mine_pass p q l = ap is_mine_cell (cell-position_of (λ s. opposite_cell (cell p s)) q l) ∙ mine_opposite (cell p q)
+
+pub last_pass : (p : Position) (s : ℕ) → IsLast p s → IsLast (pass p) s
+last_pass p s last = record {
+  on_board = last.on_board;
+  empty = empty-pass p s last.on_board ∙ last.empty;
+  only = λ t l e. last.only t l (sym (empty-pass p t l) ∙ e);
+}
+
+full_line : (p : Position) (s : ℕ) (line : List ℕ) → IsLast p s → ((q : ℕ) → is_in line q ≡ true → (q < 64) × ((q == s) ≡ false)) → IsFull p line
+full_line p s line last there q h =
+    let at = there q h in
+    full_square p q (elim (cases_Bool (is_empty p q)) [
+      | inl e ↦ absurd (false≢true (sym at.1 ∙ eq-eqb q s (last.only q at.0 e)))
+      | inr e ↦ e
+    ])
+
+closed_passed : (p : Position) (s : ℕ) (line : List ℕ) → IsLast p s → ((q : ℕ) → is_in line q ≡ true → (q < 64) × ((q == s) ≡ false))
+    → closed_in (map not (map (has p.own) line)) ≡ length (outflanked (pass p) line)
+closed_passed p s line last there =
+    ap closed_in (others_mine (has p.own) (has (pass p).own) line other)
+    ∙ closed_outflanked (pass p) line (full_line (pass p) s line (last_pass p s last) there)
   where
-    full : (q : ℕ) → is_in (ray d s ++ ray (reversed d) s) q ≡ true → is_theirs p q ≡ not (is_mine p q)
-    full q h =
-        let at = line_others i d s q masks last.on_board h in
-        full_square p q (elim (cases_Bool (is_empty p q)) [
-          | inl e ↦ absurd (false≢true (sym at.1 ∙ eq-eqb q s (last.only q at.0 e)))
-          | inr e ↦ e
-        ])
+    other : (q : ℕ) → is_in line q ≡ true → not (has p.own q) ≡ has (pass p).own q
+    other q h =
+        ap not (sym (is_mine-has p q)) ∙ sym (full_line p s line last there q h) ∙ sym (mine_pass p q (there q h).0)
+        ∙ is_mine-has (pass p) q
+
+-- the look at the table, for a line and the board's discs
+counted_line : (i : ℕ) (d : Direction) (p : Position) (s : ℕ) → agree_below (counts_right i d) (λ _. true) 64 ≡ true
+    → agree_below (mask_right i d) (λ _. true) 64 ≡ true → IsBoard p → IsLast p s →
+    look i s (bit_and p.own (slice_index_or (slice_index_or LINE_MASKS s []) i 0))
+    ≡ (length (flipped_along p s d) + length (flipped_along p s (reversed d))) + 256 * (length (flipped_along (pass p) s d) + length (flipped_along (pass p) s (reversed d)))
+unfolding flipped_along both_closed
+counted_line i d p s counts masks b last =
+    ap (look i s) (masked i d s p.own masks last.on_board b.own_fits)
+    ∙ counts_at i d s (has p.own) counts last.on_board
+    ∙ of_both (closed_outflanked p up (full_line p s up last in_up)) (closed_outflanked p down (full_line p s down last in_down))
+    (closed_passed p s up last in_up) (closed_passed p s down last in_down)
+  where
+    up : List ℕ
+    up = ray d s
+
+    down : List ℕ
+    down = ray (reversed d) s
+
+    in_up : (q : ℕ) → is_in (ray d s) q ≡ true → (q < 64) × ((q == s) ≡ false)
+    in_up q h = line_others i d s q masks last.on_board (in_append (ray d s) (ray (reversed d) s) q ∙ ap (λ x. x || is_in (ray (reversed d) s) q) h)
+
+    in_down : (q : ℕ) → is_in (ray (reversed d) s) q ≡ true → (q < 64) × ((q == s) ≡ false)
+    in_down q h = line_others i d s q masks last.on_board
+        (in_append (ray d s) (ray (reversed d) s) q ∙ or_true (is_in (ray d s) q) (is_in (ray (reversed d) s) q) h)
+
+    of_both : {a b c e a' b' c' e' : ℕ} → a ≡ a' → b ≡ b' → c ≡ c' → e ≡ e' → (a + b) + 256 * (c + e) ≡ (a' + b') + 256 * (c' + e')
+    of_both ha hb hc he = omega (arith, ha, hb, hc, he)
 
 -- ---- the flips of all directions together
 
@@ -513,44 +579,57 @@ unfolding joined lengths
 joined_length f [] = refl
 joined_length f (d ∷ ds) = length-append (f d) (joined f ds) ∙ ap (λ n. length (f d) + n) (joined_length f ds)
 
--- the four counts together
-pub last_flips : (p : Position) (s : ℕ) → IsBoard p → IsLast p s → (masks factors : List ℕ) (a b c d : ℕ) → masks ≡ slice_index_or LINE_MASKS s [] → factors ≡ slice_index_or LINE_FACTORS s [] →
-    a ≡ slice_index_or (slice_index_or LINE_COUNTS (s % 8) []) (gathered (bit_and p.own (slice_index_or masks 0 0)) (slice_index_or factors 0 0)) 0 →
-    b ≡ slice_index_or (slice_index_or LINE_COUNTS (s % 8) []) (gathered (bit_and p.own (slice_index_or masks 1 0)) (slice_index_or factors 1 0)) 0 →
-    c ≡ slice_index_or (slice_index_or LINE_COUNTS (s / 8) []) (gathered (bit_and p.own (slice_index_or masks 2 0)) (slice_index_or factors 2 0)) 0 →
-    d ≡ slice_index_or (slice_index_or LINE_COUNTS (s % 8) []) (gathered (bit_and p.own (slice_index_or masks 3 0)) (slice_index_or factors 3 0)) 0 →
-    a + b + c + d ≡ count_by (is_flipped p s) squares
+-- the flips of a side, line by line
+flips_by_line : (p : Position) (s : ℕ) → s < 64 → is_empty p s ≡ true →
+    count_by (is_flipped p s) squares
+    ≡ (length (flipped_along p s (record { columns = Forth; rows = Stay })) + length (flipped_along p s (record { columns = Back; rows = Stay })))
+    + (length (flipped_along p s (record { columns = Forth; rows = Forth })) + length (flipped_along p s (record { columns = Back; rows = Back })))
+    + (length (flipped_along p s (record { columns = Stay; rows = Forth })) + length (flipped_along p s (record { columns = Stay; rows = Back })))
+    + (length (flipped_along p s (record { columns = Back; rows = Forth })) + length (flipped_along p s (record { columns = Forth; rows = Back })))
 unfolding lengths directions
-last_flips p s board last masks factors a b c d em ef ea eb ec ed =
+flips_by_line p s l e =
     let f : Direction → ℕ = λ d. length (flipped_along p s d) in
-    let row = counted_line 0 column_of (record { columns = Forth; rows = Stay }) p s rows_right row_masks board last in
-    let falling = counted_line 1 column_of (record { columns = Forth; rows = Forth }) p s falling_right falling_masks board last in
-    let column = counted_line 2 row_of (record { columns = Stay; rows = Forth }) p s columns_right column_masks board last in
-    let rising = counted_line 3 column_of (record { columns = Back; rows = Forth }) p s rising_right rising_masks board last in
-    let all = flips_count p s last.on_board last.empty ∙ joined_length (flipped_along p s) directions in
-    together a b c d (f (record { columns = Stay; rows = Back })) (f (record { columns = Forth; rows = Back })) (f (record { columns = Forth; rows = Stay }))
+    together (f (record { columns = Stay; rows = Back })) (f (record { columns = Forth; rows = Back })) (f (record { columns = Forth; rows = Stay }))
     (f (record { columns = Forth; rows = Forth }))
     (f (record { columns = Stay; rows = Forth })) (f (record { columns = Back; rows = Forth })) (f (record { columns = Back; rows = Stay })) (f (record { columns = Back; rows = Back }))
     (count_by (is_flipped p s) squares)
-    (ea ∙ ap (λ m. slice_index_or (slice_index_or LINE_COUNTS (s % 8) []) (gathered (bit_and p.own (slice_index_or m 0 0)) (slice_index_or factors 0 0)) 0) em
-    ∙ ap (λ m. slice_index_or (slice_index_or LINE_COUNTS (s % 8) []) (gathered (bit_and p.own (slice_index_or (slice_index_or LINE_MASKS s []) 0 0)) (slice_index_or m 0 0)) 0) ef ∙ row)
-    (eb ∙ ap (λ m. slice_index_or (slice_index_or LINE_COUNTS (s % 8) []) (gathered (bit_and p.own (slice_index_or m 1 0)) (slice_index_or factors 1 0)) 0) em
-    ∙ ap (λ m. slice_index_or (slice_index_or LINE_COUNTS (s % 8) []) (gathered (bit_and p.own (slice_index_or (slice_index_or LINE_MASKS s []) 1 0)) (slice_index_or m 1 0)) 0) ef ∙ falling)
-    (ec ∙ ap (λ m. slice_index_or (slice_index_or LINE_COUNTS (s / 8) []) (gathered (bit_and p.own (slice_index_or m 2 0)) (slice_index_or factors 2 0)) 0) em
-    ∙ ap (λ m. slice_index_or (slice_index_or LINE_COUNTS (s / 8) []) (gathered (bit_and p.own (slice_index_or (slice_index_or LINE_MASKS s []) 2 0)) (slice_index_or m 2 0)) 0) ef ∙ column)
-    (ed ∙ ap (λ m. slice_index_or (slice_index_or LINE_COUNTS (s % 8) []) (gathered (bit_and p.own (slice_index_or m 3 0)) (slice_index_or factors 3 0)) 0) em
-    ∙ ap (λ m. slice_index_or (slice_index_or LINE_COUNTS (s % 8) []) (gathered (bit_and p.own (slice_index_or (slice_index_or LINE_MASKS s []) 3 0)) (slice_index_or m 3 0)) 0) ef ∙ rising)
-    all
+    (flips_count p s l e ∙ joined_length (flipped_along p s) directions)
   where
-    together : (a b c d n ne e se s sw w nw all : ℕ) → a ≡ e + w → b ≡ se + nw → c ≡ s + n → d ≡ sw + ne → all ≡ n + (ne + (e + (se + (s + (sw + (w + (nw + 0))))))) → a + b + c + d ≡ all
-    together a b c d n ne e se s sw w nw all ea eb ec ed h = omega (arith, ea, eb, ec, ed, h)
+    together : (n ne e se s sw w nw all : ℕ) → all ≡ n + (ne + (e + (se + (s + (sw + (w + (nw + 0))))))) → all ≡ (e + w) + (se + nw) + (s + n) + (sw + ne)
+    together n ne e se s sw w nw all h = omega (arith, h)
 
--- the same count under other names of the numbers
-pub count_same : (x own own' place place' mask factor : ℕ) → x ≡ slice_index_or (slice_index_or LINE_COUNTS place []) (gathered (bit_and own mask) factor) 0 → own ≡ own' → place ≡ place' →
-    x ≡ slice_index_or (slice_index_or LINE_COUNTS place' []) (gathered (bit_and own' mask) factor) 0
-count_same x own own' place place' mask factor e eo ep =
-    e ∙ ap (λ o. slice_index_or (slice_index_or LINE_COUNTS place []) (gathered (bit_and o mask) factor) 0) eo
-    ∙ ap (λ k. slice_index_or (slice_index_or LINE_COUNTS k []) (gathered (bit_and own' mask) factor) 0) ep
+-- the four looks together
+pub last_flips : (p : Position) (s : ℕ) → IsBoard p → IsLast p s → (own : ℕ) → own ≡ p.own → (masks factors starts : List ℕ) →
+    masks ≡ slice_index_or LINE_MASKS s [] → factors ≡ slice_index_or LINE_FACTORS s [] → starts ≡ slice_index_or LINE_STARTS s [] → (a b c d : ℕ) →
+    a ≡ slice_index_or LINE_COUNTS (slice_index_or starts 0 0 + gathered (bit_and own (slice_index_or masks 0 0)) (slice_index_or factors 0 0)) 0 →
+    b ≡ slice_index_or LINE_COUNTS (slice_index_or starts 1 0 + gathered (bit_and own (slice_index_or masks 1 0)) (slice_index_or factors 1 0)) 0 →
+    c ≡ slice_index_or LINE_COUNTS (slice_index_or starts 2 0 + gathered (bit_and own (slice_index_or masks 2 0)) (slice_index_or factors 2 0)) 0 →
+    d ≡ slice_index_or LINE_COUNTS (slice_index_or starts 3 0 + gathered (bit_and own (slice_index_or masks 3 0)) (slice_index_or factors 3 0)) 0 →
+    a + b + c + d ≡ count_by (is_flipped p s) squares + 256 * count_by (is_flipped (pass p) s) squares
+last_flips p s board last own eo masks factors starts em ef es a b c d ea eb ec ed =
+    let row = of_line 0 (record { columns = Forth; rows = Stay }) a rows_right row_masks ea in
+    let falling = of_line 1 (record { columns = Forth; rows = Forth }) b falling_right falling_masks eb in
+    let column = of_line 2 (record { columns = Stay; rows = Forth }) c columns_right column_masks ec in
+    let rising = of_line 3 (record { columns = Back; rows = Forth }) d rising_right rising_masks ed in
+    let mover = flips_by_line p s last.on_board last.empty in
+    let passed = last_pass p s last in
+    let other = flips_by_line (pass p) s passed.on_board passed.empty in
+    omega (arith, row, falling, column, rising, mover, other)
+  where
+    of_line : (i : ℕ) (d : Direction) (x : ℕ) → agree_below (counts_right i d) (λ _. true) 64 ≡ true → agree_below (mask_right i d) (λ _. true) 64 ≡ true
+        → x ≡ slice_index_or LINE_COUNTS (slice_index_or starts i 0 + gathered (bit_and own (slice_index_or masks i 0)) (slice_index_or factors i 0)) 0
+        → x ≡ (length (flipped_along p s d) + length (flipped_along p s (reversed d))) + 256 * (length (flipped_along (pass p) s d) + length (flipped_along (pass p) s (reversed d)))
+    of_line i d x counts right e =
+        e
+        ∙ ap (λ m. slice_index_or LINE_COUNTS (slice_index_or m i 0 + gathered (bit_and own (slice_index_or masks i 0)) (slice_index_or factors i 0)) 0) es
+        ∙ ap (λ m. slice_index_or LINE_COUNTS (slice_index_or (slice_index_or LINE_STARTS s []) i 0 + gathered (bit_and own (slice_index_or masks i 0)) (slice_index_or m i 0)) 0) ef
+        ∙ ap (λ m. look i s (bit_and own (slice_index_or m i 0))) em
+        ∙ ap (λ w. look i s (bit_and w (slice_index_or (slice_index_or LINE_MASKS s []) i 0))) eo
+        ∙ counted_line i d p s counts right board last
+
+-- the mover flips fewer than 256 discs, so the bytes are apart
+pub parts_of : (x m n : ℕ) → x ≡ m + 256 * n → m ≤ 64 → (x % 256 ≡ m) × (x / 256 ≡ n)
+parts_of x m n e l = (omega (arith, e, l), omega (arith, e, l))
 
 -- no square passes a test just where none is counted
 none_counted : (f : ℕ → Bool) → count_by f squares ≡ 0 → list_any f squares ≡ false
@@ -643,3 +722,24 @@ discs_after p s l e =
       | inl f ↦ absurd (false≢true (sym (theirs_not_empty p q (flipped_theirs p s q f)) ∙ ap (is_empty p) same ∙ e))
       | inr f ↦ f
     ]
+
+-- ---- the discs before the last move
+
+none_but : (e : Bool) (s q : ℕ) → (e ≡ true → q ≡ s) → (e && not (q == s)) ≡ false
+none_but true s q h = ap not (eq-eqb q s (h refl))
+none_but false s q h = refl
+
+one_empty : (p : Position) (s : ℕ) → IsLast p s → empty_count p ≡ 1
+unfolding empty_count
+one_empty p s last =
+    count_by-squares (is_empty p)
+    ∙ count_upto-without (is_empty p) s 64 last.on_board last.empty
+    ∙ ap suc (count_upto-same (λ q. is_empty p q && not (q == s)) (λ _. false) 64 (λ q l. none_but (is_empty p q) s q (last.only q l)) ∙ count_none 64)
+
+mine_count-pass : (p : Position) → mine_count (pass p) ≡ theirs_count p
+unfolding mine_count theirs_count
+mine_count-pass p = count_by-same (is_mine (pass p)) (is_theirs p) (mine_pass p)
+
+-- both sides have 63 discs
+pub last_discs : (p : Position) (s : ℕ) → IsLast p s → mine_count p + mine_count (pass p) ≡ 63
+last_discs p s last = omega (arith, counts p, one_empty p s last, mine_count-pass p)

@@ -3,7 +3,7 @@ ghost use Rattle.std.specs.Prelude.{◌≡◌, ◌≢◌, ◌<◌, ◌↔◌, �
 ghost use Rattle.oth_rules.specs.Square.{has};
 
 use crate::masks::{FALLING, RISING};
-use crate::tables::{LINE_FACTORS, LINE_MASKS};
+use crate::tables::{LINE_FACTORS, LINE_MASKS, LINE_STARTS};
 use std::marker::Model;
 
 /// A square by its number 0 to 63, which is `8 * row + column`: a1 is 0, h1 is 7, a8 is 56, h8 is 63.
@@ -101,5 +101,13 @@ impl Square {
         ensures below { self < 64 }
     {
         &LINE_FACTORS[self.number as usize]
+    }
+
+    // Where the counts of these lines begin.
+    pub(crate) fn line_starts(self) -> &'static [u16; 4]
+        ensures value { result.now ≡ slice_index_or LINE_STARTS self [] }
+        ensures below { self < 64 }
+    {
+        &LINE_STARTS[self.number as usize]
     }
 }

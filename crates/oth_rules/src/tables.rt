@@ -6,6 +6,6 @@ mod line_counts;
 mod line_masks;
 mod twin_rays;
 
-pub use line_counts::{LINE_COUNTS, LINE_FACTORS};
+pub use line_counts::{LINE_COUNTS, LINE_FACTORS, LINE_STARTS};
 pub use line_masks::LINE_MASKS;
 pub use twin_rays::{TWIN_RAYS, TWIN_SQUARES};

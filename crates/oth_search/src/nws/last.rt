@@ -1,11 +1,9 @@
 //! Searches of boards with at most four empty squares, square by square.
-ghost use Rattle.std.specs.Prelude.{◌≡◌, ◌<◌, ◌↔◌, ℕ, neg_ℤ, false, List, [], ◌∷◌, IfSome, IsSome};
+ghost use Rattle.std.specs.Prelude.{◌≡◌, ◌≢◌, ◌<◌, ◌%◌, ◌/◌, ◌-ℤ◌, ℕ, pos, neg_ℤ, false, List, [], ◌∷◌, IfSome};
 ghost use Rattle.oth_rules.specs.Square.{word_of};
 ghost use Rattle.oth_rules.specs.Position.{is_empty};
-ghost use Rattle.oth_rules.specs.Move.{after, can_move};
-ghost use Rattle.oth_rules.specs.Laws.{IsLegal};
+ghost use Rattle.oth_rules.specs.Move.{can_move};
 ghost use Rattle.oth_rules.specs.Score.{score_of};
-ghost use Rattle.oth_rules.specs.declared.scoring.Scoring.{Scoring as ScoringBy};
 ghost use Rattle.oth_rules.specs.Value.{value};
 ghost use Rattle.oth_search.specs.Bounds.Interval.{BoundsAt, IsThreshold};
 ghost use Rattle.oth_search.specs.Nws.Lasts.{Leaves, GivesAt, MovesAt};
@@ -74,28 +72,24 @@ fn last_one(board: Board, a: Square, scoring: Scoring) -> i8
     requires { Leaves board (a ∷ []) }
     ensures { result ≡ value (score_of scoring) board }
 {
-    if let Some(score) = last_reply(&board, a) {
-        return score;
-    }
-    if let Some(score) = last_reply(&board.pass(), a) {
-        return -score;
-    }
-    board.final_score(scoring)
-}
-
-// The score of a move to the only empty square, which is equal under each scoring; `None` if the move is illegal.
-#[inline(always)]
-fn last_reply(board: &Board, a: Square) -> Option<i8>
-    requires { Leaves board.now (a ∷ []) }
-    ensures score { IfSome result (λ r. (g : ScoringBy) → r ≡ neg_ℤ (score_of g (after board.now a))) }
-    ensures legal { IsSome result ↔ IsLegal board.now a }
-{
     let flips = board.last_flips(a);
     if flips == 0 {
-        return None;
+        return board.final_score(scoring);
     }
-    let half = board.own().count_ones() as i8 + flips as i8 - 31;
-    Some(half + half)
+    let half = board.own().count_ones() as i32 + last_gain(flips);
+    (half + half) as i8
+}
+
+// What is added to the mover's discs for half of the score, by the discs that each side flips on the only empty square,
+// the mover's in the low byte; one side flips some. The mover moves there if it can. Both scorings give this score.
+#[inline(always)]
+fn last_gain(flips: u16) -> i32
+    ensures mover { flips % 256 ≢ 0 → result ≡ (pos (flips % 256) -ℤ pos 31) }
+    ensures other { flips % 256 ≡ 0 → result ≡ (neg_ℤ (pos (flips / 256)) -ℤ pos 32) }
+{
+    let mover = i32::from(flips % 256);
+    let other = i32::from(flips / 256);
+    if mover != 0 { mover - 31 } else { -other - 32 }
 }
 
 // A bound of the value of a board with these two empty squares, on its side of `alpha`. Inline, since most of the time

@@ -1,34 +1,42 @@
-use Rattle.std.proofs.Common.{◌≡◌, ℕ, ◌%◌, ◌/◌, [], ap}
-use Rattle.std.specs.Prelude.{bit_and, slice_index_or}
-use Rattle.oth_rules.specs.LastMove.{gathered}
-use Rattle.oth_rules.specs.declared.tables.line_counts.TheConstants.{LINE_COUNTS}
-use Rattle.oth_rules.proofs.LastMoves.{last_flips, count_same, illegal_counts}
+use Rattle.std.proofs.Common.{◌≡◌, ◌+◌, ◌*◌, arith}
+use Rattle.std.specs.Prelude.{count_by}
+use Rattle.oth_rules.specs.Square.{squares}
+use Rattle.oth_rules.specs.Position.{pass}
+use Rattle.oth_rules.specs.Move.{is_flipped}
+use Rattle.oth_rules.proofs.Counts.{count_most}
+use Rattle.oth_rules.proofs.LastMoves.{last_flips, start_fits, parts_of, illegal_counts}
 use Rattle.oth_rules.proofs.board.Board.last_flips.Goals as goal
+use Rattle.oth_rules.proofs.board.Board.last_flips.Goals.{After-counted-4}
 
-pub returns-clause-count : goal.returns-clause-count
-returns-clause-count c =
-    let p = c.args.self.now in
-    let s = c.args.square in
-    let masks = c.line_masks.result.now in
-    let factors = c.line_factors.result.now in
-    let across = ap (λ n. n % 8) c.number-place.ensures.value in
-    let down = ap (λ n. n / 8) c.number.ensures.value in
-    let by : (x place place' i : ℕ)
-    → x ≡ slice_index_or (slice_index_or LINE_COUNTS place [])
-    (gathered (bit_and c.own-own.result (slice_index_or masks i 0)) (slice_index_or factors i 0)) 0
-    → place ≡ place'
-    → x ≡ slice_index_or (slice_index_or LINE_COUNTS place' [])
-    (gathered (bit_and p.own (slice_index_or masks i 0)) (slice_index_or factors i 0)) 0 =
-    λ x place place' i e ep.
-    count_same x c.own-own.result p.own place place' (slice_index_or masks i 0) (slice_index_or factors i 0) e
-    c.own-own.ensures.value ep in
-    last_flips p s c.own-own.ensures.board c.requires masks factors
+pub counted-requires : goal.counted-requires
+counted-requires c = start_fits c.line_starts.result.now c.args.square _ c.line_starts.ensures.below (omega arith) c.line_starts.ensures.value
+
+pub counted-requires-2 : goal.counted-requires-2
+counted-requires-2 c = start_fits c.line_starts.result.now c.args.square _ c.line_starts.ensures.below (omega arith) c.line_starts.ensures.value
+
+pub counted-requires-3 : goal.counted-requires-3
+counted-requires-3 c = start_fits c.line_starts.result.now c.args.square _ c.line_starts.ensures.below (omega arith) c.line_starts.ensures.value
+
+pub counted-requires-4 : goal.counted-requires-4
+counted-requires-4 c = start_fits c.line_starts.result.now c.args.square _ c.line_starts.ensures.below (omega arith) c.line_starts.ensures.value
+
+all : (c : After-counted-4) → c.counted.result + c.counted-2.result + c.counted-3.result + c.counted-4.result
+    ≡ count_by (is_flipped c.args.self.now c.args.square) squares + 256 * count_by (is_flipped (pass c.args.self.now) c.args.square) squares
+all c =
+    last_flips c.args.self.now c.args.square c.own-own.ensures.board c.requires c.own-own.result c.own-own.ensures.value
+    c.line_masks.result.now c.line_factors.result.now c.line_starts.result.now
+    c.line_masks.ensures.value c.line_factors.ensures.value c.line_starts.ensures.value
     c.counted.result c.counted-2.result c.counted-3.result c.counted-4.result
-    c.line_masks.ensures.value c.line_factors.ensures.value
-    (by c.counted.result (c.number-place.result % 8) (s % 8) 0 c.counted.ensures.value across)
-    (by c.counted-2.result (c.number-place.result % 8) (s % 8) 1 c.counted-2.ensures.value across)
-    (by c.counted-3.result (c.number.result / 8) (s / 8) 2 c.counted-3.ensures.value down)
-    (by c.counted-4.result (c.number-place.result % 8) (s % 8) 3 c.counted-4.ensures.value across)
+    c.counted.ensures.value c.counted-2.ensures.value c.counted-3.ensures.value c.counted-4.ensures.value
+
+pub returns-clause-mover : goal.returns-clause-mover
+returns-clause-mover c = (parts_of _ _ _ (all c) (count_most (is_flipped c.args.self.now c.args.square))).0
+
+pub returns-clause-other : goal.returns-clause-other
+returns-clause-other c = (parts_of _ _ _ (all c) (count_most (is_flipped c.args.self.now c.args.square))).1
 
 pub returns-clause-none : goal.returns-clause-none
-returns-clause-none c = illegal_counts c.args.self.now c.args.square _ (returns-clause-count c)
+returns-clause-none c = illegal_counts c.args.self.now c.args.square _ (returns-clause-mover c)
+
+pub returns-clause-none_of_other : goal.returns-clause-none_of_other
+returns-clause-none_of_other c = illegal_counts (pass c.args.self.now) c.args.square _ (returns-clause-other c)
