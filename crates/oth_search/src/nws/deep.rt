@@ -11,7 +11,7 @@ ghost use Rattle.oth_search.specs.Ordering.Children.{IsChild};
 use super::node::Node;
 use super::shallow::{nws, nws_few};
 use crate::bounds::{Cells, Entry, Solved, without};
-use crate::ordering::{Child, add_children, look_at, next_child};
+use crate::ordering::{Child, KeyedNode, add_children, child_by_key, look_at, next_child};
 use crate::tuning::{
     ETC_MIN_EMPTIES, EVALUATION_MIN_EMPTIES, LEAST_ALPHA_BOUNDED, LOCAL_TABLE_MIN_EMPTIES,
     RANK_MIN_EMPTIES, TABLE_MIN_EMPTIES,
@@ -128,8 +128,14 @@ fn nws_short<C: Cells>(node: Node, alpha: i8, cells: &mut C, scoring: Scoring) -
     ensures fixed { C.fixed cells.new ≡ C.fixed cells.old }
 {
     let mut list: ArrayVec<Child, 7> = ArrayVec::new();
-    add_children(&node, &mut list);
-    nws_children(node, list.as_mut_slice(), alpha, cells, scoring)
+    let keys = add_children(&node, &mut list);
+    nws_by_keys(
+        KeyedNode { node, keys },
+        list.as_slice(),
+        alpha,
+        cells,
+        scoring,
+    )
 }
 
 // Searches a board of 8 to 10 empty squares, with a list of 10 children. First looks the children up (ETC), unless each
@@ -143,13 +149,55 @@ fn nws_middle<C: Cells>(node: Node, alpha: i8, cells: &mut C, scoring: Scoring) 
     ensures fixed { C.fixed cells.new ≡ C.fixed cells.old }
 {
     let mut list: ArrayVec<Child, 10> = ArrayVec::new();
-    add_children(&node, &mut list);
+    let keys = add_children(&node, &mut list);
     if node.board.empties() <= TABLE_MIN_EMPTIES || is_remembered(&node.board, cells) {
         if let Some(found) = bounded_by_child(&node.board, list.as_slice(), alpha, cells, scoring) {
             return found;
         }
     }
-    nws_children(node, list.as_mut_slice(), alpha, cells, scoring)
+    nws_by_keys(
+        KeyedNode { node, keys },
+        list.as_slice(),
+        alpha,
+        cells,
+        scoring,
+    )
+}
+
+// Searches the children of the list, that of the least short key first, and then those that had no room there. Inline,
+// so that the compiler knows the length of the list.
+#[inline(always)]
+#[cycle(deep)]
+fn nws_by_keys<C: Cells>(
+    keyed: KeyedNode,
+    children: &[Child],
+    alpha: i8,
+    cells: &mut C,
+    scoring: Scoring,
+) -> i8
+    requires threshold { IsThreshold alpha }
+    requires some { can_move keyed.node.board ≡ true }
+    requires children { All (IsChild keyed.node.board) children.now }
+    ensures value { BoundsAt (value (score_of scoring) keyed.node.board) alpha result }
+    ensures fixed { C.fixed cells.new ≡ C.fixed cells.old }
+{
+    let mut keys = keyed.keys;
+    let mut best = -64;
+    let mut left = keyed.node.moves;
+    while left != 0 {
+        let child = child_by_key(&keyed.node.board, children, &keys, left);
+        keys.cross_out();
+        left = without(left, child.square());
+        let score = -nws_node(child.node(), -alpha - 1, cells, scoring);
+        if score > alpha {
+            return score;
+        }
+        keys.compare();
+        if score > best {
+            best = score;
+        }
+    }
+    best
 }
 
 // Searches a board of 11 and more empty squares, with a list of 32 children. First looks the children up (ETC), then

@@ -194,3 +194,70 @@ nws_long-nws_children-requires g t c κs within =
         ),
       ),
     )
+
+pub nws_by_keys-loop-left-init : goal.nws_by_keys-loop-left-init
+nws_by_keys-loop-left-init g t c = record {
+  loop = ReplyLoop-start c.args.scoring c.args.keyed.node.board _ _ _ refl (omega (arith, ints, c.requires.threshold.low))
+      (NoneAbove-moves c.args.scoring c.args.keyed.node.board c.args.keyed.node.moves _ c.args.keyed.node.legal);
+  fixed = refl;
+}
+
+pub nws_by_keys-child_by_key-child-requires-clause-legal : goal.nws_by_keys-child_by_key-child-requires-clause-legal
+nws_by_keys-child_by_key-child-requires-clause-legal g t c = c.loop-left.invariant.loop.replies.untried
+
+pub nws_by_keys-nws_node-score-requires : goal.nws_by_keys-nws_node-score-requires
+nws_by_keys-nws_node-score-requires g t c =
+    let made = c.child_by_key-child.ensures.child in
+    λ κs within. (
+      omega (arith, c.decreases, fewer_after c.args.keyed.node.board c.node.result.board _ (c.node.ensures ∙ made.board) made.legal),
+      (
+        within,
+        record { low = omega (arith, ints, c.requires.threshold.high); high = omega (arith, ints, c.requires.threshold.low) },
+      ),
+    )
+
+pub nws_by_keys-returns-then-score-alpha-clause-value : goal.nws_by_keys-returns-then-score-alpha-clause-value
+nws_by_keys-returns-then-score-alpha-clause-value g t c =
+    let made = c.child_by_key-child.ensures.child in
+    BoundsAt-cut c.args.scoring c.args.keyed.node.board (key_square c.child_by_key-child.result.key) c.args.alpha _ made.legal
+    (BoundsAt-reply c.args.scoring c.args.keyed.node.board c.node.result.board (key_square c.child_by_key-child.result.key) c.args.alpha _ _ c.nws_node-score.result (c.node.ensures ∙ made.board)
+    (read-reply c.args.alpha c.requires.threshold) (read-negated c.nws_node-score.result c.nws_node-score.ensures.value.score) c.nws_node-score.ensures.value)
+    (omega (arith, ints, c.if-score-alpha.true))
+
+pub nws_by_keys-loop-left-preserved : goal.nws_by_keys-loop-left-preserved
+nws_by_keys-loop-left-preserved g t c =
+    let child = c.child_by_key-child.result in
+    let made = c.child_by_key-child.ensures.child in
+    let r : ℤ = neg_ℤ c.nws_node-score.result in
+    record {
+      loop = ReplyLoop-keeps c.args.scoring c.args.keyed.node.board _ _ (key_square child.key) _ _ r c.loop-left.invariant.loop
+          (Takes-same _ _ _ _ c.square.ensures c.child_by_key-child.ensures.member c.without-left.ensures.rest)
+          (BoundsAt-reply c.args.scoring c.args.keyed.node.board c.node.result.board (key_square child.key) _ _ r c.nws_node-score.result (c.node.ensures ∙ made.board)
+          (read-reply_read c.args.alpha c.requires.threshold) refl c.nws_node-score.ensures.value)
+          (omega (arith, ints, c.if-score-best.false));
+      fixed = c.nws_node-score.ensures.fixed ∙ c.loop-left.invariant.fixed;
+    }
+
+pub nws_by_keys-loop-left-preserved-then-score-best : goal.nws_by_keys-loop-left-preserved-then-score-best
+nws_by_keys-loop-left-preserved-then-score-best g t c =
+    let child = c.child_by_key-child.result in
+    let made = c.child_by_key-child.ensures.child in
+    record {
+      loop = ReplyLoop-takes c.args.scoring c.args.keyed.node.board _ _ (key_square child.key) _ _ _ c.loop-left.invariant.loop
+          (Takes-same _ _ _ _ c.square.ensures c.child_by_key-child.ensures.member c.without-left.ensures.rest)
+          (BoundsAt-reply c.args.scoring c.args.keyed.node.board c.node.result.board (key_square child.key) _ _ _ c.nws_node-score.result (c.node.ensures ∙ made.board)
+          (read-reply_read c.args.alpha c.requires.threshold) (read-negated c.nws_node-score.result c.nws_node-score.ensures.value.score) c.nws_node-score.ensures.value)
+          (omega (arith, ints, c.if-score-alpha.false))
+          (omega (arith, ints, c.if-score-best.true));
+      fixed = c.nws_node-score.ensures.fixed ∙ c.loop-left.invariant.fixed;
+    }
+
+pub nws_by_keys-returns-clause-value : goal.nws_by_keys-returns-clause-value
+nws_by_keys-returns-clause-value g t c =
+    ReplyLoop-end c.args.scoring c.args.keyed.node.board c.args.alpha _ _ _ c.loop-left.invariant.loop (to_z-of_z w8 c.args.alpha c.ranges.alpha) (In-none _ c.loop-left-test.false) c.requires.some
+
+pub nws_by_keys-returns-then-score-alpha-clause-fixed : goal.nws_by_keys-returns-then-score-alpha-clause-fixed
+nws_by_keys-returns-then-score-alpha-clause-fixed g t c = c.nws_node-score.ensures.fixed ∙ c.loop-left.invariant.fixed
+
+pub nws_by_keys-returns-clause-fixed : goal.nws_by_keys-returns-clause-fixed
+nws_by_keys-returns-clause-fixed g t c = c.loop-left.invariant.fixed
