@@ -6,6 +6,7 @@ use Rattle.oth_text.specs.BoardLine.{board_line, reading, solvable_reading}
 use Rattle.oth_text.specs.FaultLine.{any_fault_line_of}
 use Rattle.oth_text.specs.Game.{game_reading}
 use Rattle.oth_text.specs.Ranking.{scores_line_of}
+use Rattle.oth_text.specs.Reply.{board_reply, play_reply, transcript_reply}
 use Rattle.oth_text.specs.Report.{moves_line_of, report_line_of}
 use Rattle.oth_text.specs.Transcript.{transcript_reading}
 use Rattle.oth_text.specs.declared.fault.Fault.{Fault}
@@ -18,7 +19,7 @@ use Rattle.oth_words.specs.declared.settings.Command.TheVariants.{Solve, Scores,
 use Rattle.oth_words.specs.declared.settings.Settings.{Settings}
 use Rattle.oth_run.specs.Faulty.{board_fault_of, first_fault}
 use Rattle.oth_run.specs.Line.{Reaches}
-use Rattle.oth_run.specs.Reply.{board_reply, play_reply, reply, reply_to, transcript_reply}
+use Rattle.oth_run.specs.Reply.{reply, reply_to}
 
 -- by the command that asks for it
 replied : (settings : Settings) (command : Command) (number : ℕ) (line : List ℕ) → settings.command ≡ command

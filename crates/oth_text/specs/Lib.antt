@@ -4,6 +4,7 @@ pub mod BoardLine
 pub mod Discs
 pub mod Report
 pub mod Ranking
+pub mod Reply
 pub mod FaultLine
 pub mod Transcript
 pub mod Game
