@@ -197,8 +197,8 @@ nws_long-nws_children-requires g t c κs within =
 
 pub nws_by_keys-loop-left-init : goal.nws_by_keys-loop-left-init
 nws_by_keys-loop-left-init g t c = record {
-  loop = ReplyLoop-start c.args.scoring c.args.keyed.node.board _ _ _ refl (omega (arith, ints, c.requires.threshold.low))
-      (NoneAbove-moves c.args.scoring c.args.keyed.node.board c.args.keyed.node.moves _ c.args.keyed.node.legal);
+  loop = ReplyLoop-start c.args.scoring c.args.keyed.now.node.board _ _ _ refl (omega (arith, ints, c.requires.threshold.low))
+      (NoneAbove-moves c.args.scoring c.args.keyed.now.node.board c.args.keyed.now.node.moves _ c.args.keyed.now.node.legal);
   fixed = refl;
 }
 
@@ -209,7 +209,7 @@ pub nws_by_keys-nws_node-score-requires : goal.nws_by_keys-nws_node-score-requir
 nws_by_keys-nws_node-score-requires g t c =
     let made = c.child_by_key-child.ensures.child in
     λ κs within. (
-      omega (arith, c.decreases, fewer_after c.args.keyed.node.board c.node.result.board _ (c.node.ensures ∙ made.board) made.legal),
+      omega (arith, c.decreases, fewer_after c.args.keyed.now.node.board c.node.result.board _ (c.node.ensures ∙ made.board) made.legal),
       (
         within,
         record { low = omega (arith, ints, c.requires.threshold.high); high = omega (arith, ints, c.requires.threshold.low) },
@@ -219,8 +219,8 @@ nws_by_keys-nws_node-score-requires g t c =
 pub nws_by_keys-returns-then-score-alpha-clause-value : goal.nws_by_keys-returns-then-score-alpha-clause-value
 nws_by_keys-returns-then-score-alpha-clause-value g t c =
     let made = c.child_by_key-child.ensures.child in
-    BoundsAt-cut c.args.scoring c.args.keyed.node.board (key_square c.child_by_key-child.result.key) c.args.alpha _ made.legal
-    (BoundsAt-reply c.args.scoring c.args.keyed.node.board c.node.result.board (key_square c.child_by_key-child.result.key) c.args.alpha _ _ c.nws_node-score.result (c.node.ensures ∙ made.board)
+    BoundsAt-cut c.args.scoring c.args.keyed.now.node.board (key_square c.child_by_key-child.result.key) c.args.alpha _ made.legal
+    (BoundsAt-reply c.args.scoring c.args.keyed.now.node.board c.node.result.board (key_square c.child_by_key-child.result.key) c.args.alpha _ _ c.nws_node-score.result (c.node.ensures ∙ made.board)
     (read-reply c.args.alpha c.requires.threshold) (read-negated c.nws_node-score.result c.nws_node-score.ensures.value.score) c.nws_node-score.ensures.value)
     (omega (arith, ints, c.if-score-alpha.true))
 
@@ -230,9 +230,9 @@ nws_by_keys-loop-left-preserved g t c =
     let made = c.child_by_key-child.ensures.child in
     let r : ℤ = neg_ℤ c.nws_node-score.result in
     record {
-      loop = ReplyLoop-keeps c.args.scoring c.args.keyed.node.board _ _ (key_square child.key) _ _ r c.loop-left.invariant.loop
+      loop = ReplyLoop-keeps c.args.scoring c.args.keyed.now.node.board _ _ (key_square child.key) _ _ r c.loop-left.invariant.loop
           (Takes-same _ _ _ _ c.square.ensures c.child_by_key-child.ensures.member c.without-left.ensures.rest)
-          (BoundsAt-reply c.args.scoring c.args.keyed.node.board c.node.result.board (key_square child.key) _ _ r c.nws_node-score.result (c.node.ensures ∙ made.board)
+          (BoundsAt-reply c.args.scoring c.args.keyed.now.node.board c.node.result.board (key_square child.key) _ _ r c.nws_node-score.result (c.node.ensures ∙ made.board)
           (read-reply_read c.args.alpha c.requires.threshold) refl c.nws_node-score.ensures.value)
           (omega (arith, ints, c.if-score-best.false));
       fixed = c.nws_node-score.ensures.fixed ∙ c.loop-left.invariant.fixed;
@@ -243,9 +243,9 @@ nws_by_keys-loop-left-preserved-then-score-best g t c =
     let child = c.child_by_key-child.result in
     let made = c.child_by_key-child.ensures.child in
     record {
-      loop = ReplyLoop-takes c.args.scoring c.args.keyed.node.board _ _ (key_square child.key) _ _ _ c.loop-left.invariant.loop
+      loop = ReplyLoop-takes c.args.scoring c.args.keyed.now.node.board _ _ (key_square child.key) _ _ _ c.loop-left.invariant.loop
           (Takes-same _ _ _ _ c.square.ensures c.child_by_key-child.ensures.member c.without-left.ensures.rest)
-          (BoundsAt-reply c.args.scoring c.args.keyed.node.board c.node.result.board (key_square child.key) _ _ _ c.nws_node-score.result (c.node.ensures ∙ made.board)
+          (BoundsAt-reply c.args.scoring c.args.keyed.now.node.board c.node.result.board (key_square child.key) _ _ _ c.nws_node-score.result (c.node.ensures ∙ made.board)
           (read-reply_read c.args.alpha c.requires.threshold) (read-negated c.nws_node-score.result c.nws_node-score.ensures.value.score) c.nws_node-score.ensures.value)
           (omega (arith, ints, c.if-score-alpha.false))
           (omega (arith, ints, c.if-score-best.true));
@@ -254,7 +254,7 @@ nws_by_keys-loop-left-preserved-then-score-best g t c =
 
 pub nws_by_keys-returns-clause-value : goal.nws_by_keys-returns-clause-value
 nws_by_keys-returns-clause-value g t c =
-    ReplyLoop-end c.args.scoring c.args.keyed.node.board c.args.alpha _ _ _ c.loop-left.invariant.loop (to_z-of_z w8 c.args.alpha c.ranges.alpha) (In-none _ c.loop-left-test.false) c.requires.some
+    ReplyLoop-end c.args.scoring c.args.keyed.now.node.board c.args.alpha _ _ _ c.loop-left.invariant.loop (to_z-of_z w8 c.args.alpha c.ranges.alpha) (In-none _ c.loop-left-test.false) c.requires.some
 
 pub nws_by_keys-returns-then-score-alpha-clause-fixed : goal.nws_by_keys-returns-then-score-alpha-clause-fixed
 nws_by_keys-returns-then-score-alpha-clause-fixed g t c = c.nws_node-score.ensures.fixed ∙ c.loop-left.invariant.fixed

@@ -41,11 +41,11 @@ abbrev pub decreases-nws_children-loop-left : goal.decreases-nws_children-loop-l
 decreases-nws_children-loop-left g l = l.left
 
 abbrev pub decreases-nws_by_keys : goal.decreases-nws_by_keys
-decreases-nws_by_keys g l = 7 * empty_count l.keyed.node.board
+decreases-nws_by_keys g l = 7 * empty_count l.keyed.now.node.board
 
 abbrev pub invariant-nws_by_keys-loop-left : goal.invariant-nws_by_keys-loop-left
 invariant-nws_by_keys-loop-left g l = record {
-  loop : ReplyLoop l.scoring l.keyed.node.board l.fn.alpha (In l.left) l.best;
+  loop : ReplyLoop l.scoring l.parent.board l.fn.alpha (In l.left) l.best;
   fixed : g.C.Cells.fixed l.cells ≡ g.C.Cells.fixed l.fn.cells;
 }
 
