@@ -280,3 +280,7 @@ pub runs_from_start : (settings : Settings) (old : Engine) (kept : Line) (found 
     → IsAt settings old a a [] → Consumes x y first → (more : List ℕ) × Consumes y z more × RunsOn settings old kept found a b result (first ++ more)
     → (input : List ℕ) × Consumes x z input × WritesEnded settings kept found a b result input
 runs_from_start settings old kept found a b x y z result first start begins on = (first ++ on.0, Consumes-trans x y z first on.0 begins on.1, on.2 a [] start)
+
+-- what is taken first and what comes next go on by the same bytes
+pub goes_on : (taken next front last more : List ℕ) → taken ++ next ≡ front ++ last → taken ++ (next ++ more) ≡ (front ++ last) ++ more
+goes_on taken next front last more same = sym (append_assoc taken next more) ∙ ap (λ l. l ++ more) same

@@ -1,7 +1,7 @@
 //! The engine: the line that has begun, and the bytes of the report that wait to be written. `chunks` takes it through
 //! an input, a chunk at a time.
 
-ghost use Rattle.std.specs.Prelude.{◌≡◌, ◌≢◌, ◌||◌, ℕ, List, [], ◌∷◌, ◌++◌, All, false, true, OnOk, OnErr};
+ghost use Rattle.std.specs.Prelude.{◌≡◌, ◌||◌, ℕ, List, [], false, true, OnOk, OnErr};
 ghost use Rattle.oth_run.specs.Faulty.{has_faulty, is_faulty};
 ghost use Rattle.oth_run.specs.Halfway.{Answers, Ends, StopsInside, StopsWithin, Takes};
 ghost use Rattle.oth_run.specs.Line.{Holds};
@@ -86,27 +86,6 @@ impl Engine {
         Ok(())
     }
 
-    // Takes the last part of a line and answers the line.
-    fn take_line<T: Wait + Threads + Sync, W: ReportSink, G: Gate>(
-        &mut self,
-        solver: &Solver<'_, T, G>,
-        jobs: Option<&Jobs<'_, T, G>>,
-        writer: &mut W,
-        part: &[u8],
-    ) -> Result<(), Failed>
-        requires part { All (λ b. b ≢ 10) part.now }
-        ensures ok { OnOk result (Takes solver.now.settings self.old self.new
-            (W.contents writer.old) (W.contents writer.new) (part.now ++ 10 ∷ [])) }
-        ensures err { OnErr result (StopsWithin solver.now.settings self.old
-            (W.contents writer.old) (W.contents writer.new) (part.now ++ 10 ∷ [])) }
-        ensures works { OnOk result (W.failed writer.new ≡ W.failed writer.old) }
-        ensures fails { OnErr result (W.failed writer.new ≡ true) }
-    {
-        self.line.push(part);
-        self.end_line(solver, jobs, writer)?;
-        Ok(())
-    }
-
     // Takes further bytes of the input, and gathers the reports of the lines that end in them.
     fn take_bytes<T: Wait + Threads + Sync, W: ReportSink, G: Gate>(
         &mut self,
@@ -124,7 +103,8 @@ impl Engine {
     {
         let mut rest = bytes;
         while let Some((line, others)) = split_line(rest) {
-            self.take_line(solver, jobs, writer, line)?;
+            self.line.push(line);
+            self.end_line(solver, jobs, writer)?;
             rest = others;
         }
         self.line.push(rest);

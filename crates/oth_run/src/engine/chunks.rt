@@ -77,48 +77,13 @@ impl Engine {
         Ok(())
     }
 
-    // Reads on to the end of input, a chunk at a time, and writes the reports of the lines that byte 10 ends. Each
-    // chunk's jobs are given to the crew, if there is one.
+    // Takes the `count` bytes that were read first, reads on to the end of input, a chunk at a time, and writes the
+    // reports of the lines that byte 10 ends. The jobs of the first chunk were given to the crew, if there is one, and
+    // those of each further chunk are.
     fn run_on<'s, T: Wait + Threads + Sync, R: Source, W: ReportSink, G: Gate>(
         &mut self,
         solver: &'s Solver<'s, T, G>,
         crew: Option<&Crew<'s, T, G>>,
-        reader: &mut R,
-        writer: &mut W,
-        buffer: &mut [u8],
-    ) -> Result<(), RunFault>
-        requires room { 0 < length buffer.old }
-        requires reader { R.failed reader.old ≡ false }
-        requires writer { W.failed writer.old ≡ false }
-        requires waiting { self.old.waiting.bytes.items ≡ [] }
-        ensures bytes { (more : List ℕ) × Consumes (R.remaining reader.old) (R.remaining reader.new) more
-            × RunsOn solver.now.settings self.old self.new.line self.new.is_faulty (W.contents writer.old)
-            (W.contents writer.new) result more }
-        ensures empty { OnOk result (self.new.waiting.bytes.items ≡ []) }
-        ensures end { OnOk result (IsAtEnd (R.remaining reader.new)) }
-        ensures devices { FailsBy result (R.failed reader.new) (W.failed writer.new) }
-    {
-        for _ in solver.batch.rt.forever() {
-            let Ok(count) = reader.read(buffer) else {
-                return Err(RunFault::Read);
-            };
-            if count == 0 {
-                break;
-            }
-            let bytes = &buffer[..count];
-            give_jobs(solver, crew, bytes);
-            let Ok(()) = self.take_chunk(solver, crew, writer, bytes) else {
-                return Err(RunFault::Write);
-            };
-        }
-        Ok(())
-    }
-
-    // Takes the `count` bytes that were read first, reads on to the end of input, and writes the reports of the lines
-    // that byte 10 ends.
-    fn run_alone<T: Wait + Threads + Sync, R: Source, W: ReportSink, G: Gate>(
-        &mut self,
-        solver: &Solver<'_, T, G>,
         reader: &mut R,
         writer: &mut W,
         buffer: &mut [u8],
@@ -135,13 +100,24 @@ impl Engine {
         ensures end { OnOk result (IsAtEnd (R.remaining reader.new)) }
         ensures devices { FailsBy result (R.failed reader.new) (W.failed writer.new) }
     {
-        match self.take_chunk(solver, solver.no_crew(), writer, &buffer[..count]) {
-            Ok(()) => self.run_on(solver, solver.no_crew(), reader, writer, buffer),
-            Err(_) => Err(RunFault::Write),
+        let mut count = count;
+        for _ in solver.batch.rt.forever() {
+            let Ok(()) = self.take_chunk(solver, crew, writer, &buffer[..count]) else {
+                return Err(RunFault::Write);
+            };
+            let Ok(further) = reader.read(buffer) else {
+                return Err(RunFault::Read);
+            };
+            if further == 0 {
+                return Ok(());
+            }
+            give_jobs(solver, crew, &buffer[..further]);
+            count = further;
         }
+        Ok(())
     }
 
-    // As `run_alone`, with a crew: workers that pay for the lines of the first bytes stay to the end.
+    // As `run_on`, with a crew: workers that pay for the lines of the first bytes stay to the end.
     fn run_from<T: Wait + Threads + Sync, R: Source, W: ReportSink, G: Gate>(
         &mut self,
         solver: &Solver<'_, T, G>,
@@ -176,12 +152,7 @@ impl Engine {
             ensures empty { OnOk result (self.exit.now.waiting.bytes.items ≡ []) }
             ensures end { OnOk result (IsAtEnd (R.remaining reader.exit.now)) }
             ensures devices { FailsBy result (R.failed reader.exit.now) (W.failed writer.exit.now) }
-        {
-            match self.take_chunk(solver, Some(&crew), writer, &buffer[..count]) {
-                Ok(()) => self.run_on(solver, Some(&crew), reader, writer, buffer),
-                Err(_) => Err(RunFault::Write),
-            }
-        };
+        { self.run_on(solver, Some(&crew), reader, writer, buffer, count) };
         crew.beside(&mut work)
     }
 
@@ -215,7 +186,7 @@ impl Engine {
             return Ok(());
         }
         if solver.batch.workers < 2 {
-            return self.run_alone(solver, reader, writer, buffer, count);
+            return self.run_on(solver, solver.no_crew(), reader, writer, buffer, count);
         }
         self.run_from(solver, reader, writer, buffer, count)
     }

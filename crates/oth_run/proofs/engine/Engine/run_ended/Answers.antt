@@ -19,4 +19,4 @@ returns-clause-bytes g c =
 
 pub returns-then-solver-lt2-clause-bytes : goal.returns-then-solver-lt2-clause-bytes
 returns-then-solver-lt2-clause-bytes g c =
-    runs_from_start _ _ _ _ _ _ _ _ _ _ _ (at_start _ _ _ c.requires.line c.requires.faulty c.requires.waiting) c.in-Ok.ensures.bytes.0 c.run_alone.ensures.bytes
+    runs_from_start _ _ _ _ _ _ _ _ _ _ _ (at_start _ _ _ c.requires.line c.requires.faulty c.requires.waiting) c.in-Ok.ensures.bytes.0 c.run_on.ensures.bytes

@@ -1,15 +1,15 @@
-use Rattle.std.proofs.Common.{[], ◌++◌, ◌∙◌, append_assoc, append-nil, arith, rules}
+use Rattle.std.proofs.Common.{[], ◌++◌, ◌∙◌, append_assoc, append-nil, arith, rules, take}
 use Rattle.std.proofs.KnownBytes.{Consumes-kept, Consumes-nil, Consumes-trans}
-use Rattle.oth_run.proofs.CutLemmas.{up_to_no_waiting, up_to_waiting}
+use Rattle.oth_run.proofs.CutLemmas.{goes_on, up_to_no_waiting}
 use Rattle.oth_run.proofs.GatherLemmas.{gathered_all}
 use Rattle.oth_run.proofs.engine.Engine.run_on.Goals as goal
 
 pub loop-init : goal.loop-init
 loop-init g c = record {
   iterator = (tt, tt);
-  done = ([], Consumes-nil _, λ before input start. rw (append-nil input) (up_to_no_waiting _ _ _ _ _ _ c.requires.waiting start));
+  done = ([], [], Consumes-nil _, append-nil _, λ before input start. rw (append-nil input) start);
   room = c.requires.room;
-  waiting = c.requires.waiting;
+  bound = c.requires.count;
   reader = c.requires.reader;
   writer = c.requires.writer;
 }
@@ -20,38 +20,44 @@ loop-preserved g c =
     record {
       iterator = (tt, tt);
       done = (
-        done.0 ++ _,
-        Consumes-trans _ _ _ _ _ done.1 c.in-Ok.ensures.bytes.0,
+        done.0 ++ take c.loop.count c.loop.buffer,
+        done.1 ++ _,
+        Consumes-trans _ _ _ _ _ done.2 c.in-Ok-read.ensures.bytes.0,
+        goes_on (take c.args.count c.args.buffer.now) done.1 done.0 (take c.loop.count c.loop.buffer) _ done.3,
         λ before input start.
-            let so_far = up_to_waiting _ _ _ _ _ _ c.loop.invariant.waiting (done.2 before input start) in
-            rw (append_assoc input done.0 _) at
-            (up_to_no_waiting _ _ _ _ _ _ c.in-Ok-take_chunk.ensures.empty (c.in-Ok-take_chunk.ensures.ok before _ so_far)),
+            rw (append_assoc input done.0 _) at (c.in-Ok.ensures.ok before _ (done.4 before input start)),
       );
-      room = omega (arith, c.in-Ok.ensures.bound, c.if-count-eq0.false);
-      waiting = c.in-Ok-take_chunk.ensures.empty;
-      reader = c.in-Ok.ensures.works ∙ c.loop.invariant.reader;
-      writer = c.in-Ok-take_chunk.ensures.works ∙ c.loop.invariant.writer;
+      room = omega (arith, c.in-Ok-read.ensures.bound, c.if-further-eq0.false);
+      bound = omega (arith, c.in-Ok-read.ensures.bound);
+      reader = c.in-Ok-read.ensures.works ∙ c.loop.invariant.reader;
+      writer = c.in-Ok.ensures.works ∙ c.loop.invariant.writer;
     }
-
-pub returns-in_default-take_chunk-clause-bytes : goal.returns-in_default-take_chunk-clause-bytes
-returns-in_default-take_chunk-clause-bytes g c =
-    let done = c.loop.invariant.done in (
-      done.0 ++ _,
-      Consumes-trans _ _ _ _ _ done.1 c.in-Ok.ensures.bytes.0,
-      λ before input start.
-          let so_far = up_to_waiting _ _ _ _ _ _ c.loop.invariant.waiting (done.2 before input start) in
-          rw (append_assoc input done.0 _) at (c.in_default-take_chunk.ensures.err before _ so_far),
-    )
 
 pub returns-in_default-clause-bytes : goal.returns-in_default-clause-bytes
 returns-in_default-clause-bytes g c =
     let done = c.loop.invariant.done in (
-      done.0,
-      Consumes-kept _ _ _ _ done.1 c.in_default.ensures.bytes,
-      λ before input start. gathered_all before _ _ (done.2 before input start).gathered,
+      done.1,
+      done.2,
+      λ before input start.
+          rw (append_assoc input done.0 _, ← done.3) at (c.in_default.ensures.err before _ (done.4 before input start)),
     )
 
-pub returns-clause-bytes : goal.returns-clause-bytes
-returns-clause-bytes g c =
-    let done = c.loop.invariant.done in
-    (done.0, search rules, done.2)
+pub returns-in_default-read-clause-bytes : goal.returns-in_default-read-clause-bytes
+returns-in_default-read-clause-bytes g c =
+    let done = c.loop.invariant.done in (
+      done.1,
+      Consumes-kept _ _ _ _ done.2 c.in_default-read.ensures.bytes,
+      λ before input start.
+          let so_far = up_to_no_waiting _ _ _ _ _ _ c.in-Ok.ensures.empty (c.in-Ok.ensures.ok before _ (done.4 before input start)) in
+          rw (append_assoc input done.0 _, ← done.3) at (gathered_all before _ _ so_far.gathered),
+    )
+
+pub returns-then-further-eq0-clause-bytes : goal.returns-then-further-eq0-clause-bytes
+returns-then-further-eq0-clause-bytes g c =
+    let done = c.loop.invariant.done in (
+      done.1,
+      search rules,
+      λ before input start.
+          let so_far = up_to_no_waiting _ _ _ _ _ _ c.in-Ok.ensures.empty (c.in-Ok.ensures.ok before _ (done.4 before input start)) in
+          rw (append_assoc input done.0 _, ← done.3) at so_far,
+    )
