@@ -1,4 +1,4 @@
-//! What a search remembers: bounds of boards, in two tables of fixed size.
+//! What a search remembers: bounds of boards, in tables of fixed size.
 
 ghost use Rattle.std.specs.Prelude.{◌≡◌, ◌<◌, ◌≤◌, IfSome};
 
@@ -7,7 +7,7 @@ use oth_search::{Cells, Entry, Solved, board_hash};
 
 // Empty squares: from here on a board belongs to the larger table, so that the many boards of few empty squares do not
 // drive it out.
-const MORE_MIN_EMPTIES: u8 = 9;
+const LARGER_MIN_EMPTIES: u8 = 9;
 
 // Places of the table of boards of fewer empty squares: a power of two.
 const FEW: usize = 4096;
@@ -15,21 +15,61 @@ const FEW: usize = 4096;
 // Places of the table of boards of more: a power of two.
 const MORE: usize = 65_536;
 
-/// Bounds of boards, each at the place of its hash, where a later one overwrites an earlier one. It takes 1.7 MB of the
-/// stack, and time to clear.
+/// Bounds of boards of few empty squares, each at the place of its hash, where a later one overwrites an earlier one.
+/// It takes 98 KB of the stack, and time to clear.
+#[derive(Drop)]
+pub struct FewMemory {
+    places: [Solved; FEW],
+}
+
+/// As `FewMemory`, with a table of boards of more empty squares beside it. It takes 1.7 MB of the stack.
 #[derive(Drop)]
 pub struct Memory {
-    few: [Solved; FEW],
+    few: FewMemory,
     more: [Solved; MORE],
+}
+
+impl FewMemory {
+    /// Nothing is remembered yet.
+    pub fn new() -> FewMemory {
+        FewMemory {
+            places: [blank(); FEW],
+        }
+    }
 }
 
 impl Memory {
     /// Nothing is remembered yet.
     pub fn new() -> Memory {
         Memory {
-            few: [blank(); FEW],
+            few: FewMemory::new(),
             more: [blank(); MORE],
         }
+    }
+}
+
+impl Cells for FewMemory {
+    ghost Fixed = { Unit {0} };
+
+    ghost fixed = { λ c. tt };
+
+    fn look(&mut self, _board: &Board, _scoring: Scoring) -> Option<Entry> {
+        None
+    }
+
+    fn put(&mut self, _entry: &Entry) {}
+
+    fn has_table(&self) -> bool {
+        false
+    }
+
+    fn probe_local(&mut self, board: &Board, scoring: Scoring) -> Option<Solved> {
+        told_by(&self.places[place(board, FEW - 1)], board, scoring)
+    }
+
+    fn store_local(&mut self, solved: &Solved) {
+        let place = place(&solved.board, FEW - 1);
+        self.places[place] = *solved;
     }
 }
 
@@ -53,8 +93,8 @@ impl Cells for Memory {
     }
 
     fn probe_local(&mut self, board: &Board, scoring: Scoring) -> Option<Solved> {
-        if board.empties() < MORE_MIN_EMPTIES {
-            told_by(&self.few[place(board, FEW - 1)], board, scoring)
+        if board.empties() < LARGER_MIN_EMPTIES {
+            self.few.probe_local(board, scoring)
         } else {
             told_by(&self.more[place(board, MORE - 1)], board, scoring)
         }
@@ -62,9 +102,8 @@ impl Cells for Memory {
 
     fn store_local(&mut self, solved: &Solved) {
         let board = solved.board;
-        if board.empties() < MORE_MIN_EMPTIES {
-            let place = place(&board, FEW - 1);
-            self.few[place] = *solved;
+        if board.empties() < LARGER_MIN_EMPTIES {
+            self.few.store_local(solved);
         } else {
             let place = place(&board, MORE - 1);
             self.more[place] = *solved;

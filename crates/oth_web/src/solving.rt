@@ -2,33 +2,39 @@
 
 ghost use Rattle.std.specs.Prelude.{◌≡◌};
 
-use crate::memory::Memory;
+use crate::memory::{FewMemory, Memory};
 use oth_rules::{Board, Scoring};
 use oth_search::{Answer, NoCells, Scores, scores_with, solve_with};
 
-// Empty squares: from here on a search remembers boards. Below it that takes longer than it saves.
-const REMEMBERED_MIN_EMPTIES: u8 = 10;
+// Empty squares: from here on a search remembers boards of few empty squares. Below it that takes longer than it saves.
+const FEW_MIN_EMPTIES: u8 = 10;
 
-/// Whether memory pays for a root of `empties` empty squares.
-pub fn is_remembered(empties: u8) -> bool {
-    empties >= REMEMBERED_MIN_EMPTIES
-}
+// Empty squares: from here on it remembers boards of more, too.
+const MORE_MIN_EMPTIES: u8 = 14;
 
 /// The value and all best moves of a board.
 pub fn answered(board: Board, scoring: Scoring) -> Answer
     ensures board { result.board ≡ board }
     ensures scoring { result.scoring ≡ scoring }
 {
-    if is_remembered(board.empties()) {
-        answered_remembering(board, scoring)
-    } else {
-        solve_with(board, &mut NoCells, scoring)
+    match board.empties() {
+        0..FEW_MIN_EMPTIES => solve_with(board, &mut NoCells, scoring),
+        FEW_MIN_EMPTIES..MORE_MIN_EMPTIES => answered_by_few(board, scoring),
+        _ => answered_by_more(board, scoring),
     }
 }
 
-// As `answered`, with memory, which is cleared here alone.
+// As `answered`, with a small memory. Never inlined, nor are those below: each clears its own memory alone.
 #[inline(never)]
-fn answered_remembering(board: Board, scoring: Scoring) -> Answer
+fn answered_by_few(board: Board, scoring: Scoring) -> Answer
+    ensures board { result.board ≡ board }
+    ensures scoring { result.scoring ≡ scoring }
+{
+    solve_with(board, &mut FewMemory::new(), scoring)
+}
+
+#[inline(never)]
+fn answered_by_more(board: Board, scoring: Scoring) -> Answer
     ensures board { result.board ≡ board }
     ensures scoring { result.scoring ≡ scoring }
 {
@@ -40,16 +46,24 @@ pub fn scored(board: Board, scoring: Scoring) -> Scores
     ensures board { result.answer.board ≡ board }
     ensures scoring { result.answer.scoring ≡ scoring }
 {
-    if is_remembered(board.empties()) {
-        scored_remembering(board, scoring)
-    } else {
-        scores_with(board, &mut NoCells, scoring)
+    match board.empties() {
+        0..FEW_MIN_EMPTIES => scores_with(board, &mut NoCells, scoring),
+        FEW_MIN_EMPTIES..MORE_MIN_EMPTIES => scored_by_few(board, scoring),
+        _ => scored_by_more(board, scoring),
     }
 }
 
-// As `scored`, with memory, which is cleared here alone.
+// As `scored`, with a small memory.
 #[inline(never)]
-fn scored_remembering(board: Board, scoring: Scoring) -> Scores
+fn scored_by_few(board: Board, scoring: Scoring) -> Scores
+    ensures board { result.answer.board ≡ board }
+    ensures scoring { result.answer.scoring ≡ scoring }
+{
+    scores_with(board, &mut FewMemory::new(), scoring)
+}
+
+#[inline(never)]
+fn scored_by_more(board: Board, scoring: Scoring) -> Scores
     ensures board { result.answer.board ≡ board }
     ensures scoring { result.answer.scoring ≡ scoring }
 {
