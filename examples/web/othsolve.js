@@ -75,7 +75,7 @@ export class Answer {
 
 const signed = (score) => (score < 0 ? String(score) : `+${score}`);
 
-/** The bytes of a line. A newline behind it is no part of it. A newline within is refused, since it would end the line. */
+/** The bytes of a line. A newline behind it is no part of it. */
 function bytesOf(text) {
   if (typeof text !== "string") {
     throw new TypeError("a line is a string");

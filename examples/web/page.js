@@ -23,8 +23,11 @@ function fromLink() {
   showLast();
 }
 
+/** The number of empty squares is asked for an analysis alone; where it is hidden, what it holds doesn't count. */
 function showLast() {
-  $("last-row").hidden = $("command").value !== "analyse";
+  const isAsked = $("command").value === "analyse";
+  $("last-row").hidden = !isAsked;
+  $("last").disabled = !isAsked;
 }
 
 function say(text) {
@@ -49,8 +52,11 @@ function linesAsked() {
 
 /** Asks for some lines ahead, and shows the replies in their order. */
 async function answer(reply, lines, signal) {
-  const options = { scoring: $("scoring").value, last: Number($("last").value), signal };
+  const options = { scoring: $("scoring").value, signal };
   const command = $("command").value;
+  if (command === "analyse") {
+    options.last = Number($("last").value);
+  }
   const ahead = WAITING * (navigator.hardwareConcurrency ?? 4);
   const asked = [];
   for (const [at, line] of lines.entries()) {
@@ -83,11 +89,16 @@ async function run(reply) {
   }
 }
 
+/** One of the two buttons is there. Whoever is at the one that goes comes to the other. */
 function setBusy(isBusy) {
-  $("go").disabled = isBusy;
-  $("stop").disabled = !isBusy;
+  const [goes, comes] = isBusy ? [$("go"), $("stop")] : [$("stop"), $("go")];
+  const isThere = document.activeElement === goes;
+  comes.disabled = false;
+  if (isThere) {
+    comes.focus();
+  }
+  goes.disabled = true;
   $("copy").disabled = isBusy || $("answers").children.length === 0;
-  (isBusy ? $("stop") : $("go")).focus();
 }
 
 async function copy(text, done) {
@@ -123,9 +134,9 @@ async function begin() {
   try {
     const { reply } = await import("./othsolve.js");
     listen(reply);
+    $("go").disabled = false;
     say("Ready.");
   } catch (error) {
-    $("go").disabled = true;
     say(String(error.message ?? error));
   }
 }
