@@ -5,8 +5,8 @@
 
 CRATES is the folder of the crates, `crates` if not given. Each step is a line, `ok` or `FAILED` and its name, and after a failure what is
 wrong. Where parts are named only their steps are run: `statuses`, `texts`, `flow`, `limits`, `seen`, `terminal`, `progress`,
-`differential`, `small_boards`, `recipes`, `foreign`, `refusals`, `c_library`, `installed`, `packed`. As many parts run at once as there are
-processors, but for `small_boards`, which compares times: it runs first, with nothing beside it. The lines come in the order of the parts.
+`differential`, `small_boards`, `recipes`, `foreign`, `refusals`, `c_library`, `installed`, `packed`, `web`. As many parts run at once as there
+are processors, but for `small_boards`, which compares times: it runs first, with nothing beside it. The lines come in the order of the parts.
 The last line is `N passed, M failed`; the exit status is 1 where a step failed.
 """
 import argparse
@@ -33,6 +33,7 @@ import small_boards
 import statuses
 import terminal
 import texts
+import web
 
 # The parts that compare times, which nothing may disturb.
 TIMED = ("small_boards",)
@@ -57,6 +58,7 @@ def every_part(crates):
         "c_library": lambda: c_library.steps(crates),
         "installed": lambda: installed.steps(crates),
         "packed": lambda: packed.steps(crates),
+        "web": lambda: web.steps(program),
     }
 
 
