@@ -4,7 +4,8 @@
     examples/web/build.py [FOLDER]
 
 FOLDER gets othsolve.wasm; if not given, examples/web does. `rt lib` proves the crate and the four below it, in minutes from nothing, and else in
-seconds; the kit's `rattle build` proves it once more for WebAssembly and compiles it, and `rattle-link` links it. Nothing is installed.
+seconds, unless `rt ci` has left these four; the kit's `rattle build` proves it once more for WebAssembly and compiles it, and `rattle-link` links it.
+Nothing is installed.
 """
 import argparse
 import os
@@ -22,6 +23,12 @@ USED = ("oth_text", "oth_search", "oth_rules")
 BELOW = (*USED, "oth_device")
 # Bytes: what a search remembers is 1.7 MB, of which the compiled code keeps four copies, and the search itself needs some 100 KB.
 STACK = 16_777_216
+
+
+def left_by_ci(crate):
+    """Tells whether the library of a crate was left by `rt ci`, which puts no stamp beside it."""
+    library = CRATES / crate / "out/rlib"
+    return (library / f"{crate}.rlib/format").is_file() and not (library / "stamp").exists()
 
 
 def build_words(kit, archive):
@@ -50,7 +57,9 @@ def main():
     parser.add_argument("folder", nargs="?", default=HERE, type=pathlib.Path)
     folder = parser.parse_args().folder.resolve()
     kit = pathlib.Path(told(["rt", "doc"]).strip()).parent
-    told(["rt", "lib"])
+    if not all(map(left_by_ci, BELOW)):
+        told(["rt", "lib"])
+    (CRATE / "out").mkdir(exist_ok=True)
     archive = "out/liboth_web.wasm64.a"
     told(build_words(kit, archive))
     module = folder / "othsolve.wasm"
