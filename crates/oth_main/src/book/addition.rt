@@ -1,6 +1,6 @@
 //! Boards that are added to a book.
 
-ghost use Rattle.std.specs.Prelude.{◌≡◌, ◌≢◌, ◌≤◌, ◌++◌, ◌∷◌, [], ℕ, List, All, false, true, IfErr, IfOk};
+ghost use Rattle.std.specs.Prelude.{◌≡◌, ◌≤◌, ◌∷◌, [], ℕ, List, false, true, IfErr, IfOk};
 ghost use Rattle.std.specs.Prelude.{OnErr, OnOk};
 ghost use Rattle.std.specs.Io.KnownBytes.{Appends};
 ghost use Rattle.oth_rules.specs.Position.{empty_count};
@@ -115,29 +115,12 @@ impl Addition {
     {
         let mut rest = bytes;
         while let Some((line, others)) = split_line(rest) {
-            self.take_line(solver, jobs, line, errors)?;
+            self.line.push(line);
+            self.end_line(solver, jobs, errors)?;
             rest = others;
         }
         self.line.push(rest);
         Ok(())
-    }
-
-    // Takes the last part of a line, and ends the line.
-    fn take_line<T: Wait + Threads + Sync, E: Sink>(
-        &mut self,
-        solver: &Solver<'_, T, Progress>,
-        jobs: Option<&Jobs<'_, T, Progress>>,
-        part: &[u8],
-        errors: &mut E,
-    ) -> Result<(), Stop>
-        requires part { All (λ b. b ≢ 10) part.now }
-        ensures ok { OnOk result (AddsBytes self.old.book self.old.line self.new.book self.new.line
-            (part.now ++ 10 ∷ [])) }
-        ensures full { OnErr result (IsFullWithin self.old.book self.old.line (part.now ++ 10 ∷ [])) }
-        ensures refused { IfErr result IsRefusedLine }
-    {
-        self.line.push(part);
-        self.end_line(solver, jobs, errors)
     }
 
     // Adds the last line, unless it is empty.

@@ -38,7 +38,7 @@ impl<'w, R: Source> Input<'w, R> {
     fn count(&mut self, bytes: &[u8])
         ensures { self.new.source ≡ self.old.source }
     {
-        if !self.progress.is_shown() {
+        if !self.progress.is_shown {
             return;
         }
         let mut lines = lines_in(bytes);
@@ -59,7 +59,7 @@ impl<'w, R: Source> Source for Input<'w, R> {
     ghost failed = { λ s. R.failed s.source };
 
     fn read(&mut self, buffer: &mut [u8]) -> Result<usize, Failed> {
-        self.progress.awaits_input();
+        self.progress.counts.rest();
         let taken = self.source.read(buffer);
         if let Ok(count) = taken {
             self.count(&buffer[..count]);

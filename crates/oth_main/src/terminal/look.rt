@@ -23,13 +23,6 @@ pub struct Awaited {
     pub(crate) after_move: Option<(Square, UnderSearch)>,
 }
 
-/// What a run is at.
-#[derive(Clone, Copy, Drop)]
-pub(crate) struct Snapshot {
-    pub reached: Reached,
-    pub awaited: Option<Awaited>,
-}
-
 // A stopwatch that starts anew when `count` changes.
 #[derive(Clone, Copy, Drop)]
 struct Since {
@@ -77,8 +70,12 @@ impl Times {
     }
 
     /// What is shown of what the run is at, if it has been at work for `PATIENCE` or more.
-    pub fn shown<C: Clock>(&mut self, clock: &C, snapshot: Option<Snapshot>) -> Option<Shown> {
-        let Some(Snapshot { reached, awaited }) = snapshot else {
+    pub fn shown<C: Clock>(
+        &mut self,
+        clock: &C,
+        look: Option<(Reached, Option<Awaited>)>,
+    ) -> Option<Shown> {
+        let Some((reached, awaited)) = look else {
             self.work = Since::new();
             return None;
         };

@@ -1,7 +1,7 @@
 //! What a run is at, as its gate hears it, for who sits at a terminal.
 
 use super::counts::{Counted, Counts, Reached};
-use super::look::{Awaited, Snapshot};
+use super::look::Awaited;
 use super::under_search::UnderSearch;
 use oth_pool::Gate;
 use oth_rules::{Board, Square};
@@ -108,8 +108,8 @@ impl State {
 /// The gate of a run: it keeps what it hears, where the run's progress is shown. Its calls never wait.
 #[derive(Drop)]
 pub struct Progress {
-    is_shown: bool,
-    counts: Counts,
+    pub(crate) is_shown: bool,
+    pub(crate) counts: Counts,
     state: Mutex<State>,
     bell: Condvar,
 }
@@ -129,11 +129,6 @@ impl Progress {
         }
     }
 
-    /// Whether the run's progress is shown.
-    pub(crate) fn is_shown(&self) -> bool {
-        self.is_shown
-    }
-
     // Locks the state. None where another thread keeps it through `LOCK_TRIES` tries.
     fn heard(&self) -> Option<MutexGuard<'_, State>> {
         for _ in 0..LOCK_TRIES {
@@ -143,6 +138,66 @@ impl Progress {
             }
         }
         None
+    }
+
+    /// Begins to go through the entries of a book.
+    pub(crate) fn begin_entries(&self, count: usize) {
+        self.counts.begin(Counted::Entries, count as u64);
+        self.counts.work();
+    }
+
+    /// Begins to go through lines of input, none of which was read, whose boards are added to a book or not.
+    pub(crate) fn begin_lines(&self, are_added: bool) {
+        let counted = if are_added {
+            Counted::Added
+        } else {
+            Counted::Lines
+        };
+        self.counts.begin(counted, 0);
+    }
+
+    /// Counts a line as answered.
+    pub(crate) fn count_line(&self) {
+        if self.is_shown {
+            self.counts.advance();
+        }
+    }
+
+    /// Counts further lines that were read, with which there is work.
+    pub(crate) fn has_read(&self, lines: u64) {
+        self.counts.read(lines);
+        self.counts.work();
+    }
+
+    /// Ends the run, and wakes the thread that waits for a tick.
+    pub(crate) fn end<R: Wait>(&self, rt: &R) {
+        let mut state = self.state.lock(rt);
+        state.is_over = true;
+        MutexGuard::unlock(state);
+        self.bell.notify_all();
+    }
+
+    /// Waits for a tick, or until the run is over. Returns whether it goes on.
+    pub(crate) fn goes_on_after_a_tick<R: Wait + Clock>(&self, rt: &R) -> bool {
+        let state = self.state.lock(rt);
+        if state.is_over {
+            return false;
+        }
+        let (state, _) = self
+            .bell
+            .wait_timeout(rt, state, Duration::from_millis(TICK));
+        !state.is_over
+    }
+
+    /// How far the run is, if it is at work.
+    pub fn reached(&self) -> Option<Reached> {
+        self.counts.reached()
+    }
+
+    /// How far the run is, if it is at work, and the board whose answer is awaited, if one is.
+    pub(crate) fn look<R: Wait>(&self, rt: &R) -> Option<(Reached, Option<Awaited>)> {
+        let reached = self.reached()?;
+        Some((reached, self.state.lock(rt).awaited(&self.counts)))
     }
 }
 
@@ -185,78 +240,5 @@ impl Gate for Progress {
         if let Some(mut state) = self.heard() {
             state.keep(search);
         }
-    }
-}
-
-impl Progress {
-    /// Begins to go through the entries of a book.
-    pub(crate) fn begin_entries(&self, count: usize) {
-        self.counts.begin(Counted::Entries, count as u64);
-        self.counts.work();
-    }
-
-    /// Begins to go through lines of input, none of which was read, whose boards are added to a book or not.
-    pub(crate) fn begin_lines(&self, are_added: bool) {
-        let counted = if are_added {
-            Counted::Added
-        } else {
-            Counted::Lines
-        };
-        self.counts.begin(counted, 0);
-    }
-
-    /// Counts a line as answered.
-    pub(crate) fn count_line(&self) {
-        if self.is_shown {
-            self.counts.advance();
-        }
-    }
-
-    /// `lines` lines are answered by now.
-    pub(crate) fn answered(&self, lines: u64) {
-        self.counts.answered(lines);
-    }
-
-    /// Input is awaited, where it isn't known how long.
-    pub(crate) fn awaits_input(&self) {
-        self.counts.rest();
-    }
-
-    /// Counts further lines that were read, with which there is work.
-    pub(crate) fn has_read(&self, lines: u64) {
-        self.counts.read(lines);
-        self.counts.work();
-    }
-
-    /// Ends the run, and wakes the thread that waits for a tick.
-    pub(crate) fn end<R: Wait>(&self, rt: &R) {
-        let mut state = self.state.lock(rt);
-        state.is_over = true;
-        MutexGuard::unlock(state);
-        self.bell.notify_all();
-    }
-
-    /// Waits for a tick, or until the run is over. Returns whether it goes on.
-    pub(crate) fn goes_on_after_a_tick<R: Wait + Clock>(&self, rt: &R) -> bool {
-        let state = self.state.lock(rt);
-        if state.is_over {
-            return false;
-        }
-        let (state, _) = self
-            .bell
-            .wait_timeout(rt, state, Duration::from_millis(TICK));
-        !state.is_over
-    }
-
-    /// How far the run is, if it is at work.
-    pub fn reached(&self) -> Option<Reached> {
-        self.counts.reached()
-    }
-
-    /// What is to be shown, if the run is at work.
-    pub(crate) fn look<R: Wait>(&self, rt: &R) -> Option<Snapshot> {
-        let reached = self.reached()?;
-        let awaited = self.state.lock(rt).awaited(&self.counts);
-        Some(Snapshot { reached, awaited })
     }
 }

@@ -80,7 +80,7 @@ impl<E: Sink + Send> Watch<E> {
         requires { W.pre work.old }
         ensures { W.step work.old result work.new }
     {
-        if !self.progress.is_shown() {
+        if !self.progress.is_shown {
             return work();
         }
         let mut showing = || self.show(rt, alloc);
@@ -171,23 +171,16 @@ impl<'w, R: Wait + AllocGlobal, W: Sink, E: Sink> Report<'w, R, W, E> {
         }
     }
 
-    /// The runtime.
-    pub fn runtime(&self) -> &'w R {
-        self.rt
-    }
-
     /// The writer.
     pub fn writer(&self) -> &W
         ensures { result.now ≡ self.now.writer }
     {
         &self.writer
     }
-}
 
-impl<'w, R: Wait + AllocGlobal, W: Sink, E: Sink> Report<'w, R, W, E> {
     // Takes the line away where the writer writes to a terminal, and keeps the screen.
     fn cleared(&self) -> Option<MutexGuard<'w, Screen<E>>> {
-        if !self.is_terminal || !self.watch.progress.is_shown() {
+        if !self.is_terminal || !self.watch.progress.is_shown {
             return None;
         }
         let mut screen = self.watch.screen.lock(self.rt);
@@ -232,8 +225,8 @@ impl<'w, R: Wait + AllocGlobal, W: Sink, E: Sink> ReportSink for Report<'w, R, W
     }
 
     fn answered(&mut self, number: u64, fault: Option<Fault>) {
-        if self.watch.progress.is_shown() {
-            self.watch.progress.answered(number);
+        if self.watch.progress.is_shown {
+            self.watch.progress.counts.answered(number);
         }
         match fault {
             Some(fault) if self.explains => self.tell(&FaultyLine { number, fault }),
