@@ -25,7 +25,7 @@ HEAD = """\
 # What was measured, a line for each number of empty squares: wall-clock seconds for the ten boards of bench/game-NN.txt, `-` where
 # nothing was measured. The columns stand in the first line that is no comment. `bench/figures.py` measures and writes this file, and
 # `bench/plot.py` makes the tables and the plot of it.
-empty squares; 1 worker; 2 workers; 4 workers; 4, side by side; reference, v2; reference, v3
+empty squares; 1 worker; 2 workers; 4 workers; 4 workers, a board each; other solver, x86-64-v2; other solver, x86-64-v3
 """
 
 
