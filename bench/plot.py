@@ -18,7 +18,7 @@ PLOT = ROOT / "docs/speed.svg"
 TEXTS = (ROOT / "README.md", ROOT / "docs/SPEED.md")
 ONE_WORKER = "1 worker"
 
-WIDTH, HEIGHT = 760, 460
+WIDTH, HEIGHT = 830, 460
 LEFT, RIGHT, TOP, BOTTOM = 80, 590, 50, 400
 COLOURS = ("#888888", "#0072b2", "#009e73", "#d55e00", "#cc79a7", "#7a5195", "#000000", "#e69f00")
 DASHES = ("5 4", "", "", "", "2 3", "8 3 2 3", "", "5 2")
