@@ -520,7 +520,7 @@ def python_shown(told):
     head, page = read(f"{PYTHON}/othsolve/__init__.py"), read(f"{TOP}/docs/LIBRARY.md").split("## From Python\n")[1]
     code, wanted = block_behind("Nothing else is needed.", head), block_behind("This prints", head)
     yield "what the Python module's head shows", c_library.ran_wrong([sys.executable, "-c", code], "", wanted, env=told)
-    shown = page.split("```python\n")[1].split("```")[0], block_behind("The program prints", page)
+    shown = page.split("```python\n")[1].split("```")[0], block_behind("This Python program prints", page)
     yield "docs/LIBRARY.md shows the same", differs(shown, (code, wanted))
     analyse, game = [sys.executable, f"{PYTHON}/analyse.py", "--empties", "5"], read(f"{TOP}/examples/games.txt").splitlines(True)[0]
     wanted = block_behind("analyse.py --empties 5", page)
