@@ -7,8 +7,8 @@ const PAGE = 65_536;
 const REPLY = 16_640;
 
 const MISSING =
-  "WebAssembly with a 64-bit memory (memory64) is missing here. It is in Chrome and Edge from 133 on, Firefox from 134 on, Node from 24 on, " +
-  "and in Node 20 and 22 with the option --experimental-wasm-memory64.";
+  "WebAssembly with a 64-bit memory (memory64) is missing here. Newer browsers have it (tried: Chromium 156), and Node 20 has it " +
+  "with the option --experimental-wasm-memory64.";
 
 /** Thrown where WebAssembly with a 64-bit memory is missing. */
 export class Unsupported extends Error {
