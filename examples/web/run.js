@@ -3,7 +3,7 @@
 //     node run.js COMMAND [SCORING [EMPTIES]] < LINES
 //
 // COMMAND is solve, scores, moves, transcript, play or analyse; SCORING is winner (if not given) or discs; EMPTIES is where an analysis begins.
-// Node 20 and 22 need the option --experimental-wasm-memory64 before run.js.
+// Node 20 needs the option --experimental-wasm-memory64 before run.js.
 import { readFileSync, writeSync } from "node:fs";
 import { Solver, compile } from "./module.js";
 
