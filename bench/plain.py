@@ -94,8 +94,6 @@ def plain(text, crate, crates):
     text = re.sub(rf"^use {FROM_SHIM}", "use crate::shim::", text, flags=re.M)
     names = "|".join(crates + LIBRARIES)
     text = re.sub(rf"(?<!::)\b({names})::", r"crate::\1::", text)
-    if ".swizzle_dyn(" in text:
-        text = "use crate::shim::LookUp;\n" + text.replace(".swizzle_dyn(", ".looked_up(")
     needed = [name for name in ("Box", "Vec", "vec") if re.search(rf"\b{name}(?:<|::|!)", text)]
     if needed:
         text = f"use crate::shim::{{{', '.join(needed)}}};\n" + text

@@ -1,14 +1,15 @@
 -- Words and positions turned by half a turn.
-use Rattle.std.proofs.Common.{◌≡◌, ℕ, zero, suc, ◌-◌, ◌^◌, ◌<◌, Bool, not, ◌&&◌, ◌||◌, List, [], ◌∷◌, length, Fits, w64, refl, sym, ap, ◌∙◌, arith}
+use Rattle.std.proofs.Common.{◌≡◌, ℕ, zero, suc, ◌-◌, ◌^◌, ◌<◌, Bool, true, false, not, ◌&&◌, ◌||◌, List, [], ◌∷◌, ◌++◌, length, map, Fits, w64, refl, sym, ap, ◌∙◌, arith}
 use lib.Lanes.{Each1}
 use Rattle.std.specs.Prelude.{bit_and, bit_or, slice_index_or}
 use Rattle.std.proofs.lemmas.Nat.{and_le_l, or_lt}
 use Rattle.oth_rules.specs.Square.{has, word_of}
 use Rattle.oth_rules.specs.Symmetry.{map_word, unmap_word, map_square, unmap_square, turned_if}
+use Rattle.oth_rules.specs.Exchange.{exchanged_square, transposed_square}
 use Rattle.oth_rules.specs.HalfTurn.{half_turned}
 use Rattle.oth_rules.proofs.Bits.{has-and, has-or, has-not, has-word_of, is_word_of, word_of-lt, same_word}
 use Rattle.oth_rules.proofs.Symmetries.{carries}
-use Rattle.oth_rules.proofs.Exchanges.{unmap_map}
+use Rattle.oth_rules.proofs.Exchanges.{unmap_map, map_is, kept_if, mirrored_word, flipped_word}
 
 -- where half a turn carries a square
 abbrev pub half : ℕ → ℕ
@@ -88,3 +89,32 @@ lanes_of [] e = absurd (omega (arith, e))
 lanes_of (x ∷ []) e = absurd (omega (arith, e))
 lanes_of (x ∷ y ∷ []) e = refl
 lanes_of (x ∷ y ∷ z ∷ zs) e = absurd (omega (arith, e))
+
+-- ---- half a turn by exchanges: the columns turned round, then the rows
+
+abbrev pub exchange : ℕ → ℕ → ℕ → ℕ
+exchange mask shift w = word_of (λ q. has w (exchanged_square mask shift q))
+
+abbrev by_columns : ℕ → ℕ
+by_columns w = exchange 0x0f0f_0f0f_0f0f_0f0f 4 (exchange 0x3333_3333_3333_3333 2 (exchange 0x5555_5555_5555_5555 1 w))
+
+abbrev by_rows : ℕ → ℕ
+by_rows w = exchange 0x0000_0000_ffff_ffff 32 (exchange 0x0000_ffff_0000_ffff 16 (exchange 0x00ff_00ff_00ff_00ff 8 w))
+
+half_by_exchanges : (w : ℕ) → w < 2 ^ 64 → by_rows (by_columns w) ≡ half_turned w
+unfolding half_turned has
+half_by_exchanges w l =
+    map_is 3 w w (by_columns w) (by_rows (by_columns w)) false true true (omega arith) refl refl refl
+    (kept_if w false transposed_square refl l)
+    (mirrored_word w (exchange 0x5555_5555_5555_5555 1 w) (exchange 0x3333_3333_3333_3333 2 (exchange 0x5555_5555_5555_5555 1 w)) (by_columns w) refl refl refl)
+    (flipped_word (by_columns w) (exchange 0x00ff_00ff_00ff_00ff 8 (by_columns w)) (exchange 0x0000_ffff_0000_ffff 16 (exchange 0x00ff_00ff_00ff_00ff 8 (by_columns w)))
+    (by_rows (by_columns w)) refl refl refl)
+
+pub turned_lanes : (words a b c d e r : List ℕ) → length words ≡ 2 → Each1 (Fits w64) words → a ≡ map (exchange 0x5555_5555_5555_5555 1) words
+    → b ≡ map (exchange 0x3333_3333_3333_3333 2) a → c ≡ map (exchange 0x0f0f_0f0f_0f0f_0f0f 4) b → d ≡ map (exchange 0x00ff_00ff_00ff_00ff 8) c
+    → e ≡ map (exchange 0x0000_ffff_0000_ffff 16) d → r ≡ map (exchange 0x0000_0000_ffff_ffff 32) e
+    → ◌≡◌ {A = List ℕ} (slice_index_or (r ++ r) 1 0 ∷ slice_index_or (r ++ r) 0 0 ∷ []) (half_turned (slice_index_or words 1 0) ∷ half_turned (slice_index_or words 0 0) ∷ [])
+turned_lanes words a b c d e r two fits ea eb ec ed ee er =
+    let w = two_lanes words two fits in
+    rw (er, ee, ed, ec, eb, ea, w.are)
+    (same_lanes _ _ _ _ (half_by_exchanges w.second w.second_fits) (half_by_exchanges w.first w.first_fits))

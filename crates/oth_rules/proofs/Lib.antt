@@ -27,5 +27,4 @@ pub mod Shelters
 pub mod StableValues
 pub mod StableWords
 pub mod HalfTurns
-pub mod Rows
 pub mod Twins

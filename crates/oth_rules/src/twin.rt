@@ -8,18 +8,17 @@
 //! `moves` follows three lines by shifts of whole words: within the inner columns a plain shift is a step, and a
 //! line of n + 2 squares is a line of two, or a pair past a line of n. Along the row a sum carries from the first
 //! square of a line to the one past it, and says nothing of opposing squares, which `& empty` takes away. What the
-//! second lane found is turned back: its eight rows, a byte each, are put in the other order, and each is turned
-//! round by a look-up of its halves (`proofs/Rows`). `proofs/HalfTurns` and `proofs/Twins` have what half a turn
-//! does to words, rays and moves.
-ghost use Rattle.std.specs.Prelude.{◌≡◌, ◌<◌, ◌^◌, ◌↔◌, ℕ, IsTrue, IfSome, IsSome, SomeIff};
-ghost use Rattle.std.specs.Prelude.{bit_or, length, map, slice_index_or, [], ◌∷◌};
+//! second lane found is turned back. `proofs/HalfTurns` and `proofs/Twins` have what half a turn does to words, rays
+//! and moves.
+ghost use Rattle.std.specs.Prelude.{◌≡◌, ◌<◌, ◌^◌, ◌*◌, ◌%◌, ◌↔◌, ℕ, IsTrue, IfSome, IsSome, SomeIff};
+ghost use Rattle.std.specs.Prelude.{bit_and, bit_or, length, map, slice_index_or, [], ◌∷◌};
 ghost use Rattle.oth_rules.specs.Square.{Direction, has, word_of, is_in};
 ghost use Rattle.oth_rules.specs.Position.{is_empty, pass};
 ghost use Rattle.oth_rules.specs.Move.{outflanked, is_flipped, is_legal, after};
 ghost use Rattle.oth_rules.specs.Laws.{IsLegal};
 ghost use Rattle.oth_rules.specs.Symmetry.{image};
 ghost use Rattle.oth_rules.specs.Line.{rising, is_next, is_on_line, Rises};
-ghost use Rattle.oth_rules.specs.Exchange.{mirrored_square};
+ghost use Rattle.oth_rules.specs.Exchange.{exchanged_square};
 ghost use Rattle.oth_rules.specs.HalfTurn.{half_turned, twin};
 
 use crate::board::Board;
@@ -28,16 +27,6 @@ use crate::square::Square;
 use crate::tables::{TWIN_RAYS, TWIN_SQUARES};
 use std::marker::Model;
 use std::simd::prelude::*;
-
-// Columns a to d of a row, which its low four bits are, turned round: they come to stand on columns h to e.
-const FIRST_COLUMNS_MIRRORED: [u8; 16] = [
-    0x00, 0x80, 0x40, 0xc0, 0x20, 0xa0, 0x60, 0xe0, 0x10, 0x90, 0x50, 0xd0, 0x30, 0xb0, 0x70, 0xf0,
-];
-
-// Columns e to h, its high four bits, turned round.
-const LAST_COLUMNS_MIRRORED: [u8; 16] = [
-    0x0, 0x8, 0x4, 0xc, 0x2, 0xa, 0x6, 0xe, 0x1, 0x9, 0x5, 0xd, 0x3, 0xb, 0x7, 0xf,
-];
 
 /// A set of squares, and beside it the same turned by half a turn.
 #[derive(Clone, Copy)]
@@ -273,21 +262,29 @@ fn past(source: u64x2, through: u64x2, by: u64) -> u64x2
     (two | pairs & (four << twice)) << by
 }
 
-// The columns of each row turned round: half a row at a time, by table.
+// In both words exchanges each square of the mask with the one that lies `shift` further.
 #[inline(always)]
-fn mirrored(rows: u8x16) -> u8x16
-    ensures { result ≡ map (λ row. word_of (λ q. has row (mirrored_square q))) rows }
+fn exchanged(words: u64x2, mask: u64, shift: u64) -> u64x2
+    requires short { shift < 64 }
+    requires apart { bit_and mask (mask * 2 ^ shift % 2 ^ 64) ≡ 0 }
+    ensures { result ≡ map (λ w. word_of (λ q. has w (exchanged_square mask shift q))) words }
 {
-    let first_columns = rows & u8x16::splat(15);
-    let last_columns = rows >> u8x16::splat(4);
-    u8x16::from_array(FIRST_COLUMNS_MIRRORED).swizzle_dyn(first_columns)
-        | u8x16::from_array(LAST_COLUMNS_MIRRORED).swizzle_dyn(last_columns)
+    let kept = u64x2::splat(!(mask | mask << shift));
+    let mask = u64x2::splat(mask);
+    let by = u64x2::splat(shift);
+    words & kept | (words >> by & mask) | (words & mask) << by
 }
 
-// The two words, each turned by half a turn, in the lane of the other.
+// The two words, each turned by half a turn, in the lane of the other: the columns are turned round, then the rows. The
+// compiler knows these exchanges as the reversal of a word's bits, and has a few instructions for it on each processor.
 #[inline(always)]
-fn turned(lanes: u64x2) -> u64x2
-    ensures { result ≡ half_turned (slice_index_or lanes 1 0) ∷ half_turned (slice_index_or lanes 0 0) ∷ [] }
+fn turned(words: u64x2) -> u64x2
+    ensures { result ≡ half_turned (slice_index_or words 1 0) ∷ half_turned (slice_index_or words 0 0) ∷ [] }
 {
-    u64x2::from_le_bytes(mirrored(lanes.to_le_bytes().reverse()))
+    let words = exchanged(words, 0x5555_5555_5555_5555, 1);
+    let words = exchanged(words, 0x3333_3333_3333_3333, 2);
+    let words = exchanged(words, 0x0f0f_0f0f_0f0f_0f0f, 4);
+    let words = exchanged(words, 0x00ff_00ff_00ff_00ff, 8);
+    let words = exchanged(words, 0x0000_ffff_0000_ffff, 16);
+    exchanged(words, 0x0000_0000_ffff_ffff, 32).reverse()
 }

@@ -1,5 +1,8 @@
-use Rattle.oth_rules.proofs.Rows.{turned_words}
+use Rattle.oth_rules.proofs.HalfTurns.{turned_lanes}
 use Rattle.oth_rules.proofs.twin.turned.Goals as goal
 
 pub returns : goal.returns
-returns c = turned_words c.args.lanes c.mirrored.result c.fits-lanes.0 c.fits-lanes.1 c.mirrored.ensures
+returns c =
+    turned_lanes c.args.words c.exchanged-words.result c.exchanged-words-2.result c.exchanged-words-3.result c.exchanged-words-4.result c.exchanged-words-5.result
+    c.exchanged.result c.fits-words.0 c.fits-words.1 c.exchanged-words.ensures c.exchanged-words-2.ensures c.exchanged-words-3.ensures c.exchanged-words-4.ensures
+    c.exchanged-words-5.ensures c.exchanged.ensures
