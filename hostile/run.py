@@ -5,7 +5,7 @@
 
 CRATES is the folder of the crates, `crates` if not given. Each step is a line, `ok` or `FAILED` and its name, and after a failure what is
 wrong. Where parts are named only their steps are run: `statuses`, `texts`, `flow`, `limits`, `seen`, `terminal`, `progress`,
-`differential`, `small_boards`, `recipes`, `foreign`, `refusals`, `c_library`, `installed`, `packed`, `web`. As many parts run at once as there
+`differential`, `small_boards`, `recipes`, `foreign`, `refusals`, `c_library`, `installed`, `packed`, `web`, `page`. As many parts run at once as there
 are processors, but for `small_boards`, which compares times: it runs first, with nothing beside it. The lines come in the order of the parts.
 The last line is `N passed, M failed`; the exit status is 1 where a step failed.
 """
@@ -24,6 +24,7 @@ import foreign
 import installed
 import limits
 import packed
+import page
 import progress
 import recipes
 import refusals
@@ -59,6 +60,7 @@ def every_part(crates):
         "installed": lambda: installed.steps(crates),
         "packed": lambda: packed.steps(crates),
         "web": lambda: web.steps(program),
+        "page": lambda: page.steps(program),
     }
 
 

@@ -1,10 +1,14 @@
 // Calls of the JavaScript package, each with what it has to give. It prints "ok", or fails with the first call that gives something else.
 import assert from "node:assert/strict";
+import { Solver, compile } from "../examples/web/module.js";
 import { Board, Kind, Refused, Scoring, Side, analyse, close, play, reply, scores, solve, solveAll, transcript } from "../examples/web/othsolve.js";
 
 const LINE = "--OXOOO-OOOOOOOOOOOOOOOOOOOOOOOOOOOOOOOOOOOOOOOOOOOOOOOOOOOOOOOO X";
 const START = "---------------------------OX------XO--------------------------- X";
 const GAME = "f5f6c4f4g7b4f3h8e6f7e7d6c5f2c3d2b2a1g4e8g6b5e2g5a4d7e1b3a3e3g2c2h6f1b1h1f8h3h5g3h2d8g1a2d1c1c6b7c8h7h4a5d3";
+const CALLS = 20_000;
+// Bytes: what a process may have more after the second half of the calls, which a collector of garbage leaves to it.
+const MOST_MORE = 32_000_000;
 const refused = (code, place) => (error) => error instanceof Refused && error.code === code && error.place === place;
 
 async function searches() {
@@ -69,10 +73,31 @@ async function many() {
   }
 }
 
+async function memory() {
+  const solver = new Solver(await compile());
+  const line = new TextEncoder().encode(LINE);
+  const call = () => solver.reply("scores", line, { scoring: 0 });
+  call();
+  const { size } = solver;
+  for (let n = 0; n < CALLS; n += 1) {
+    call();
+  }
+  assert.equal(solver.size, size);
+  const asked = async () => {
+    for (let n = 0; n < CALLS / 2; n += 1) {
+      await solve(LINE);
+    }
+    return process.memoryUsage().rss;
+  };
+  const [half, all] = [await asked(), await asked()];
+  assert.ok(all - half < MOST_MORE, `${all - half} more bytes after ${CALLS} calls`);
+}
+
 rules();
 await searches();
 await games();
 await ended();
 await many();
+await memory();
 close();
 console.log("ok");

@@ -53,6 +53,11 @@ export class Solver {
     this.#base = Number(this.#calls.__heap_base.value);
   }
 
+  /** Bytes of the module's memory. */
+  get size() {
+    return this.#calls.memory.buffer.byteLength;
+  }
+
   /**
    * Returns the bytes that the command writes of a line, without the last byte 10.
    * `settings`: scoring 0 or 1; for `analyse` also the number of the line and the empty squares from which on it is analysed.
@@ -88,7 +93,7 @@ export class Solver {
 
   #makeRoom(end) {
     const { memory } = this.#calls;
-    const missing = Math.ceil((end - memory.buffer.byteLength) / PAGE);
+    const missing = Math.ceil((end - this.size) / PAGE);
     if (missing <= 0) {
       return;
     }
