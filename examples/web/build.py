@@ -21,8 +21,8 @@ TARGET = "wasm64-unknown-unknown"
 KIT = ("std", "arrayvec")
 USED = ("oth_text", "oth_search", "oth_rules")
 BELOW = (*USED, "oth_device")
-# Bytes: what a search remembers is 1.7 MB, of which the compiled code keeps four copies, and the search itself needs some 100 KB.
-STACK = 16_777_216
+# Bytes: in tests twice as few were enough. What a search remembers is 500 KB, of which the compiled code may keep copies.
+STACK = 4_194_304
 
 
 def left_by_ci(crate):

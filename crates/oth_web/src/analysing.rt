@@ -6,7 +6,7 @@ ghost use Rattle.arrayvec.specs.ArrayVec.{array_vec_len};
 ghost use Rattle.oth_text.specs.Analysis.{analysis_of, fault_part, lost_by, turn_part};
 ghost use Rattle.oth_text.specs.declared.position.Side.TheVariants.{Black, White};
 
-use crate::memory::Memory;
+use crate::memory::{FEW, MORE, Memory, blank};
 use arrayvec::ArrayVec;
 use oth_rules::{Board, Scoring};
 use oth_search::{Answer, solve_with};
@@ -41,7 +41,8 @@ fn push_turns(text: &mut Analysis, number: u64, scoring: Scoring, turns: &[Turn]
     ensures black { result.black ≡ lost_by Black scoring turns.now }
     ensures white { result.white ≡ lost_by White scoring turns.now }
 {
-    let mut memory = Memory::new();
+    let (mut few, mut more) = ([blank(); FEW], [blank(); MORE]);
+    let mut memory = Memory::over(&mut few, &mut more);
     let mut known = None;
     let mut lost = Losses { black: 0, white: 0 };
     for turn in turns {
@@ -56,7 +57,12 @@ fn push_turns(text: &mut Analysis, number: u64, scoring: Scoring, turns: &[Turn]
 }
 
 // The answer of a board: the last one that was found, where it is of this board, else by a search.
-fn answer_of(board: &Board, scoring: Scoring, memory: &mut Memory, known: Option<Answer>) -> Answer
+fn answer_of(
+    board: &Board,
+    scoring: Scoring,
+    memory: &mut Memory<'_>,
+    known: Option<Answer>,
+) -> Answer
     ensures board { result.board ≡ board.now }
     ensures scoring { result.scoring ≡ scoring }
 {

@@ -1,54 +1,51 @@
-//! What a search remembers: bounds of boards, in tables of fixed size.
+//! What a search remembers: bounds of boards, in places that whoever searches has on its stack and lends.
 
-ghost use Rattle.std.specs.Prelude.{◌≡◌, ◌<◌, ◌≤◌, IfSome};
+ghost use Rattle.std.specs.Prelude.{◌≡◌, ◌≤◌, IfSome};
 
 use oth_rules::{Board, Scoring};
 use oth_search::{Cells, Entry, Solved, board_hash};
 
-// Empty squares: from here on a board belongs to the larger table, so that the many boards of few empty squares do not
-// drive it out.
+// Empty squares: from here on a board belongs to the places of boards of more, so that the many boards of few empty
+// squares do not drive it out.
 const LARGER_MIN_EMPTIES: u8 = 9;
 
-// Places of the table of boards of fewer empty squares: a power of two.
-const FEW: usize = 4096;
+/// How many places there are for boards of few empty squares: a power of two. They take 98 KB of the stack.
+pub const FEW: usize = 4096;
 
-// Places of the table of boards of more: a power of two.
-const MORE: usize = 65_536;
+/// How many there are for boards of more: a power of two. They take 400 KB of the stack, and time to clear.
+pub const MORE: usize = 16_384;
 
 /// Bounds of boards of few empty squares, each at the place of its hash, where a later one overwrites an earlier one.
-/// It takes 98 KB of the stack, and time to clear.
 #[derive(Drop)]
-pub struct FewMemory {
-    places: [Solved; FEW],
+pub struct FewMemory<'a> {
+    few: &'a mut [Solved; FEW],
 }
 
-/// As `FewMemory`, with a table of boards of more empty squares beside it. It takes 1.7 MB of the stack.
+/// As `FewMemory`, and of boards of more empty squares beside them.
 #[derive(Drop)]
-pub struct Memory {
-    few: FewMemory,
-    more: [Solved; MORE],
+pub struct Memory<'a> {
+    few: FewMemory<'a>,
+    more: &'a mut [Solved; MORE],
 }
 
-impl FewMemory {
-    /// Nothing is remembered yet.
-    pub fn new() -> FewMemory {
-        FewMemory {
-            places: [blank(); FEW],
-        }
+impl<'a> FewMemory<'a> {
+    /// Remembers in these places.
+    pub fn over(few: &'a mut [Solved; FEW]) -> FewMemory<'a> {
+        FewMemory { few }
     }
 }
 
-impl Memory {
-    /// Nothing is remembered yet.
-    pub fn new() -> Memory {
+impl<'a> Memory<'a> {
+    /// Remembers in these places.
+    pub fn over(few: &'a mut [Solved; FEW], more: &'a mut [Solved; MORE]) -> Memory<'a> {
         Memory {
-            few: FewMemory::new(),
-            more: [blank(); MORE],
+            few: FewMemory::over(few),
+            more,
         }
     }
 }
 
-impl Cells for FewMemory {
+impl<'a> Cells for FewMemory<'a> {
     ghost Fixed = { Unit {0} };
 
     ghost fixed = { λ c. tt };
@@ -64,16 +61,18 @@ impl Cells for FewMemory {
     }
 
     fn probe_local(&mut self, board: &Board, scoring: Scoring) -> Option<Solved> {
-        told_by(&self.places[place(board, FEW - 1)], board, scoring)
+        let kept = self.few.get(place(board, FEW - 1))?;
+        told_by(kept, board, scoring)
     }
 
     fn store_local(&mut self, solved: &Solved) {
-        let place = place(&solved.board, FEW - 1);
-        self.places[place] = *solved;
+        if let Some(kept) = self.few.get_mut(place(&solved.board, FEW - 1)) {
+            *kept = *solved;
+        }
     }
 }
 
-impl Cells for Memory {
+impl<'a> Cells for Memory<'a> {
     ghost Fixed = { Unit {0} };
 
     ghost fixed = { λ c. tt };
@@ -96,23 +95,22 @@ impl Cells for Memory {
         if board.empties() < LARGER_MIN_EMPTIES {
             self.few.probe_local(board, scoring)
         } else {
-            told_by(&self.more[place(board, MORE - 1)], board, scoring)
+            let kept = self.more.get(place(board, MORE - 1))?;
+            told_by(kept, board, scoring)
         }
     }
 
     fn store_local(&mut self, solved: &Solved) {
-        let board = solved.board;
-        if board.empties() < LARGER_MIN_EMPTIES {
+        if solved.board.empties() < LARGER_MIN_EMPTIES {
             self.few.store_local(solved);
-        } else {
-            let place = place(&board, MORE - 1);
-            self.more[place] = *solved;
+        } else if let Some(kept) = self.more.get_mut(place(&solved.board, MORE - 1)) {
+            *kept = *solved;
         }
     }
 }
 
-// What an empty place holds.
-fn blank() -> Solved {
+/// What an empty place holds.
+pub fn blank() -> Solved {
     Solved::unknown(Board::default(), Scoring::Winner)
 }
 

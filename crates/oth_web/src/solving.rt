@@ -2,7 +2,7 @@
 
 ghost use Rattle.std.specs.Prelude.{◌≡◌};
 
-use crate::memory::{FewMemory, Memory};
+use crate::memory::{FEW, FewMemory, MORE, Memory, blank};
 use oth_rules::{Board, Scoring};
 use oth_search::{Answer, NoCells, Scores, scores_with, solve_with};
 
@@ -24,21 +24,25 @@ pub fn answered(board: Board, scoring: Scoring) -> Answer
     }
 }
 
-// As `answered`, with a small memory. Never inlined, nor are those below: each clears its own memory alone.
+// As `answered`, with places for boards of few empty squares. Never inlined, nor are those below: each clears its own
+// places alone.
 #[inline(never)]
 fn answered_by_few(board: Board, scoring: Scoring) -> Answer
     ensures board { result.board ≡ board }
     ensures scoring { result.scoring ≡ scoring }
 {
-    solve_with(board, &mut FewMemory::new(), scoring)
+    let mut few = [blank(); FEW];
+    solve_with(board, &mut FewMemory::over(&mut few), scoring)
 }
 
+// As `answered`, with places for boards of more, too.
 #[inline(never)]
 fn answered_by_more(board: Board, scoring: Scoring) -> Answer
     ensures board { result.board ≡ board }
     ensures scoring { result.scoring ≡ scoring }
 {
-    solve_with(board, &mut Memory::new(), scoring)
+    let (mut few, mut more) = ([blank(); FEW], [blank(); MORE]);
+    solve_with(board, &mut Memory::over(&mut few, &mut more), scoring)
 }
 
 /// The score of every move of a board.
@@ -53,19 +57,22 @@ pub fn scored(board: Board, scoring: Scoring) -> Scores
     }
 }
 
-// As `scored`, with a small memory.
+// As `scored`, with places for boards of few empty squares.
 #[inline(never)]
 fn scored_by_few(board: Board, scoring: Scoring) -> Scores
     ensures board { result.answer.board ≡ board }
     ensures scoring { result.answer.scoring ≡ scoring }
 {
-    scores_with(board, &mut FewMemory::new(), scoring)
+    let mut few = [blank(); FEW];
+    scores_with(board, &mut FewMemory::over(&mut few), scoring)
 }
 
+// As `scored`, with places for boards of more, too.
 #[inline(never)]
 fn scored_by_more(board: Board, scoring: Scoring) -> Scores
     ensures board { result.answer.board ≡ board }
     ensures scoring { result.answer.scoring ≡ scoring }
 {
-    scores_with(board, &mut Memory::new(), scoring)
+    let (mut few, mut more) = ([blank(); FEW], [blank(); MORE]);
+    scores_with(board, &mut Memory::over(&mut few, &mut more), scoring)
 }
