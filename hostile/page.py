@@ -41,17 +41,17 @@ class Silent(http.server.SimpleHTTPRequestHandler):
         pass
 
 
-class Late(Exception):
-    """Nothing came in time."""
+class Failed(Exception):
+    """The browser didn't do what it was asked for, or not in time."""
 
 
 class Browser:
     """Chromium with one page, driven through pipes."""
 
-    def __init__(self, words, folder):
+    def __init__(self, program, folder):
         heard, self.asks = high_pipe()
         self.told, tells = high_pipe()
-        words = [*words, "--headless", "--no-sandbox", "--disable-gpu", "--disable-dev-shm-usage", "--remote-debugging-pipe"]
+        words = [program, "--headless", "--no-sandbox", "--disable-gpu", "--disable-dev-shm-usage", "--remote-debugging-pipe"]
         script = f'exec "$@" 3<&{heard} 4>&{tells}'
         words = ["bash", "-c", script, "bash", *words, f"--user-data-dir={folder}", "about:blank"]
         silent = {"stdin": subprocess.DEVNULL, "stdout": subprocess.DEVNULL, "stderr": subprocess.DEVNULL}
@@ -73,10 +73,10 @@ class Browser:
         """Returns what the browser says next."""
         while b"\0" not in self.rest:
             if not select.select([self.told], [], [], max(0, until - time.monotonic()))[0]:
-                raise Late("the browser says nothing")
+                raise Failed("the browser says nothing")
             read = os.read(self.told, 1 << 16)
             if not read:
-                raise Late("the browser ended")
+                raise Failed("the browser ended")
             self.rest += read
         message, self.rest = self.rest.split(b"\0", 1)
         return json.loads(message)
@@ -89,7 +89,7 @@ class Browser:
         while (message := self.message(until)).get("id") != number:
             self.events.append(message)
         if "error" in message:
-            raise Late(f"{method}: {message['error']}")
+            raise Failed(f"{method}: {message['error']}")
         return message["result"]
 
     def begin(self):
@@ -103,7 +103,7 @@ class Browser:
         """Returns the value of an expression of JavaScript in the page."""
         told = self.ask("Runtime.evaluate", expression=expression, returnByValue=True, awaitPromise=True)
         if "exceptionDetails" in told:
-            raise Late(f"{expression}: {told['exceptionDetails']}")
+            raise Failed(f"{expression}: {told['exceptionDetails']}")
         return told["result"].get("value")
 
     def wait(self, expression, wanted, patience=PATIENCE):
@@ -166,11 +166,11 @@ def begun():
     if not found or not os.path.exists(f"{WEB}/othsolve.wasm"):
         yield "examples/web/build.py has not made the module" if found else "Chromium is missing"
         return
-    with tempfile.TemporaryDirectory(ignore_cleanup_errors=True) as folder, contextlib.closing(Browser([found], folder)) as browser:
+    with tempfile.TemporaryDirectory(ignore_cleanup_errors=True) as folder, contextlib.closing(Browser(found, folder)) as browser:
         try:
             browser.begin()
-        except Late as late:
-            yield f"Chromium doesn't start: {late}"
+        except (Failed, OSError) as failed:
+            yield f"Chromium doesn't start: {failed}"
         else:
             yield browser
 
@@ -183,8 +183,8 @@ def steps(program):
             return
         try:
             yield from page_steps(browser, address, program)
-        except Late as late:
-            yield "the page answers", str(late)
+        except Failed as failed:
+            yield "the page answers", str(failed)
 
 
 def page_steps(browser, address, program):
